@@ -298,10 +298,11 @@ def check(text, ring, cut=None, first=None, last=None):
         assert sorted(bands['o'].get(i, [])) == owed, i
     # The line of a moment has exactly the events of the cut on its left.
     lines = [p for p in drawn.root.iter(S + 'path') if p.get('class') == 'h']
-    if cut and inside(ring.line):
+    if cut and (inside(ring.line) or ring.line > end == z):
         x = int(re.fullmatch(r'M(\d+) \d+V\d+', lines[0].get('d'))[1])
         for (i, p), at in drawn.marks.items():
             assert at != x and (at < x) == (p <= cut[i])
+        assert drawn.root.findall(f'.//{S}rect[@class="bg f"]') == [] or inside(ring.line)
     else:
         assert not lines
     # What is ringed.

@@ -5,7 +5,7 @@ use crate::class;
 use crate::grid::{Grid, Point};
 use crate::stroke::{LINES, Line, Stroke, TIPS};
 use crate::svg::Svg;
-use ira_event::Load;
+use ira_event::{Event, Load};
 use ira_picture::{Arrow, Mark, Passage, Picture};
 use ira_view_page::Page;
 use std::alloc::Allocator;
@@ -82,7 +82,6 @@ fn write_paths<A: Allocator>(out: &mut Svg<A>, picture: &Picture<A>, grid: &Grid
     for arrow in &picture.arrows {
         if Stroke::of(arrow, grid.last) == stroke {
             let (begin, end) = ends_of(arrow, grid);
-            let reader = grid.row_of_reader(arrow.link) % picture.lanes.len().max(1);
             out.open("path", "");
             write_event(
                 out,
@@ -91,7 +90,13 @@ fn write_paths<A: Allocator>(out: &mut Svg<A>, picture: &Picture<A>, grid: &Grid
                 usize::from(arrow.link),
                 arrow.sent,
             );
-            write_event(out, picture, "data-to", reader, arrow.received);
+            write_event(
+                out,
+                picture,
+                "data-to",
+                reader_of(picture, grid, arrow),
+                arrow.received,
+            );
             out.page.words(" d=\"");
             out.move_to(begin.x, begin.y);
             out.page.words("L");
@@ -145,7 +150,7 @@ fn quarter(from: u64, to: u64) -> u64 {
 fn place_of_words(arrow: &Arrow, grid: &Grid) -> Option<(u64, u64)> {
     let (begin, end) = ends_of(arrow, grid);
     match arrow.passage {
-        Passage::NotSent => None,
+        Passage::NotSent | Passage::Differs => None,
         Passage::NotReceived => Some((
             end.x.saturating_add(24),
             beyond(begin.y, leads_up(grid, arrow.link), 34),
@@ -233,6 +238,58 @@ fn write_words<A: Allocator>(out: &mut Svg<A>, picture: &Picture<A>, grid: &Grid
     out.page.words("</g>\n");
 }
 
+/// What was sent or received, whole, beside a place: left of it, or right of it.
+fn write_whole<A: Allocator>(out: &mut Svg<A>, load: Load, at: Point, is_left: bool) {
+    if is_left {
+        out.begin_text(class::REMARK_BEFORE, at.x.saturating_sub(6), at.y);
+    } else {
+        out.begin_text(class::REMARK, at.x.saturating_add(6), at.y);
+    }
+    out.page.load(load);
+    out.page.words("</text>\n");
+}
+
+/// Both messages of an arrow that was received as another: what was sent near where it begins, and what was received near
+/// where it ends. The one is named by the answer, and stands left; the other, if there is one, right.
+fn write_both<A: Allocator>(
+    out: &mut Svg<A>,
+    picture: &Picture<A>,
+    grid: &Grid,
+    arrow: &Arrow,
+    is_left: bool,
+) {
+    let (begin, end) = ends_of(arrow, grid);
+    let (near, far) = (
+        Point {
+            x: quarter(begin.x, end.x),
+            y: quarter(begin.y, end.y),
+        },
+        Point {
+            x: quarter(end.x, begin.x),
+            y: quarter(end.y, begin.y),
+        },
+    );
+    write_whole(out, arrow.load, near, is_left);
+    if let Some(
+        Mark {
+            event: Event::Got(load),
+            ..
+        },
+    ) = mark_at(picture, reader_of(picture, grid, arrow), arrow.received)
+    {
+        write_whole(out, load, far, is_left);
+    }
+}
+
+/// Both messages of the first two arrows that were received as another.
+fn write_differences<A: Allocator>(out: &mut Svg<A>, picture: &Picture<A>, grid: &Grid) {
+    let mut is_left = true;
+    for arrow in picture.arrows.iter().filter(|arrow| differs(arrow)).take(2) {
+        write_both(out, picture, grid, arrow, is_left);
+        is_left = false;
+    }
+}
+
 /// All arrows, those drawn alike in a group.
 pub(crate) fn write_arrows<A: Allocator>(out: &mut Svg<A>, picture: &Picture<A>, grid: &Grid) {
     for line in LINES {
@@ -241,6 +298,17 @@ pub(crate) fn write_arrows<A: Allocator>(out: &mut Svg<A>, picture: &Picture<A>,
         }
     }
     write_words(out, picture, grid);
+    write_differences(out, picture, grid);
+}
+
+/// Whether an arrow was received as another.
+fn differs(arrow: &Arrow) -> bool {
+    arrow.passage == Passage::Differs
+}
+
+/// The place of the node at the end of an arrow.
+fn reader_of<A: Allocator>(picture: &Picture<A>, grid: &Grid, arrow: &Arrow) -> usize {
+    grid.row_of_reader(arrow.link) % picture.lanes.len().max(1)
 }
 
 /// Whether a picture has an arrow that is drawn so.

@@ -104,6 +104,13 @@ fn write_run<A: Allocator>(
     grid
 }
 
+/// Whether the line of a moment, which has this column, is drawn: at the columns that are, or after the last of all.
+fn has_line<A: Allocator>(picture: &Picture<A>, column: u32) -> bool {
+    let window = picture.window;
+    let is_end = column > picture.last && window.last == picture.last;
+    is_end || (window.first <= column && column <= window.last)
+}
+
 /// Writes the legend, and ends the picture.
 fn finish<A: Allocator>(
     mut out: Svg<A>,
@@ -136,8 +143,11 @@ pub fn draw<A: Allocator + Clone>(
     let words = moment_words(alloc.clone()?, moment)?;
     let mut out = Svg::new(alloc);
     let grid = write_run(&mut out, logs.size().get(), &picture, None);
-    if let Some(column) = picture.line {
-        write_moment(&mut out, &grid, column, words.bytes(), moment.case());
+    match picture.line {
+        Some(column) if has_line(&picture, column) => {
+            write_moment(&mut out, &grid, column, words.bytes(), moment.case());
+        }
+        _ => {}
     }
     Ok(finish(out, &picture, &grid)?)
 }

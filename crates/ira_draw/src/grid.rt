@@ -185,6 +185,11 @@ impl Grid {
         (self.edge() + 190).max(780)
     }
 
+    /// Whether names of lanes left of the picture are out of sight at its right end.
+    pub(crate) fn is_wide(&self) -> bool {
+        self.edge() > 1600
+    }
+
     /// Whether there is room for words beside each arrow.
     pub(crate) fn has_labels(&self) -> bool {
         self.nodes <= 4 && self.column_width >= 44

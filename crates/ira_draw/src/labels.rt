@@ -110,29 +110,46 @@ fn write_state<A: Allocator>(page: &mut Page<A>, state: &NodeState) {
     }
 }
 
-/// What a node is in the end, unless it is passive and owes nothing.
+/// What a node is in the end, unless it is passive and owes nothing, with its name where the picture is wide.
 fn write_end<A: Allocator>(out: &mut Svg<A>, grid: &Grid, lane: &Lane<A>, place: usize) {
     let is_stopped = lane.first_fault.is_some();
     let is_passive = lane.end.phase == Phase::Passive;
-    if is_passive && lane.end.owed.is_none() && !is_stopped {
+    let is_quiet = is_passive && lane.end.owed.is_none() && !is_stopped;
+    if is_quiet && !grid.is_wide() {
         return;
     }
     let is_aside = is_passive && !is_stopped;
     let class = if is_aside { class::ASIDE } else { "" };
     out.begin_text(class, grid.edge() + 12, grid.y(place) + 4);
+    if grid.is_wide() {
+        write_node(&mut out.page, place);
+        out.page.words(if is_quiet { "" } else { ": " });
+    }
     if is_stopped {
         out.page.words("no step");
-    } else {
+    } else if !is_quiet {
         write_state(&mut out.page, &lane.end);
     }
     out.page.words("</text>\n");
 }
 
+/// The name of a node after the last column of a part of a wide picture.
+fn write_name_after<A: Allocator>(out: &mut Svg<A>, grid: &Grid, place: usize) {
+    out.begin_text(class::ASIDE, grid.edge() + 12, grid.y(place) + 4);
+    write_node(&mut out.page, place);
+    out.page.words("</text>\n");
+}
+
+/// Adds the name of a node.
+fn write_node<A: Allocator>(page: &mut Page<A>, place: usize) {
+    page.words("node ");
+    page.number(place as u64);
+}
+
 /// The name of a lane's node.
 fn write_name<A: Allocator>(out: &mut Svg<A>, grid: &Grid, class: &str, row: usize, place: usize) {
     out.begin_text(class, LEFT - 12, grid.y(row) + 4);
-    out.page.words("node ");
-    out.page.number(place as u64);
+    write_node(&mut out.page, place);
     out.page.words("</text>\n");
 }
 
@@ -143,6 +160,8 @@ pub(crate) fn write_labels<A: Allocator>(out: &mut Svg<A>, picture: &Picture<A>,
         write_pairs(out, grid, lane, place_of_pairs(grid, place));
         if picture.window.last == picture.last {
             write_end(out, grid, lane, place);
+        } else if grid.is_wide() {
+            write_name_after(out, grid, place);
         }
     }
     if grid.is_unrolled() {

@@ -56,8 +56,18 @@ fn write_words<A: Allocator>(out: &mut Svg<A>, words: &[u8])
     }
 }
 
-/// The line of a moment of which these words are said, right of which all is pale that hasn't happened, with a ring at
-/// each node that its case asks.
+/// Makes all pale that is right of a place.
+fn write_pale<A: Allocator>(out: &mut Svg<A>, grid: &Grid, x: u64, top: u64, low: u64) {
+    out.open("rect", class::PALE);
+    out.number("x", x);
+    out.number("y", top);
+    out.number("width", grid.width().saturating_sub(x));
+    out.number("height", low.saturating_sub(top));
+    out.page.words("/>\n");
+}
+
+/// The line of a moment of which these words are said, with a ring at each node that its case asks. Right of it all is
+/// pale that hasn't happened; at the end of the logs, whose line has a column of its own after the last one, nothing is.
 pub(crate) fn write_moment<A: Allocator, Q: Allocator>(
     out: &mut Svg<A>,
     grid: &Grid,
@@ -65,16 +75,10 @@ pub(crate) fn write_moment<A: Allocator, Q: Allocator>(
     words: &[u8],
     case: Option<&Case<Q>>,
 ) {
-    if !grid.contains(column) {
-        return;
-    }
     let (x, top, low) = (grid.x(column), TOP - 22, grid.foot() + 18);
-    out.open("rect", class::PALE);
-    out.number("x", x);
-    out.number("y", top);
-    out.number("width", grid.width().saturating_sub(x));
-    out.number("height", low - top);
-    out.page.words("/>\n");
+    if grid.contains(column) {
+        write_pale(out, grid, x, top, low);
+    }
     out.begin_lines(class::MOMENT);
     out.down(x, top, low);
     out.page.words("\"/>\n");
