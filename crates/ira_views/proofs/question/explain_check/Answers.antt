@@ -1,4 +1,4 @@
-use Rattle.std.proofs.Common.{Err, refl, rules}
+use Rattle.std.proofs.Common.{Err, refl}
 use Rattle.ira_audit.proofs.RefusedTexts.{certificate_reason, sections_judged}
 use Rattle.ira_audit.specs.CheckAnswer.{yes}
 use Rattle.ira_audit.specs.declared.refusal.Refusal.TheVariants.{No}
