@@ -1,5 +1,6 @@
 -- What the program does that is asked to judge the logs in each of some folders.
-use Rattle.std.specs.Prelude.{◌≡◌, ◌≢◌, ◌⊎◌, ℕ, Bool, true, false, List, [], ◌∷◌, ◌++◌, Option, Some, None, Result, Ok, Err, codes, slice_get}
+use Rattle.std.specs.Prelude.{◌≡◌, ◌≢◌, ◌⊎◌, ℕ, Bool, true, false, List, [], ◌∷◌, ◌++◌, Option, Some, None, Result, Ok, Err}
+use Rattle.std.specs.Prelude.{codes, slice_get, ⊤}
 use Rattle.std.specs.Borrow.{Bor}
 use Rattle.std.specs.List.{AllZip, filter_map}
 use Rattle.ira_event.specs.Sink.{SinkState, StopsIn, Takes}

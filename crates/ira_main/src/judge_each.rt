@@ -31,7 +31,7 @@ where
         alloc.clone()?,
         folders.len(),
         &|i: usize| -> Result<FolderAnswer<'_>, OutOfMemory>
-            requires { i < length folders.entry.now }
+            requires { i < length folders.now }
             ensures { IfOk result (λ answer. IfSome (slice_get folders.entry.now i)
                 (λ folder. IsFolderAnswer F.reads shelf.entry.now folder answer)) }
         { judge_folder(alloc, folders[i], shelf) },

@@ -1,6 +1,6 @@
 use Rattle.std.proofs.Common.{◌≡◌, ◌∙◌, Err, List, [], ◌∷◌, Ok, Result, ℕ, ap, inl, inr, map, refl, subst, sym}
 use Rattle.ira_words.specs.Request.{IsMadeOf, IsVersionLine}
-use Rattle.ira_main.specs.Serve.CommandOutcome.{decided, drawn, judged, mended, pairs, recorded, refused, shown}
+use Rattle.ira_main.specs.Serve.CommandOutcome.{decided, drawn, each, judged, mended, pairs, recorded, refused, shown}
 use Rattle.ira_main.specs.Serve.CommandOutcome.{upgraded, versioned}
 use Rattle.ira_main.specs.Serve.CommandOutcome.{explained as explained_of_logs}
 use Rattle.ira_main.specs.Serve.Serves.{explained, with_words, without_words}
@@ -36,6 +36,11 @@ pub returns-in-Logs-clause-served : goal.returns-in-Logs-clause-served
 returns-in-Logs-clause-served g c =
     let made = subst (IsMadeOf (map (λ w. w.now) c.args.words.now)) c.in-Logs.is c.in-Ok.ensures.made in
     with_words (some_words _ _ _ made.line.first) refl (judged _ made refl c.judge_files.ensures)
+
+pub returns-in-Each-clause-served : goal.returns-in-Each-clause-served
+returns-in-Each-clause-served g c =
+    let made = subst (IsMadeOf (map (λ w. w.now) c.args.words.now)) c.in-Each.is c.in-Ok.ensures.made in
+    with_words (some_words _ _ _ made.first) refl (each _ made refl c.judge_each.ensures)
 
 pub returns-in-OneLog-answer-clause-served : goal.returns-in-OneLog-answer-clause-served
 returns-in-OneLog-answer-clause-served g c =
