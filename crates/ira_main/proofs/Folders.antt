@@ -1,6 +1,7 @@
 -- What comes of some folders, one after another.
 use Rattle.std.proofs.Common.{◌≡◌, ◌∙◌, ◌<◌, ◌+◌, ℕ, zero, suc, Bool, List, [], ◌∷◌, ◌++◌, ap, append-nil}
-use Rattle.std.proofs.Common.{append_assoc, arith, length, refl, subst, sym}
+use Rattle.std.proofs.Common.{append_assoc, arith, length, refl, subst, sym, take}
+use Rattle.std.proofs.lemmas.List.{take_more}
 use Rattle.std.specs.Borrow.{Bor}
 use Rattle.std.specs.List.{AllZip}
 use Rattle.std.specs.Prelude.{IfOk, IfSome, Result, slice_get, slice_index_or}
@@ -46,6 +47,16 @@ text_more is_json (f ∷ folders) (a ∷ answers) text line folder answer are is
   are.3,
   text_more is_json folders answers are.1 line folder answer are.4 is,
 )
+
+-- the same by its number
+pub next_text : (is_json : Bool) (folders : List (Bor (List ℕ))) (answers : List FolderAnswer) (i : ℕ)
+    (df : Bor (List ℕ)) (da : FolderAnswer) (text line : List ℕ) → i < length folders → i < length answers
+    → AreFolderTexts is_json (take i folders) (take i answers) text
+    → IsFolderText is_json (slice_index_or folders i df).now (slice_index_or answers i da) line
+    → AreFolderTexts is_json (take (i + 1) folders) (take (i + 1) answers) (text ++ line)
+next_text is_json folders answers i df da text line lf la are is =
+    rw (take_more folders i df lf, take_more answers i da la) (text_more is_json (take i folders) (take i answers) text
+    line (slice_index_or folders i df) (slice_index_or answers i da) are is)
 
 -- answers that were given can be told
 tellable : {S : Type 0} (reads : Reading S) (shelf : S) (folder : Bor (List ℕ)) (answer : FolderAnswer)

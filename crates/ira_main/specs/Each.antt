@@ -1,8 +1,8 @@
 -- What the program does that is asked to judge the logs in each of some folders.
 use Rattle.std.specs.Prelude.{◌≡◌, ◌≢◌, ◌⊎◌, ℕ, Bool, true, false, List, [], ◌∷◌, ◌++◌, Option, Some, None, Result, Ok, Err}
-use Rattle.std.specs.Prelude.{codes, slice_get, ⊤}
+use Rattle.std.specs.Prelude.{codes, if◌then◌else◌, slice_get, ⊤}
 use Rattle.std.specs.Borrow.{Bor}
-use Rattle.std.specs.List.{AllZip, filter_map}
+use Rattle.std.specs.List.{AllZip, filter_map, list_any}
 use Rattle.ira_event.specs.Sink.{SinkState, StopsIn, Takes}
 use Rattle.ira_audit.specs.Report.{IsReportable, report_line}
 use Rattle.ira_audit.specs.RingAnswer.{IsRingAnswer}
@@ -99,10 +99,12 @@ abbrev pub unread_names : List FolderAnswer → List FileName
 unread_names answers = filter_map unread_name answers
 
 -- the status of answers: no where one is no, else yes
+abbrev pub is_no : FolderAnswer → Bool
+is_no (Judged (audit.No reason)) = true
+is_no other = false
+
 abbrev pub each_status : List FolderAnswer → Status
-each_status [] = status.Yes
-each_status (Judged (audit.No reason) ∷ rest) = status.No
-each_status (other ∷ rest) = each_status rest
+each_status answers = if list_any is_no answers then status.No else status.Yes
 
 -- what the program ends with: where files weren't read these, else the status of the answers
 abbrev pub IsEachOutcome : List FolderAnswer → Outcome → Type 0

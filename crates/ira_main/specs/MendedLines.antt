@@ -9,8 +9,8 @@ mended_line part =
     codes "node " ++ decimal part.0.0.place ++ codes ": "
     ++ (if nat_lt (length part.0.1.events) (length part.0.0.events)
     then decimal (length part.0.1.events) ++ codes " of " else [])
-    ++ decimal (length part.0.0.events)
-    ++ (if part.1 then codes " events, no log was left\n" else codes " events\n")
+    ++ decimal (length part.0.0.events) ++ codes " events"
+    ++ (if part.1 then codes ", no log was left" else []) ++ codes "\n"
 
 -- the lines of all nodes
 abbrev pub mended_lines : List Log → List Log → List Bool → List ℕ

@@ -1,6 +1,6 @@
 ghost use Rattle.std.specs.Prelude.{◌≡◌, ◌<◌, IfOk, IfSome, length, slice_get};
-ghost use Rattle.std.specs.List.{AllZip};
-ghost use Rattle.ira_main.specs.Each.{AreFolderTexts, AreTellable, IsFolderAnswer, JudgesEach, each_status, unread_names};
+ghost use Rattle.std.specs.List.{AllZip, list_any};
+ghost use Rattle.ira_main.specs.Each.{AreFolderTexts, AreTellable, IsFolderAnswer, JudgesEach, each_status, is_no, unread_names};
 
 use crate::folder_answer::{FolderAnswer, judge_folder};
 use crate::program_fault::ProgramFault;
@@ -96,17 +96,23 @@ fn unread<'a>(alloc: Global, answers: &[FolderAnswer<'a>]) -> Result<Vec<FileNam
         .collect(alloc)
 }
 
+/// Whether an answer is no.
+fn has_no(answers: &[FolderAnswer<'_>]) -> bool
+    ensures { result ≡ list_any is_no answers.now }
+{
+    answers.iter().any(|answer| matches!(answer, FolderAnswer::Judged(Answer::No(_))))
+}
+
 impl Status {
     /// Whether no answer is no.
     fn of_answers(answers: &[FolderAnswer<'_>]) -> Status
         ensures { result ≡ each_status answers.now }
     {
-        for answer in answers {
-            if let FolderAnswer::Judged(Answer::No(_)) = answer {
-                return Status::No;
-            }
+        if has_no(answers) {
+            Status::No
+        } else {
+            Status::Yes
         }
-        Status::Yes
     }
 }
 

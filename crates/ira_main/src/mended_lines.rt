@@ -19,11 +19,11 @@ fn mended_line<A: Allocator>(log: &NodeLog<A>, mended: &NodeLog<A>, is_lost: boo
         line.add(b" of ");
     }
     line.add_number(all as u32);
-    line.add(if is_lost {
-        b" events, no log was left\n"
-    } else {
-        b" events\n"
-    });
+    line.add(b" events");
+    if is_lost {
+        line.add(b", no log was left");
+    }
+    line.add(b"\n");
     line
 }
 

@@ -19,3 +19,16 @@ pub returns-in-Ok-clause-found : goal.returns-in-Ok-clause-found
 returns-in-Ok-clause-found g c =
     let is : c.as_str.result.now ≡ file_name c.args.name = search rules in
     inl (rw is at c.in-Ok.ensures.read)
+
+pub returns : goal.returns
+returns g c =
+    let is : c.as_str.result.now ≡ file_name c.args.name = search rules in
+    let other : c.in-Err.fault ≢ NotFound = search rules in
+    let reads = g.F.TextSource.reads in
+    record {
+      found = tt;
+      fault =
+          of_one (left_by reads) c.args.name c.in-Err.fault c.args.shelf.now c.cannot_read.result
+          (left_fault reads c.args.shelf.now (file_name c.args.name) c.in-Err.fault other (rw is at c.in-Err.ensures.read))
+          c.cannot_read.ensures;
+    }

@@ -7,7 +7,7 @@ pub returns-in_err-names : goal.returns-in_err-names
 returns-in_err-names g c = inr (refl, (_, c.in_err-names.ensures, refl, search rules))
 
 pub returns-in_err-name : goal.returns-in_err-name
-returns-in_err-name g c = inl (_, c.in_ok-names.ensures, unread refl (OutOfMemory, inr refl, refl, search rules))
+returns-in_err-name g c = inl (_, c.in_ok-names.ensures, unread refl (OutOfMemory, inl (inr refl), refl, search rules))
 
 pub returns-in-Some : goal.returns-in-Some
 returns-in-Some g c =
@@ -61,8 +61,9 @@ returns-in-Ok-mend g c =
     inl (
       _,
       c.in_ok-names.ensures,
-      mended taken.0 c.in-Ok.logs c.in-Ok-mend.mended keeps
-          (rw c.deref-2.ensures.value at taken.2) ring.0 ring.1 c.in-Ok-mend.ensures c.keep_mended.ensures,
+      mended taken.0 c.in-Ok.logs c.in-Ok-mend.mended c.in_ok-lost.lost.items keeps
+          (rw c.deref-2.ensures.value at taken.2) ring.0 ring.1 (c.in_ok-lost.ensures taken.0 taken.1)
+          c.in-Ok-mend.ensures (rw c.deref-3.ensures.value at c.keep_mended.ensures),
     )
 
 pub returns-in-Err-Match : goal.returns-in-Err-Match

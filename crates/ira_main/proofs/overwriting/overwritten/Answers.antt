@@ -33,14 +33,14 @@ pub returns-then-branch : goal.returns-then-branch
 returns-then-branch g c =
     let text : c.as_str.result.now ≡ string_bytes c.in_ok-path.path = search rules in
     let whole = text ∙ c.in_ok-path.ensures in
-    let named : c.as_str-in-loop-place.result.now ≡ log_name c.args.folder.now c.loop-place.place-counter =
+    let named : c.as_str-in-loop-place.result.now ≡ log_name c.args.folder.now c.loop-place.place =
     search rules in
     let many = length-map c.args.names.now file_name in
     record {
       index = c.loop-name.name-index;
       named = named_at c.args.names.now c.loop-name.name-index _ c.loop-name-test.true;
       written = record {
-        place = c.loop-place.place-counter;
+        place = c.loop-place.place;
         few = omega (arith, c.loop-place-test.true, c.min-places.ensures, many);
         in_ring = omega (arith, c.loop-place-test.true, c.min-places.ensures);
         same = rw (whole, named) at (c.in_ok-are_same_path.ensures.0 c.if-branch.true);
@@ -51,9 +51,9 @@ pub loop-place-preserved : goal.loop-place-preserved
 loop-place-preserved g c = λ place l same.
     let text : c.as_str.result.now ≡ string_bytes c.in_ok-path.path = search rules in
     let whole = text ∙ c.in_ok-path.ensures in
-    let named : c.as_str-in-loop-place.result.now ≡ log_name c.args.folder.now c.loop-place.place-counter =
+    let named : c.as_str-in-loop-place.result.now ≡ log_name c.args.folder.now c.loop-place.place =
     search rules in
-    elim (cases_eq place c.loop-place.place-counter) [
+    elim (cases_eq place c.loop-place.place) [
       | inl e ↦
           let here = rw e at same in
           let yes = c.in_ok-are_same_path.ensures.1 (rw (whole, named) here) in

@@ -12,5 +12,5 @@ invariant-loop-name g l = record {
 }
 
 abbrev pub invariant-loop-place : goal.invariant-loop-place
-invariant-loop-place g l = (place : ℕ) → place < l.place-counter
+invariant-loop-place g l = (place : ℕ) → place < l.place
     → ¬ (IsSamePath (file_name l.name) (log_name l.folder place))
