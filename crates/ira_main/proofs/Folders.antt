@@ -4,32 +4,19 @@ use Rattle.std.proofs.Common.{append_assoc, arith, length, refl, subst, sym, tak
 use Rattle.std.proofs.lemmas.List.{take_more}
 use Rattle.std.specs.Borrow.{Bor}
 use Rattle.std.specs.List.{AllZip}
-use Rattle.std.specs.Prelude.{IfOk, IfSome, Result, slice_get, slice_index_or}
+use Rattle.std.specs.Prelude.{slice_get, slice_index_or}
+use Rattle.ira_audit.proofs.Zipped.{zipped_more}
 use Rattle.ira_files.specs.Shelf.{Reading}
 use Rattle.ira_main.specs.Each.{AreFolderTexts, AreTellable, IsFolderAnswer, IsFolderText, IsTellable}
 use Rattle.ira_main.specs.declared.folder_answer.FolderAnswer.{FolderAnswer}
 use Rattle.ira_main.specs.declared.folder_answer.FolderAnswer.TheVariants.{Judged, Unread}
 
--- two lists after two others
-pub both_zipped : {X Y : Type 0} (R : X → Y → Type 0) (xs : List X) (ys : List Y) (vs : List X) (ws : List Y)
-    → AllZip R xs ys → AllZip R vs ws → AllZip R (xs ++ vs) (ys ++ ws)
-both_zipped R [] [] vs ws p q = q
-both_zipped R [] (y ∷ ys) vs ws p q = absurd p
-both_zipped R (x ∷ xs) [] vs ws p q = absurd p
-both_zipped R (x ∷ xs) (y ∷ ys) vs ws p q = (p.0, both_zipped R xs ys vs ws p.1 q)
-
--- what came of each by its number
-pub each_zipped : {X Y E : Type 0} (R : X → Y → Type 0) (xs : List X) (rs : List (Result Y E))
-    → length rs ≡ length xs
-    → ((i : ℕ) (d : Result Y E) → i < length xs → IfOk (slice_index_or rs i d) (λ y. IfSome (slice_get xs i) (λ x. R x y)))
-    → AllZip (λ x r. IfOk r (R x)) xs rs
-each_zipped R [] [] many each = tt
-each_zipped R [] (r ∷ rs) many each = absurd (omega (arith, many))
-each_zipped R (x ∷ xs) [] many each = absurd (omega (arith, many))
-each_zipped R (x ∷ xs) (r ∷ rs) many each = (
-  each 0 r (omega arith),
-  each_zipped R xs rs (omega (arith, many)) (λ i d lt. each (suc i) d (omega (arith, lt))),
-)
+-- what came of one folder more, by its number
+pub next_zipped : {X Y : Type 0} (R : X → Y → Type 0) (xs : List X) (i : ℕ) (d : X) (ys : List Y) (y : Y)
+    → i < length xs → AllZip R (take i xs) ys → R (slice_index_or xs i d) y
+    → AllZip R (take (i + 1) xs) (ys ++ y ∷ [])
+next_zipped R xs i d ys y lt are is =
+    rw (take_more xs i d lt) (zipped_more R (take i xs) ys (slice_index_or xs i d) y are is)
 
 -- the text of one folder more
 pub text_more : (is_json : Bool) (folders : List (Bor (List ℕ))) (answers : List FolderAnswer) (text line : List ℕ)

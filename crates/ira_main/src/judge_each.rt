@@ -1,68 +1,27 @@
-ghost use Rattle.std.specs.Prelude.{◌≡◌, ◌<◌, IfOk, IfSome, length, slice_get};
+ghost use Rattle.std.specs.Prelude.{◌≡◌, IfOk, length};
 ghost use Rattle.std.specs.List.{AllZip, list_any};
 ghost use Rattle.ira_main.specs.Each.{AreFolderTexts, AreTellable, IsFolderAnswer, JudgesEach, each_status, is_no, unread_names};
 
 use crate::folder_answer::{FolderAnswer, judge_folder};
 use crate::program_fault::ProgramFault;
-use crate::read_files::thread_count;
 use crate::status::Status;
 use ira_audit::Answer;
 use ira_event::{MemorySink, OutOfMemory, Sink, WriteFault, write_bytes};
 use ira_files::{FileName, Shelf, TextSource};
 use ira_words::EachRequest;
 use std::alloc::{AllocError, Allocator, Global};
-use std::thread::{self, Threads};
 
-/// Judges the logs in each of these folders, all at a time where as many threads can be started.
-fn judge_some<'a, R, A, F>(
-    rt: &R,
+/// Judges the logs in each of these folders, one after another.
+fn folder_answers<'a, A: Allocator + Clone, F: TextSource>(
     alloc: &A,
     folders: &[&'a str],
     shelf: &F,
 ) -> Result<Vec<FolderAnswer<'a>, A>, OutOfMemory>
-where
-    R: Threads + Sync,
-    A: Allocator + Clone + Send + Sync,
-    F: TextSource + Sync,
     ensures { IfOk result (λ answers. AllZip (IsFolderAnswer F.reads shelf.now) folders.now answers.items) }
 {
-    let judged = thread::map_indices(
-        rt,
-        alloc.clone()?,
-        folders.len(),
-        &|i: usize| -> Result<FolderAnswer<'_>, OutOfMemory>
-            requires { i < length folders.now }
-            ensures { IfOk result (λ answer. IfSome (slice_get folders.entry.now i)
-                (λ folder. IsFolderAnswer F.reads shelf.entry.now folder answer)) }
-        { judge_folder(alloc, folders[i], shelf) },
-    )?;
-    let mut answers = Vec::with_capacity(alloc.clone()?, judged.len())?;
-    for answer in judged {
-        answers.push(answer?)?;
-    }
-    Ok(answers)
-}
-
-/// Judges the logs in each of these folders, as many at a time as the machine runs threads.
-fn folder_answers<'a, R, A, F>(
-    rt: &R,
-    alloc: &A,
-    folders: &[&'a str],
-    shelf: &F,
-) -> Result<Vec<FolderAnswer<'a>, A>, OutOfMemory>
-where
-    R: Threads + Sync,
-    A: Allocator + Clone + Send + Sync,
-    F: TextSource + Sync,
-    ensures { IfOk result (λ answers. AllZip (IsFolderAnswer F.reads shelf.now) folders.now answers.items) }
-{
-    let size = thread_count(rt);
     let mut answers = Vec::with_capacity(alloc.clone()?, folders.len())?;
-    let mut left = folders;
-    while !left.is_empty() {
-        let number = size.min(left.len());
-        answers.append(&mut judge_some(rt, alloc, &left[..number], shelf)?)?;
-        left = &left[number..];
+    for folder in folders {
+        answers.push(judge_folder(alloc, folder, shelf)?)?;
     }
     Ok(answers)
 }
@@ -118,23 +77,22 @@ impl Status {
 
 /// Judges the logs in each of some folders, and prints what comes of them in the order of the folders. All are judged
 /// before anything is printed.
-pub(crate) fn judge_each<'a, R, A, F, W>(
-    rt: &R,
+pub(crate) fn judge_each<'a, A, F, W>(
+    global: Global,
     alloc: A,
     asked: &EachRequest<'a>,
     shelf: &F,
     out: &mut W,
 ) -> Result<Status, ProgramFault<'a>>
 where
-    R: AllocGlobal + Threads + Sync,
-    A: Allocator + Clone + Send + Sync,
-    F: Shelf + Sync,
+    A: Allocator + Clone,
+    F: Shelf,
     W: Sink,
     ensures { JudgesEach F.reads asked.now shelf.now (W.state out.old) (W.state out.new) result }
 {
-    let answers = folder_answers(rt, &alloc, &asked.folders, shelf)?;
-    let text = folder_texts(alloc, rt.alloc(), asked.is_json, &asked.folders, &answers)?;
-    let unread = unread(rt.alloc(), &answers)?;
+    let answers = folder_answers(&alloc, &asked.folders, shelf)?;
+    let text = folder_texts(alloc, global, asked.is_json, &asked.folders, &answers)?;
+    let unread = unread(global, &answers)?;
     match write_bytes(text.bytes(), out) {
         Ok(()) if unread.is_empty() => Ok(Status::of_answers(&answers)),
         Ok(()) => Err(ProgramFault::CannotReadSome(unread)),

@@ -1,4 +1,7 @@
-use Rattle.std.proofs.Common.{◌≡◌, None, inl, inr, refl, rules}
+use Rattle.std.proofs.Common.{◌≡◌, ◌∙◌, None, ap, inl, inr, length, refl, rules, sym}
+use Rattle.ira_audit.proofs.Zipped.{zipped_length}
+use Rattle.ira_mend.proofs.RecordedTexts.{left_length}
+use Rattle.ira_mend.specs.RecordedLogs.{SaysLost}
 use Rattle.ira_main.specs.Mend.Mends.{differ, mended, no_ring, overwriting, unread}
 use Rattle.ira_main.specs.declared.program_fault.ProgramFault.TheVariants.{OutOfMemory, WouldOverwrite}
 use Rattle.ira_main.proofs.mend_files.mend_files.Goals as goal
@@ -52,6 +55,18 @@ returns-in-Err-No g c =
           refl c.report.ensures,
     )
 
+pub returns-in_err-clone : goal.returns-in_err-clone
+returns-in_err-clone g c =
+    inl (_, c.in_ok-names.ensures, unread refl (OutOfMemory, inl (inr refl), refl, search rules))
+
+pub keep_mended-requires-clause-lost : goal.keep_mended-requires-clause-lost
+keep_mended-requires-clause-lost g c =
+    let taken = c.in_ok-recorded.ensures in
+    let left = (c.in-Ok.ensures taken.0 taken.1).0 in
+    ap length c.deref-in-Ok-mend.ensures.value
+    ∙ zipped_length SaysLost taken.0 c.in_ok-lost.lost.items (c.in_ok-lost.ensures taken.0 taken.1)
+    ∙ sym (left_length 0 _ _ taken.0 c.in-Ok.logs left.each)
+
 pub returns-in-Ok-mend : goal.returns-in-Ok-mend
 returns-in-Ok-mend g c =
     let none : c.in_ok-name.field-0 ≡ None = search rules in
@@ -63,7 +78,7 @@ returns-in-Ok-mend g c =
       c.in_ok-names.ensures,
       mended taken.0 c.in-Ok.logs c.in-Ok-mend.mended c.in_ok-lost.lost.items keeps
           (rw c.deref-2.ensures.value at taken.2) ring.0 ring.1 (c.in_ok-lost.ensures taken.0 taken.1)
-          c.in-Ok-mend.ensures (rw c.deref-3.ensures.value at c.keep_mended.ensures),
+          c.in-Ok-mend.ensures (rw c.deref-in-Ok-mend.ensures.value at c.keep_mended.ensures),
     )
 
 pub returns-in-Err-Match : goal.returns-in-Err-Match

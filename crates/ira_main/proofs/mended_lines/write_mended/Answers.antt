@@ -49,7 +49,7 @@ returns-in_err-write g c =
     let within : i < length lost = omega arith in
     let line : c.mended_line.result
     ≡ mended_line ((c.log.result.now, c.log-in-loop-place.result.now), slice_index_or lost i false) =
-    c.mended_line.ensures in
+    rw c.from.ensures at c.mended_line.ensures in
     let next = subst (λ t. t ++ flat_map mended_line (drop (i + 1) (zip (zip logs mended) lost))
     ≡ flat_map mended_line (drop i (zip (zip logs mended) lost))) (sym line)
     (next_line logs mended lost i false c.log.result.now
@@ -67,7 +67,7 @@ loop-place-preserved g c =
     let within : i < length lost = omega arith in
     let line : c.mended_line.result
     ≡ mended_line ((c.log.result.now, c.log-in-loop-place.result.now), slice_index_or lost i false) =
-    c.mended_line.ensures in
+    rw c.from.ensures at c.mended_line.ensures in
     let next = subst (λ t. t ++ flat_map mended_line (drop (i + 1) (zip (zip logs mended) lost))
     ≡ flat_map mended_line (drop i (zip (zip logs mended) lost))) (sym line)
     (next_line logs mended lost i false c.log.result.now
