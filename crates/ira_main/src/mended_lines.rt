@@ -1,13 +1,13 @@
 ghost use Rattle.std.specs.Prelude.{◌≡◌, length};
 ghost use Rattle.ira_event.specs.Sink.{Wrote};
-ghost use Rattle.ira_main.specs.MendedLines.{mended_line, mended_lines};
+ghost use Rattle.ira_main.specs.MendedLines.{counts_text, mended_line, mended_lines};
 
 use ira_event::{Line, Logs, NodeLog, Sink, WriteFault};
 use std::alloc::Allocator;
 
-/// How many of a node's events are kept, of how many where not all are; and where nothing was left of its log, that.
-fn mended_line<A: Allocator>(log: &NodeLog<A>, mended: &NodeLog<A>, is_lost: bool) -> Line
-    ensures { result ≡ mended_line ((log.now, mended.now), is_lost) }
+/// How many of a node's events are kept, of how many where not all are.
+fn counts_line<A: Allocator>(log: &NodeLog<A>, mended: &NodeLog<A>) -> Line
+    ensures { result ≡ counts_text log.now mended.now }
 {
     let (all, kept) = (log.len(), mended.len());
     let mut line = Line::new();
@@ -20,6 +20,14 @@ fn mended_line<A: Allocator>(log: &NodeLog<A>, mended: &NodeLog<A>, is_lost: boo
     }
     line.add_number(all as u32);
     line.add(b" events");
+    line
+}
+
+/// The line of a node: how many of its events are kept, and where nothing was left of its log, that.
+fn mended_line<A: Allocator>(log: &NodeLog<A>, mended: &NodeLog<A>, is_lost: bool) -> Line
+    ensures { result ≡ mended_line ((log.now, mended.now), is_lost) }
+{
+    let mut line = counts_line(log, mended);
     if is_lost {
         line.add(b", no log was left");
     }

@@ -128,7 +128,7 @@ where
     match request {
         Request::OneLog => Progress::Ended(judge_input(alloc, input, out)),
         Request::Logs(logs) => Progress::Ended(judge_files(rt, alloc, &logs, shelf, out)),
-        Request::Each(each) => { Progress::Ended(judge_each(rt.alloc(), alloc, &each, shelf, out)) }
+        Request::Each(each) => Progress::Ended(judge_each(rt.alloc(), alloc, &each, shelf, out)),
         Request::Explain(ExplainRequest { answer, is_json }) => match answer {
             ExplainedAnswer::OneLog => {
                 Progress::Ended(explain_input(rt.alloc(), alloc, is_json, input, out))
