@@ -4,7 +4,7 @@ use Rattle.std.specs.List.{flat_map, zip}
 use Rattle.ira_event.specs.Log.{Log}
 
 -- how many of a node's events are kept, of how many where not all are
-abbrev pub counts_text : Log → Log → List ℕ
+unfoldable pub counts_text : Log → Log → List ℕ
 counts_text log kept =
     codes "node " ++ decimal log.place ++ codes ": "
     ++ (if nat_lt (length kept.events) (length log.events) then decimal (length kept.events) ++ codes " of " else [])

@@ -1,4 +1,4 @@
-ghost use Rattle.std.specs.Prelude.{◌≡◌, length};
+ghost use Rattle.std.specs.Prelude.{◌≡◌, ◌≤◌, length};
 ghost use Rattle.ira_event.specs.Sink.{Wrote};
 ghost use Rattle.ira_main.specs.MendedLines.{counts_text, mended_line, mended_lines};
 
@@ -6,8 +6,10 @@ use ira_event::{Line, Logs, NodeLog, Sink, WriteFault};
 use std::alloc::Allocator;
 
 /// How many of a node's events are kept, of how many where not all are.
+#[tactic(auto, unfolding(crate::specs::MendedLines::counts_text))]
 fn counts_line<A: Allocator>(log: &NodeLog<A>, mended: &NodeLog<A>) -> Line
-    ensures { result ≡ counts_text log.now mended.now }
+    ensures text { result ≡ counts_text log.now mended.now }
+    ensures room { length result ≤ 64 }
 {
     let (all, kept) = (log.len(), mended.len());
     let mut line = Line::new();

@@ -1,4 +1,4 @@
-use Rattle.std.proofs.Common.{◌≡◌, ◌≢◌, ◌∙◌, ◌∷◌, List, [], ap, length, refl, rules, subst, sym}
+use Rattle.std.proofs.Common.{◌≡◌, ◌≢◌, ◌∙◌, ◌∷◌, List, [], ap, arith, length, refl, rules, subst, sym}
 use Rattle.ira_event.specs.Sink.{StopsIn, Takes}
 use Rattle.ira_audit.proofs.Zipped.{zipped_length}
 use Rattle.ira_main.specs.Each.{unread_names}
@@ -9,7 +9,7 @@ use Rattle.ira_main.proofs.judge_each.judge_each.Goals as goal
 -- a list of no members
 is_empty : {X : Type 0} (xs : List X) → length xs ≡ 0 → xs ≡ []
 is_empty [] h = refl
-is_empty (x ∷ xs) h = absurd cc
+is_empty (x ∷ xs) h = absurd (omega arith)
 
 pub folder_texts-requires-clause-number : goal.folder_texts-requires-clause-number
 folder_texts-requires-clause-number g c =
