@@ -89,6 +89,9 @@ fn second_is_met(alloc: Global) -> Result<bool, OutOfMemory> {
     let Ok(asked) = judged.ask(TWO_CASES) else {
         return Ok(false);
     };
+    if asked.cases().len() != 2 {
+        return Ok(false);
+    }
     match (asked.first_present()?, asked.decide_case(1)?) {
         (Some((1, first)), Found::Present(alone)) => {
             Ok(first.positions() == MET && alone.positions() == MET)
