@@ -1,4 +1,4 @@
-ghost use Rattle.std.specs.Prelude.{◌≡◌, ◌+◌, ◌≤◌, ◌<◌, true, false, take, drop, length, IfOk, is_err, max};
+ghost use Rattle.std.specs.Prelude.{◌≡◌, ◌≢◌, ◌+◌, ◌≤◌, ◌<◌, true, false, take, drop, length, IfOk, is_err, max};
 ghost use Rattle.std.specs.Io.KnownBytes.{ReadConsumes};
 ghost use Rattle.ira_files.specs.CountingReader.{one_more, gives_none};
 ghost use Rattle.ira_files.specs.ReadText.{IsReadTo, IsReadOnce};
@@ -50,6 +50,7 @@ pub fn read_after<A: Allocator, I: Read>(
     ensures count { input.new.reads ≤ input.old.reads + 1 }
     ensures device { result ≡ Err ShelfFault.Device
         → (input.new.has_failed ≡ true) × (input.new.is_over ≡ true) }
+    ensures found { result ≢ Err ShelfFault.NotFound }
 {
     match read_at(input, buffer.as_mut_slice(), filled) {
         Ok(n) => Ok(n),
@@ -73,6 +74,7 @@ fn read_more<A: Allocator, I: Read>(
     ensures count { input.new.reads ≤ input.old.reads + 1 }
     ensures device { result ≡ Err ShelfFault.Device
         → (input.new.has_failed ≡ true) × (input.new.is_over ≡ true) }
+    ensures found { result ≢ Err ShelfFault.NotFound }
 {
     if filled == buffer.len() {
         let longer = (filled + MORE_ROOM).min(MAX_TEXT + 1);
@@ -97,6 +99,7 @@ pub(crate) fn read_text<A: Allocator, I: Read>(
     ensures reads { input.new.reads ≤ input.old.reads + (MAX_TEXT + 1) }
     ensures device { result ≡ Err ShelfFault.Device
         → (input.new.has_failed ≡ true) × (input.new.is_over ≡ true) }
+    ensures found { result ≢ Err ShelfFault.NotFound }
 {
     if buffer.is_empty() && buffer.reserve(FIRST_ROOM).is_err() {
         return Err(ShelfFault::OutOfMemory);

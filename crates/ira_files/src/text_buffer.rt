@@ -1,4 +1,4 @@
-ghost use Rattle.std.specs.Prelude.{◌≡◌, ◌≤◌, ◌+◌, true, [], Err, IfOk, OnErr};
+ghost use Rattle.std.specs.Prelude.{◌≡◌, ◌≢◌, ◌≤◌, ◌+◌, true, [], Err, IfOk, OnErr};
 ghost use Rattle.ira_files.specs.ReadText.{IsReadTo};
 
 use crate::counting_reader::CountingReader;
@@ -62,6 +62,7 @@ impl<A: Allocator> TextBuffer<A> {
         ensures reads { input.new.reads ≤ input.old.reads + (MAX_TEXT + 1) }
         ensures device { result ≡ Err ShelfFault.Device
             → (input.new.has_failed ≡ true) × (input.new.is_over ≡ true) }
+        ensures found { result ≢ Err ShelfFault.NotFound }
     {
         self.filled = 0;
         self.filled = read_text(input, &mut self.buffer)?;

@@ -1,4 +1,4 @@
-ghost use Rattle.std.specs.Prelude.{◌≡◌, ◌+◌, ◌≤◌, ◌<◌, ◌++◌, true, false, [], List, ℕ, IfOk, IfErr, OnOk, length};
+ghost use Rattle.std.specs.Prelude.{◌≡◌, ◌≢◌, ◌+◌, ◌≤◌, ◌<◌, ◌++◌, true, false, [], List, ℕ, IfOk, IfErr, OnOk, length};
 ghost use Rattle.ira_audit.specs.LogTextAnswer.{IsLogTextAnswer};
 ghost use Rattle.ira_audit.specs.Report.{IsReportable};
 ghost use Rattle.ira_files.specs.ReadText.{IsReadOnce, IsReadTo};
@@ -101,6 +101,7 @@ impl<A: Allocator> InputAudit<A> {
         ensures count { input.new.reads ≤ input.old.reads + 1 }
         ensures device { result ≡ Err ShelfFault.Device
             → (input.new.has_failed ≡ true) × (input.new.is_over ≡ true) }
+        ensures found { result ≢ Err ShelfFault.NotFound }
     {
         self.filled += read_after(input, &mut self.buffer, self.filled)?;
         Ok(())
@@ -127,6 +128,7 @@ pub(crate) fn audit_input<A: Allocator, I: Read>(
     ensures reads { input.new.reads ≤ input.old.reads + (MAX_TEXT + 1) }
     ensures device { result ≡ Err ShelfFault.Device
         → (input.new.has_failed ≡ true) × (input.new.is_over ≡ true) }
+    ensures found { result ≢ Err ShelfFault.NotFound }
 {
     let mut audit = InputAudit::new(alloc)?;
     while !input.is_over() && audit.len() <= MAX_TEXT {

@@ -5,7 +5,7 @@ pub returns-in-Ok : goal.returns-in-Ok
 returns-in-Ok g c =
     let read = c.in-Ok.ensures in
     let texts = read.2.0 in
-    let judged = c.in_ok-judge.ensures texts read.2.1 in
+    let judged = c.in_ok-judge-in-Ok.ensures texts read.2.1 in
     record {
       names = read.0;
       names_are = read.1;

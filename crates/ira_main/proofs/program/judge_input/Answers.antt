@@ -6,6 +6,7 @@ use Rattle.ira_main.proofs.program.judge_input.Goals as goal
 pub returns-in-Err-clause-judged : goal.returns-in-Err-clause-judged
 returns-in-Err-clause-judged g c =
     unjudged _ _ c.in-Err.fault _ _ _ _ refl c.cannot_read.ensures (λ e. c.in-Err.ensures.device (ap (λ f. Err f) e))
+    (λ e. c.in-Err.ensures.found (ap (λ f. Err f) e))
 
 pub returns-in-Ok-clause-judged : goal.returns-in-Ok-clause-judged
 returns-in-Ok-clause-judged g c =
