@@ -1,4 +1,5 @@
-use Rattle.std.proofs.Common.{◌≡◌, ◌∙◌, ℕ, List, inl, inr, refl, rules, subst, sym}
+use Rattle.std.proofs.Common.{◌≡◌, ◌∙◌, ℕ, List, Err, ap, inl, inr, refl, rules, subst, sym}
+use Rattle.std.proofs.lemmas.Result.{err_from_is_err_and}
 use Rattle.ira_audit.specs.Judged.{IsJudged}
 use Rattle.ira_audit.proofs.TextRuns.{yes_runs}
 use Rattle.ira_audit.specs.RingAnswer.{IsRingAnswer}
@@ -37,3 +38,8 @@ explain_texts-requires g c =
     let first : texts_of c.deref-3.result.now ≡ c.in_ok-files.files.items = search rules in
     let second : texts_of c.deref-4.result.now ≡ c.in_ok-files.files.items = search rules in
     subst (λ (texts : List (List ℕ)). IsJudged texts c.in_ok-judged.judged) (first ∙ sym second) c.in_ok-judged.ensures
+
+pub returns-in_err-view : goal.returns-in_err-view
+returns-in_err-view g c =
+    let p = err_from_is_err_and c.from_residual-in_err-view.result c.from_residual-in_err-view.ensures.1 in
+    inl (_, c.in_ok-names.ensures, inr (OutOfMemory, inr refl, refl, p.1 ∙ ap (λ f. Err f) p.2))

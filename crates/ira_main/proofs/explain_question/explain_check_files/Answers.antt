@@ -1,6 +1,7 @@
 use Rattle.std.proofs.Common.{◌≡◌, ◌∙◌, ℕ, List, [], ◌∷◌, inl, inr, refl, rules, Err, ap, subst, sym}
 use Rattle.ira_audit.specs.Judged.{IsJudged}
 use Rattle.std.proofs.lemmas.Result.{err_from_is_err_and}
+use Rattle.ira_view_page.specs.declared.named_text.NamedText.{NamedText}
 use Rattle.ira_views.specs.Texts.{texts_of}
 use Rattle.ira_main.proofs.FilesRead.{of_back, of_front}
 use Rattle.ira_main.specs.FilesRead.{names_of}
@@ -10,9 +11,11 @@ use Rattle.ira_main.proofs.explain_question.explain_check_files.Goals as goal
 pub returns : goal.returns
 returns g c =
     let view = c.in_ok-view.view in
-    let same : texts_of c.deref-4.result.now ≡ c.in_ok-files.files.items = search rules in
-    let asked : c.named-question.result.text.now ≡ c.in_ok-question.question = search rules in
-    let certified : c.named-certificate.result.text.now ≡ c.in_ok-certificate.certificate = search rules in
+    let same : texts_of c.deref-4.result.now ≡ c.in_ok-files.files.items =
+    ap (λ (named : List NamedText). texts_of named) c.deref-4.ensures.value ∙ c.in_ok-named.ensures
+    ∙ c.deref-2.ensures.value in
+    let asked : c.named.result.text.now ≡ c.in_ok-question.question = c.named.ensures in
+    let certified : c.named-2.result.text.now ≡ c.in_ok-certificate.certificate = c.named-2.ensures in
     elim c.print_view.ensures [
       | inl told ↦
           inl (
@@ -104,9 +107,10 @@ returns-in_err-view g c =
 
 pub explain_certified-requires : goal.explain_certified-requires
 explain_certified-requires g c =
-    let first : texts_of c.deref-3.result.now ≡ c.in_ok-files.files.items = search rules in
-    let second : texts_of c.deref-4.result.now ≡ c.in_ok-files.files.items = search rules in
-    subst (λ (texts : List (List ℕ)). IsJudged texts c.in_ok-judged.judged) (first ∙ sym second) c.in_ok-judged.ensures
+    let judged : IsJudged (texts_of c.deref-4.result.now) c.in_ok-judged.judged =
+    subst (λ (named : List NamedText). IsJudged (texts_of named) c.in_ok-judged.judged)
+    (c.deref-3.ensures.value ∙ sym c.deref-4.ensures.value) c.in_ok-judged.ensures in
+    search rules
 
 pub returns-in_err-judged : goal.returns-in_err-judged
 returns-in_err-judged g c =

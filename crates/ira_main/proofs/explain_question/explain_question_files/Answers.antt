@@ -2,6 +2,7 @@ use Rattle.std.proofs.Common.{◌≡◌, ◌∙◌, ℕ, List, [], ◌∷◌, in
 use Rattle.ira_audit.specs.Judged.{IsJudged}
 use Rattle.ira_audit.specs.Findings.{AreFindings}
 use Rattle.std.proofs.lemmas.Result.{err_from_is_err_and}
+use Rattle.ira_view_page.specs.declared.named_text.NamedText.{NamedText}
 use Rattle.ira_views.specs.Texts.{texts_of}
 use Rattle.ira_main.proofs.FilesRead.{of_back, of_front}
 use Rattle.ira_main.specs.FilesRead.{names_of}
@@ -11,8 +12,10 @@ use Rattle.ira_main.proofs.explain_question.explain_question_files.Goals as goal
 pub returns : goal.returns
 returns g c =
     let findings = c.in_ok-view.view.findings in
-    let same : texts_of c.deref-4.result.now ≡ c.in_ok-files.files.items = search rules in
-    let asked : c.named.result.text.now ≡ c.in_ok-question.question = search rules in
+    let same : texts_of c.deref-4.result.now ≡ c.in_ok-files.files.items =
+    ap (λ (named : List NamedText). texts_of named) c.deref-4.ensures.value ∙ c.in_ok-named.ensures
+    ∙ c.deref-2.ensures.value in
+    let asked : c.named.result.text.now ≡ c.in_ok-question.question = c.named.ensures in
     elim c.print_findings_view.ensures [
       | inl told ↦
           inl (
@@ -85,9 +88,8 @@ returns-in_err-view g c =
 
 pub explain_findings-requires : goal.explain_findings-requires
 explain_findings-requires g c =
-    let first : texts_of c.deref-3.result.now ≡ c.in_ok-files.files.items = search rules in
-    let second : texts_of c.deref-4.result.now ≡ c.in_ok-files.files.items = search rules in
-    subst (λ (texts : List (List ℕ)). IsJudged texts c.in_ok-judged.judged) (first ∙ sym second) c.in_ok-judged.ensures
+    subst (λ (named : List NamedText). IsJudged (texts_of named) c.in_ok-judged.judged)
+    (c.deref-3.ensures.value ∙ sym c.deref-4.ensures.value) c.in_ok-judged.ensures
 
 pub returns-in_err-judged : goal.returns-in_err-judged
 returns-in_err-judged g c =
