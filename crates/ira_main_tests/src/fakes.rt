@@ -137,7 +137,6 @@ impl TextSource for MemoryShelf<'_> {
     fn read<A: Allocator>(&self, name: &str, text: &mut TextBuffer<A>) -> Result<(), ShelfFault> {
         match self.bytes_of(name) {
             Some(bytes) => text.fill(&mut CountingReader::new(bytes)),
-            None if self.file(name).is_some() => Err(ShelfFault::Device),
             None => Err(ShelfFault::NotFound),
         }
     }
