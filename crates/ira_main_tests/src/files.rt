@@ -72,10 +72,7 @@ fn files_that_cannot_be_used(rt: HostRuntime) {
         (".", ShelfFault::Device),
         ("/dev/full", ShelfFault::Device),
     ] {
-        assert!(rt;
-            write(&mut shelf, name, b"end 0\n") == Err(fault),
-            "{name}"
-        );
+        assert!(rt; write(&mut shelf, name, b"end 0\n") == Err(fault), "{name}");
     }
 }
 
