@@ -4,7 +4,7 @@ PREFIX = /usr/local
 JOBS := $(shell nproc)
 START := $(shell date +%s)
 
-# The libraries that the program stands on, those first for which others wait longest; those of the longest chains among
+# The libraries that the program uses, those first for which others wait longest; those of the longest chains among
 # them; and those that one of them names.
 CHAINS := $(shell sh build/chain.sh | sed 's/ .* /:/')
 LIBRARIES := $(foreach it,$(CHAINS),$(firstword $(subst :, ,$(it))))
@@ -50,12 +50,12 @@ help:
 	@echo '                The last line says which ran, and what was skipped and why'
 	@echo 'make clean      removes what was built and proved'
 
-# A crate is proved by the cores that no other crate has, one of the longest chains by two at least; the others stand back
-# for these.
+# A crate is proved by the cores that no other crate has, one of the longest chains by two at least; all others have a lower
+# priority than these.
 least_cores_of = $(if $(filter $(1),$(LONGEST) ira),2,1)
 pace_of = $(if $(filter $(1),$(LONGEST) ira),,nice -n 5)
 
-# As many crates at a time as there are cores, and one that stands back. `make` begins with what it is given first.
+# As many crates at a time as there are cores, and one more. `make` begins with what it is given first.
 ira:
 	@$(needs_kit)
 	@mkdir -p bin && rm -f bin/*.begun
@@ -63,7 +63,7 @@ ira:
 	@$(MAKE) --no-print-directory -j $$(($(JOBS) + 1)) START=$(START) $(LIBRARIES:%=bin/%.proved) bin/ira.proved
 	@$(say) 'proved and built: bin/ira'
 
-# A crate is proved again where a text of its own has changed, or one of what it stands on.
+# A crate is proved again where a text of its own has changed, or one of a crate that it uses.
 $(LIBRARIES:%=bin/%.proved) bin/ira.proved: bin/%.proved: build/prove.sh
 	@touch bin/$*.begun
 	@$(say) 'begun:  $*'

@@ -1,5 +1,5 @@
 #!/bin/sh
-# sh build/chain.sh  prints each library that the program stands on, those first for which the most lines of others wait:
+# sh build/chain.sh  prints each library that the program uses, those first for which the most lines of others wait:
 # its name, the lines of the longest chain of crates that goes through it, and `longest` where that is the longest of all
 # or at most a tenth shorter, else `-`.
 set -e

@@ -1,6 +1,6 @@
 #!/bin/sh
 # sh build/prove.sh NAME JOBS  proves the crate NAME with so many jobs, as the gate does: from nothing, over the statements of
-# what it stands on, which is proved by then. What others need of a library is left at bin/NAME.rlib, a program at bin/NAME.
+# what it uses, which is proved by then. What others need of a library is left at bin/NAME.rlib, a program at bin/NAME.
 set -e
 name=$1 jobs=$2 here=$PWD
 kit=$(dirname "$(dirname "$(realpath "$(command -v rattle)")")")

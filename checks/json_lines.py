@@ -78,7 +78,7 @@ class Files:
 
 
 def check_record(files, names, value):
-    """An event's record stands in the file of its node, four lines further on than its number says."""
+    """An event's record is in the file of its node, four lines further on than its number says."""
     assert value['file'] == names[value['node']] and value['line'] == value['event'] + 4, value
     assert files.line(value['file'], value['line']) == value['record'].encode(), value
 
@@ -114,7 +114,7 @@ def check_front(names, page, value):
 
 
 def check_evidence(names, page, answer):
-    """Each object speaks of what stands in the files, and is that of the reason."""
+    """Each object speaks of what is in the files, and is that of the reason."""
     files, roles = Files(), {}
     for value in answer.get('evidence', []):
         role = value['role']
@@ -169,7 +169,7 @@ def check_node(names, roles, answer):
 
 
 def check_explained(reader, options, names):
-    """The answer with what it rests on; hints stand on the page. Gives the lines."""
+    """The answer with what it rests on; hints are on the page. Gives the lines."""
     _, page = reader.run('explain', *options, *names)
     _, values = reader.json('explain', '--json', *options, *names)
     answer = values[0]
@@ -186,7 +186,7 @@ def check_explained(reader, options, names):
 
 
 def check_asks(question, page, cases):
-    """What the cases that are explained ask stands in the question."""
+    """What the cases that are explained ask is in the question."""
     files = Files()
     for value in cases:
         asks = value.pop('asks', None)

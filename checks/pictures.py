@@ -202,12 +202,12 @@ class Drawn:
 
 
 def words(state):
-    """A state as the tooltip tells it."""
+    """A state as the tooltip shows it."""
     turn = f'round {state.round}' + (f' of term {state.term}' if state.term > 1 else '')
-    told = {'choosing': f'choosing in {turn}', 'active': f'active in {turn} with ID {state.id}',
-            'leader': f'leader in {turn} with ID {state.id}'}.get(
+    shown = {'choosing': f'choosing in {turn}', 'active': f'active in {turn} with ID {state.id}',
+             'leader': f'leader in {turn} with ID {state.id}'}.get(
         state.phase, state.phase + (f' in term {state.term}' if state.term > 1 else ''))
-    return told + (', owes ' + ' '.join(state.owed) if state.owed else '')
+    return shown + (', owes ' + ' '.join(state.owed) if state.owed else '')
 
 
 def check(text, ring, cut=None, first=None, last=None):
@@ -323,10 +323,10 @@ def check(text, ring, cut=None, first=None, last=None):
         named = {(i, stops[i])} | set(least.items())
     assert ringed == {(drawn.rows[i], drawn.marks[i, p]) for i, p in named if (i, p) in drawn.marks}
     # The words for those who don't see it.
-    told = drawn.root.find(S + 'desc').text.split('\n')
+    lines = drawn.root.find(S + 'desc').text.split('\n')
     for i in range(min(n, 64)):
         number = len(ring.events[i])
-        assert told[i + 1].startswith(f"node {i}: {number} event{'' if number == 1 else 's'}, {words(ring.states[i][-1])}")
+        assert lines[i + 1].startswith(f"node {i}: {number} event{'' if number == 1 else 's'}, {words(ring.states[i][-1])}")
     title = drawn.root.find(S + 'title').text
     leaders = [f"node {i} {words(s[-1]).replace('leader', 'leads')}" for i, s in enumerate(ring.states) if s[-1].phase == 'leader']
     assert title.startswith('no: ') if named else title == ('; '.join(leaders) or 'nobody leads yet')

@@ -167,12 +167,12 @@ def check_events(reader, ring, names, cut):
         step_of[i, p] = int(number)
         assert len(step_of) == int(number) and p == made[i], row
         happened, before, after = ring.events[i][p - 1], ring.states[i][p - 1], ring.states[i][p]
-        told = ' '.join(happened)
+        due = ' '.join(happened)
         if happened[0] == 'recv':
-            told += f'  of step {step_of[ring.sending(i, p)]}'
+            due += f'  of step {step_of[ring.sending(i, p)]}'
         if happened[0] != 'send':
-            told += '  ' + change_of(before, after)
-        assert re.sub('   +', '  ', what).rstrip() == told, (row, told)
+            due += '  ' + change_of(before, after)
+        assert re.sub('   +', '  ', what).rstrip() == due, (row, due)
     assert made == [len(events) for events in ring.events] and here == ([at] if cut else []), names
 
 
@@ -223,7 +223,7 @@ def check_link(lines, ring, names, answer):
 
 
 def check_circle(lines, ring, names):
-    """Each node's first event that can't come, and the sending that it waits for, with the one that it stands after."""
+    """Each node's first event that can't come, and the sending that it waits for, with the one that it comes after."""
     rows = [re.fullmatch(r'  node +(\d+)  (.+?):(\d+): (.*?)  +is sent by node (\d+)  (.+?):(\d+), after its line (\d+)', line)
             for line in lines]
     rows = [row.groups() for row in rows if row]

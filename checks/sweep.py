@@ -136,9 +136,9 @@ def has_given_up(words, found, ample):
 
 
 def swept(ira, words, refused, shim, most):
-    """How many runs of a command line told of a refusal, and how many gave a wrong answer, of so many runs at most."""
+    """How many runs of a command line reported a refusal, and how many gave a wrong answer, of so many runs at most."""
     ample = served(ira, words, refused, 0, shim)
-    number = told = wrong = untouched = 0
+    number = reported = wrong = untouched = 0
     while untouched < UNTOUCHED and number < most:
         number += 1
         found = served(ira, words, refused, number, shim)
@@ -147,11 +147,11 @@ def swept(ira, words, refused, shim, most):
             continue
         untouched = 0
         if has_given_up(words, found, ample):
-            told += 1
+            reported += 1
         else:
             wrong += 1
             print(f"WRONG: ira {' '.join(words)}: {refused} {number}: {found[0]}")
-    return told, wrong
+    return reported, wrong
 
 
 def linked(program, folder):
@@ -164,7 +164,7 @@ def linked(program, folder):
 
 
 def main(program, is_short):
-    all_told = all_moves = all_wrong = 0
+    all_reported = all_moves = all_wrong = 0
     lines, most = (SHORT, FEW) if is_short else (LINES, float("inf"))
     with tempfile.TemporaryDirectory() as folder:
         ira = linked(program, folder) if program.endswith(".o") else program
@@ -179,12 +179,12 @@ def main(program, is_short):
                 print(f"WRONG: ira {' '.join(words)}: no growth is refused")
             ample = served(ira, words, "REFUSE", 0, shim)
             moves, other = interrupted(ira, words, ample, shim)
-            all_told += growths + starts
+            all_reported += growths + starts
             all_moves += moves
             all_wrong += wrong + also_wrong + other + starved(ira, words, ample, shim)
-            told = f"{growths} growths and {starts} starts told, {moves} reads and writes interrupted"
-            print(f"ira {' '.join(words)}: {told}", flush=True)
-    print(f"sweep: {all_told} refusals told, {all_moves} reads and writes interrupted, {all_wrong} wrong answers")
+            found = f"{growths} growths and {starts} starts reported, {moves} reads and writes interrupted"
+            print(f"ira {' '.join(words)}: {found}", flush=True)
+    print(f"sweep: {all_reported} refusals reported, {all_moves} reads and writes interrupted, {all_wrong} wrong answers")
     return min(all_wrong, 1)
 
 
