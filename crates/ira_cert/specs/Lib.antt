@@ -5,6 +5,7 @@ pub mod QueuesAfter
 pub mod Laws
 pub mod Positions
 pub mod QueueHead
+pub mod SearchedLog
 pub mod SectionFault
 pub mod SharedTable
 pub mod SoundSection

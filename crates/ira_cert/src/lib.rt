@@ -12,6 +12,7 @@ mod profiled;
 mod profiles;
 mod queue_head;
 mod queues;
+mod searched_log;
 mod section_fault;
 mod shared_table;
 mod soundness;

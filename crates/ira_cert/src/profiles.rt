@@ -4,18 +4,19 @@ ghost use Rattle.ira_cert.specs.SharedTable.{AreCandidatesAt, IsTableOf};
 
 use crate::asked_clause::asked_clauses;
 use crate::positions::Positions;
+use crate::searched_log::SearchedLog;
 use crate::shared_table::{SharedTable, find_positions};
-use ira_cand::Profile;
-use ira_event::{Logs, OutOfMemory};
+use ira_event::{Logs, NodeLog, OutOfMemory};
 use ira_pred::{Case, Clause};
 use std::alloc::Allocator;
 use std::marker::Model;
 
 /// The profiles of a ring's logs, place by place, and candidates that several of some cases ask for, found once: of
-/// the first clauses that are asked, and no more positions together than the logs have.
+/// the first clauses that are asked, and no more positions together than the logs have. A log that none of these cases
+/// asks has no profile, and is searched event by event should another case ask it.
 #[derive(Drop)]
 pub struct Profiles<'a, 'q, A: Allocator> {
-    profiles: Vec<Profile<'a, A>, A>,
+    logs: Vec<SearchedLog<'a, A>, A>,
     shared: Vec<SharedTable<'q, A>, A>,
 }
 
@@ -26,9 +27,9 @@ impl<'a, 'q, A: Allocator> Model for Profiles<'a, 'q, A> {
 
     ghost Value = { List Log };
 
-    ghost view = { λ p. p.profiles.items };
+    ghost view = { λ p. p.logs.items };
 
-    ghost invariant = { λ p. All (IsTableOf p.profiles.items) p.shared.items };
+    ghost invariant = { λ p. All (IsTableOf p.logs.items) p.shared.items };
 }
 
 impl<'a, 'q, A: Allocator + Clone> Profiles<'a, 'q, A> {
@@ -40,9 +41,10 @@ impl<'a, 'q, A: Allocator + Clone> Profiles<'a, 'q, A> {
     ) -> Result<Profiles<'a, 'q, A>, OutOfMemory>
         ensures { IfOk result (λ profiles. profiles ≡ logs.now) }
     {
-        let profiles = all_profiles(alloc.clone()?, logs)?;
-        let shared = shared_tables(alloc, &profiles, cases, position_count(logs))?;
-        Ok(Profiles { profiles, shared })
+        let room = position_count(logs);
+        let logs = searched_logs(alloc.clone()?, logs, &asked_places(cases))?;
+        let shared = shared_tables(alloc, &logs, cases, room)?;
+        Ok(Profiles { logs, shared })
     }
 
     /// The candidates of the log at the place for the clause.
@@ -58,24 +60,51 @@ impl<'a, 'q, A: Allocator + Clone> Profiles<'a, 'q, A> {
         if let Some(positions) = find_positions(&self.shared, place, clause) {
             return Ok(Positions::shared(positions));
         }
-        let profile = &self.profiles[usize::from(place)];
-        Ok(Positions::own(profile.table(alloc, clause)?))
+        let log = &self.logs[usize::from(place)];
+        Ok(Positions::own(log.table(alloc, clause)?))
     }
 }
 
-/// The profile of each log.
-fn all_profiles<A: Allocator + Clone>(
+/// Place by place whether some case asks the node.
+fn asked_places<A: Allocator>(cases: &[Case<A>]) -> [bool; 256] {
+    let mut asked = [false; 256];
+    for case in cases {
+        for n in 0..case.len() {
+            asked[usize::from(case.place(n))] = true;
+        }
+    }
+    asked
+}
+
+/// The logs, those of the asked places with their profiles.
+fn searched_logs<'a, A: Allocator + Clone>(
     alloc: A,
-    logs: &Logs<A>,
-) -> Result<Vec<Profile<'_, A>, A>, OutOfMemory>
-    ensures { IfOk result (λ profiles. profiles.items ≡ logs.now) }
+    logs: &'a Logs<A>,
+    asked: &[bool; 256],
+) -> Result<Vec<SearchedLog<'a, A>, A>, OutOfMemory>
+    ensures { IfOk result (λ searched. searched.items ≡ logs.now) }
 {
     let nodes = logs.size().get();
-    let mut profiles = Vec::with_capacity(alloc.clone()?, usize::from(nodes))?;
+    let mut searched = Vec::with_capacity(alloc.clone()?, usize::from(nodes))?;
     for place in 0..nodes {
-        profiles.push(Profile::new(alloc.clone()?, logs.log(place))?)?;
+        searched.push(searched_log(alloc.clone()?, logs.log(place), asked[usize::from(place)])?)?;
     }
-    Ok(profiles)
+    Ok(searched)
+}
+
+/// The log, with its profile if it is asked.
+fn searched_log<A: Allocator + Clone>(
+    alloc: A,
+    log: &NodeLog<A>,
+    asked: bool,
+) -> Result<SearchedLog<'_, A>, OutOfMemory>
+    ensures { IfOk result (λ searched. searched ≡ log.now) }
+{
+    if asked {
+        SearchedLog::profiled(alloc, log)
+    } else {
+        Ok(SearchedLog::whole(log))
+    }
 }
 
 /// How many positions the logs have.
@@ -92,21 +121,21 @@ fn position_count<A: Allocator>(logs: &Logs<A>) -> usize {
 /// The tables that several of the cases ask for, as far as they have no more positions than these.
 fn shared_tables<'q, A: Allocator + Clone>(
     alloc: A,
-    profiles: &[Profile<'_, A>],
+    logs: &[SearchedLog<'_, A>],
     cases: &'q [Case<A>],
     mut room: usize,
 ) -> Result<Vec<SharedTable<'q, A>, A>, OutOfMemory>
-    ensures { IfOk result (λ tables. All (IsTableOf profiles.now) tables.items) }
+    ensures { IfOk result (λ tables. All (IsTableOf logs.now) tables.items) }
 {
     let mut tables = Vec::new(alloc.clone()?);
     for asked in &asked_clauses(alloc.clone()?, cases)? {
-        let Some(profile) = profiles.get(usize::from(asked.place)) else {
+        let Some(log) = logs.get(usize::from(asked.place)) else {
             continue;
         };
         if !asked.several {
             continue;
         }
-        let positions = profile.table(alloc.clone()?, asked.clause)?;
+        let positions = log.table(alloc.clone()?, asked.clause)?;
         if positions.len() > room {
             break;
         }

@@ -14,9 +14,9 @@ returns-in-Some g c =
 pub returns : goal.returns
 returns g c =
     let logs = c.args.self.now in
-    let log = c.index-profile.result.now in
+    let log = c.index-log.result.now in
     let is : log ≡ get_or logs c.args.place log =
-    c.index-profile.ensures ∙ ap (λ (ls : List Log). get_or ls c.from.result log) c.self.view_is
+    c.index-log.ensures ∙ ap (λ (ls : List Log). get_or ls c.from.result log) c.self.view_is
     ∙ ap (λ i. get_or logs i log) c.from.ensures in
     let at : slice_get logs c.args.place ≡ Some log =
     slice_get-get_or logs c.args.place log c.requires ∙ ap (λ (x : Log). Some x) (sym is) in
