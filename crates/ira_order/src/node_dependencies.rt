@@ -2,9 +2,9 @@ ghost use Rattle.std.specs.Prelude.{◌≡◌, ◌≤◌, ◌-◌, List, IfOk, S
 ghost use Rattle.ira_event.specs.declared.event.Event.{Event};
 ghost use Rattle.ira_order.specs.Matching.{got};
 ghost use Rattle.ira_order.specs.Stamps.{AreReceipts};
-ghost use Rattle.ira_order.specs.DirectDependencies.{AreDependencies, AreSendings};
+ghost use Rattle.ira_order.specs.DirectDependencies.{AreDependencies};
 
-use crate::receipt_numbers::{receipt_numbers, received_by};
+use crate::receipt_numbers::received_by;
 use ira_event::{Event, NodeLog};
 use std::alloc::{AllocError, Allocator};
 use std::marker::Model;
@@ -34,35 +34,28 @@ impl<A: Allocator> Model for NodeDependencies<A> {
     ghost view = { λ a. record { receipts = a.receipts.items; sendings = a.sendings.items } };
 }
 
-/// The sendings of a log.
-fn sendings_of<A: Allocator>(alloc: A, log: &NodeLog<A>) -> Result<Vec<Sending, A>, AllocError>
-    ensures { IfOk result (λ sendings. AreSendings log.now.events sendings.items) }
-{
-    let mut sendings = Vec::with_capacity(alloc, log.len())?;
-    let mut number = 0;
-    let mut received = 0;
-    for event in log.events() {
-        number += 1;
-        match event {
-            Event::Got(_) => received += 1,
-            Event::Sent(_) => sendings.push(Sending { number, received })?,
-            Event::Draw(_) | Event::Yield => {}
-        }
-    }
-    Ok(sendings)
-}
-
 impl<A: Allocator> NodeDependencies<A> {
-    /// The receipts and the sendings of a log.
+    /// The receipts and the sendings of a log, found in one pass.
     pub(crate) fn of_log(alloc: A, log: &NodeLog<A>) -> Result<NodeDependencies<A>, AllocError>
     where
         A: Clone,
         ensures { IfOk result (AreDependencies log.now.events) }
     {
-        Ok(NodeDependencies {
-            receipts: receipt_numbers(alloc.clone()?, log)?,
-            sendings: sendings_of(alloc, log)?,
-        })
+        let mut receipts = Vec::with_capacity(alloc.clone()?, log.len())?;
+        let mut sendings = Vec::with_capacity(alloc, log.len())?;
+        let mut number = 0;
+        for event in log.events() {
+            number += 1;
+            match event {
+                Event::Got(_) => receipts.push(number)?,
+                Event::Sent(_) => {
+                    let received = receipts.len() as u32;
+                    sendings.push(Sending { number, received })?;
+                }
+                Event::Draw(_) | Event::Yield => {}
+            }
+        }
+        Ok(NodeDependencies { receipts, sendings })
     }
 
     /// How many messages the node has received with event `b` of its log.

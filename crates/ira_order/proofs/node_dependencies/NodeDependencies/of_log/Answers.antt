@@ -1,55 +1,50 @@
 use Rattle.std.proofs.Common.{◌≡◌, ◌∷◌, ◌∙◌, [], sym, arith, rules}
 use Rattle.ira_event.specs.declared.event.Event.TheVariants.{Got, Sent}
 use Rattle.std.proofs.lemmas.Option.{slice_get_within}
-use Rattle.ira_order.specs.Matching.{receipt}
-use Rattle.ira_order.proofs.OrderPrefixes.{counted_more, receives_nothing}
-use Rattle.ira_order.proofs.Receipts.{got_le, receipts_le, next_ahead, none_ahead}
+use Rattle.ira_order.proofs.Receipts.{got_le, receipts_le, next_ahead, none_ahead, number_more, number_over}
+use Rattle.ira_order.proofs.Receipts.{numbers_end}
 use Rattle.ira_order.proofs.Sendings.{sending_more, sending_over, sendings_end}
-use Rattle.ira_order.proofs.node_dependencies.sendings_of.Goals as goal
+use Rattle.ira_order.proofs.node_dependencies.NodeDependencies.of_log.Goals as goal
 
-pub overflow_add-received : goal.overflow_add-received
-overflow_add-received g c =
-    omega (
-      arith,
-      c.loop-event.invariant.received,
-      got_le c.args.log.now.events c.loop-event.number,
-      receipts_le c.args.log.now.events,
-      c.len.ensures.valid.count,
-    )
-
-pub loop-event-preserved-in-Got : goal.loop-event-preserved-in-Got
-loop-event-preserved-in-Got g c =
+pub loop-event-preserved-in_ok-push-in-Got : goal.loop-event-preserved-in_ok-push-in-Got
+loop-event-preserved-in_ok-push-in-Got g c =
     let front : c.loop-event.event-iterator ≡ Got c.in-Got.field-0 ∷ c.next.new.self = search rules in
     let at = next_ahead c.args.log.now.events c.loop-event.number (Got c.in-Got.field-0) c.next.new.self (sym front
     ∙ c.loop-event.invariant.ahead) in
     record {
       ahead = at.1;
       within = omega (arith, slice_get_within c.args.log.now.events c.loop-event.number (Got c.in-Got.field-0) at.0);
-      received = omega (
-        arith,
-        c.loop-event.invariant.received,
-        counted_more receipt c.args.log.now.events c.loop-event.number (Got c.in-Got.field-0) at.0,
-      );
+      receipts = rw c.in_ok-push-in-Got.ensures.items
+          (number_more c.args.log.now.events c.loop-event.number c.in-Got.field-0 _ at.0
+          c.loop-event.invariant.receipts);
       sendings = sending_over c.args.log.now.events c.loop-event.number (Got c.in-Got.field-0) _ at.0 (λ m q.
           cc) c.loop-event.invariant.sendings;
     }
 
-pub loop-event-preserved-in-Continue-branch-2 : goal.loop-event-preserved-in-Continue-branch-2
-loop-event-preserved-in-Continue-branch-2 g c =
+pub overflow_cast-received : goal.overflow_cast-received
+overflow_cast-received g c =
+    omega (
+      arith,
+      c.len-received.ensures,
+      c.loop-event.invariant.receipts.count,
+      got_le c.args.log.now.events c.loop-event.number,
+      receipts_le c.args.log.now.events,
+      c.len.ensures.valid.count,
+    )
+
+pub loop-event-preserved-in_ok-push-in-Sent : goal.loop-event-preserved-in_ok-push-in-Sent
+loop-event-preserved-in_ok-push-in-Sent g c =
     let front : c.loop-event.event-iterator ≡ Sent c.in-Sent.field-0 ∷ c.next.new.self = search rules in
     let at = next_ahead c.args.log.now.events c.loop-event.number (Sent c.in-Sent.field-0) c.next.new.self (sym front
     ∙ c.loop-event.invariant.ahead) in
     record {
       ahead = at.1;
       within = omega (arith, slice_get_within c.args.log.now.events c.loop-event.number (Sent c.in-Sent.field-0) at.0);
-      received = omega (
-        arith,
-        c.loop-event.invariant.received,
-        counted_more receipt c.args.log.now.events c.loop-event.number (Sent c.in-Sent.field-0) at.0,
-      );
+      receipts = number_over c.args.log.now.events c.loop-event.number (Sent c.in-Sent.field-0) _ at.0 (λ m q.
+          cc) c.loop-event.invariant.receipts;
       sendings = rw c.in_ok-push-in-Sent.ensures.items
           (sending_more c.args.log.now.events c.loop-event.number c.in-Sent.field-0 _ _ at.0 (omega arith)
-          c.loop-event.invariant.received c.loop-event.invariant.sendings);
+          (omega (arith, c.len-received.ensures, c.loop-event.invariant.receipts.count)) c.loop-event.invariant.sendings);
     }
 
 pub loop-event-preserved : goal.loop-event-preserved
@@ -60,12 +55,8 @@ loop-event-preserved g c =
     record {
       ahead = at.1;
       within = omega (arith, slice_get_within c.args.log.now.events c.loop-event.number c.in-Some.event at.0);
-      received = omega (
-        arith,
-        c.loop-event.invariant.received,
-        counted_more receipt c.args.log.now.events c.loop-event.number c.in-Some.event at.0,
-        receives_nothing c.in-Some.event (search rules),
-      );
+      receipts = number_over c.args.log.now.events c.loop-event.number c.in-Some.event _ at.0 (search rules)
+          c.loop-event.invariant.receipts;
       sendings = sending_over c.args.log.now.events c.loop-event.number c.in-Some.event _ at.0 (search rules)
           c.loop-event.invariant.sendings;
     }
@@ -73,6 +64,8 @@ loop-event-preserved g c =
 pub returns : goal.returns
 returns g c =
     let front : c.loop-event.event-iterator ≡ [] = search rules in
-    sendings_end c.args.log.now.events c.loop-event.number _
-    (none_ahead c.args.log.now.events c.loop-event.number (sym front ∙ c.loop-event.invariant.ahead))
-    c.loop-event.invariant.sendings
+    let past = none_ahead c.args.log.now.events c.loop-event.number (sym front ∙ c.loop-event.invariant.ahead) in
+    record {
+      receipts = numbers_end c.args.log.now.events c.loop-event.number _ past c.loop-event.invariant.receipts;
+      sendings = sendings_end c.args.log.now.events c.loop-event.number _ past c.loop-event.invariant.sendings;
+    }
