@@ -82,8 +82,11 @@ one_line logs cut one other line others_line are others =
 pub column_rises : (logs : List Log) (cut : List ℕ) (column : ℕ → ℕ → ℕ) (line i a b : ℕ)
     → AreColumns logs cut column line → IsEvent logs i b → 1 ≤ a → a < b → column i a < column i b
 column_rises logs cut column line i a b are event first less =
-    let is_a : IsEvent logs i a = record { place = event.place; first = first; within = omega (arith, less, event.within) }
-    in
+    let is_a : IsEvent logs i a = record {
+      place = event.place;
+      first = first;
+      within = omega (arith, less, event.within);
+    } in
     elim (cases_lt (are.come i) b) [
       | inl late ↦ elim (cases_lt (are.come i) a) [
         | inl both ↦ omega (arith, are.others i a is_a both, are.others i b event late, both, less)

@@ -213,7 +213,8 @@ module _ (logs : List Log) (cut : List ℕ) (steps : List TrailStep) (r : TrailS
       )
 
 -- the columns of a whole trail, and those of the other events
-module _ (logs : List Log) (cut : List ℕ) (steps : List TrailStep) (nodes : List (List ℕ)) (last : ℕ) (columns : Columns)
+module _ (logs : List Log) (cut : List ℕ) (steps : List TrailStep) (nodes : List (List ℕ)) (last : ℕ)
+    (columns : Columns)
     (trail : IsTrail logs cut steps)
     (table : IsTable logs cut steps nodes last columns.line)
     (places : length columns.nodes ≡ length logs)

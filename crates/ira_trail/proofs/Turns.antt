@@ -91,9 +91,10 @@ module _ (trail : Trail) (steps : List TrailStep) (given : HasGiven trail steps)
   done_there = given.done trail.place here
 
   -- how far the node may go
-  module _ (limit : ℕ) (of_cut : trail.is_past_cut ≡ false
-      → limit ≡ min (slice_index trail.cut trail.place) (length (log_of trail.logs trail.place))) (of_log : trail.is_past_cut ≡ true
-      → limit ≡ length (log_of trail.logs trail.place)) where
+  module _ (limit : ℕ)
+      (of_cut : trail.is_past_cut ≡ false
+      → limit ≡ min (slice_index trail.cut trail.place) (length (log_of trail.logs trail.place)))
+      (of_log : trail.is_past_cut ≡ true → limit ≡ length (log_of trail.logs trail.place)) where
     pub at_limit : slice_index trail.done trail.place ≡ limit
         → MayCome trail.logs trail.cut trail.is_past_cut steps trail.place → ⊥
     at_limit done may = elim (false_or_true trail.is_past_cut) [
@@ -269,8 +270,8 @@ module _ (trail : Trail) (steps : List TrailStep) (given : HasGiven trail steps)
     pub plain_step : receipt e ≡ None → sending e ≡ None
         → HasGiven (after_step trail) (steps ++ step_now trail None ∷ [])
     plain_step no_receipt no_sending =
-        given_more trail steps given (step_now trail None) (after_step trail).done trail.links trail.unreceived here refl
-        record { event = within; sent = λ j a link pair. absurd (never no_receipt j a link pair); in_turn = in_turn }
+        given_more trail steps given (step_now trail None) (after_step trail).done trail.links trail.unreceived here
+        refl record { event = within; sent = λ j a link pair. absurd (never no_receipt j a link pair); in_turn = in_turn }
         (number None) refl (in_cut_told None) (no_receipt_now None (never no_receipt))
         (earlier None (λ s a at_a link pair.
         absurd (never no_receipt a.place a.event link (subst (IsPair trail.logs a.place a.event) (number None) pair))))
@@ -614,8 +615,8 @@ module _ (trail : Trail) (steps : List TrailStep) (given : HasGiven trail steps)
         received_step links unreceived links_are unreceived_are early =
             let no_sending : sending e ≡ None = ap sending is in
             let other : prev (length trail.logs) trail.place ≢ trail.place =
-            λ z. next_other (length trail.logs) (prev (length trail.logs) trail.place) two (writer_below m is) (link_in m is
-            ∙ sym z) in
+            λ z. next_other (length trail.logs) (prev (length trail.logs) trail.place) two (writer_below m is)
+            (link_in m is ∙ sym z) in
             let g : gots trail.logs (steps ++ step_now trail (Some x.step)
             ∷ []) (next (length trail.logs) (prev (length trail.logs) trail.place))
             ≡ gots trail.logs steps trail.place + 1 =
@@ -664,8 +665,8 @@ module _ (trail : Trail) (steps : List TrailStep) (given : HasGiven trail steps)
               | inr ne ↦ rw (
                 unreceived_are,
                 gots_elsewhere (Some x.step) (next (length trail.logs) i)
-                    (λ link. ne (one_link (length trail.logs) (prev (length trail.logs) trail.place) i trail.place here l
-                    (writer_below m is) link (link_in m is))),
+                    (λ link. ne (one_link (length trail.logs) (prev (length trail.logs) trail.place) i trail.place
+                    here l (writer_below m is) link (link_in m is))),
               )
                   (get_or-set_other trail.unreceived (prev (length trail.logs) trail.place) i
                   (slice_index trail.unreceived (prev (length trail.logs) trail.place) - 1) 0 ne ∙ given.left i l)
@@ -675,8 +676,8 @@ module _ (trail : Trail) (steps : List TrailStep) (given : HasGiven trail steps)
               | inl old ↦
                   let apart : next (length trail.logs) i ≢ trail.place =
                   λ link. old.0 (one_link (length trail.logs) (prev (length trail.logs) trail.place) i trail.place
-                  here (omega (arith, slice_get_within trail.links i sendings old.1, given.links)) (writer_below m is) link
-                  (link_in m is)) in
+                  here (omega (arith, slice_get_within trail.links i sendings old.1, given.links)) (writer_below m is)
+                  link (link_in m is)) in
                   way_same trail.logs trail.cut steps (step_now trail (Some x.step)) i sendings
                   (gots_elsewhere (Some x.step) (next (length trail.logs) i) apart)
                   (sents_same (Some x.step) i (λ z. no_sending)) (given.on_their_way i sendings old.1)

@@ -14,7 +14,7 @@ use Rattle.ira_trail.specs.Trail.{HasGiven, Trail, places_of}
 abbrev pub Reaches : Log → ℕ → NodeState → Type 0
 Reaches log n state = LeadsTo log.nodes (first_state log.initiator) (take n log.events) state
 
--- the event that the step tells, and, where its log is a local run, the states that its node has before and after it
+-- the event of the step, and, where its log is a local run, the states that its node has before and after it
 pub record TellsStates (logs : List Log) (walked : StateStep) : Type 0 where
   pub log : Log
   pub log_is : slice_get logs walked.step.place ≡ Some log
@@ -22,7 +22,7 @@ pub record TellsStates (logs : List Log) (walked : StateStep) : Type 0 where
   pub before : IsLocalRun log → Reaches log (walked.step.event - 1) walked.before
   pub after : IsLocalRun log → Reaches log walked.step.event walked.after
 
--- ---- Helpers, no definitions: where a walk along a trail stands.
+-- ---- Helpers, no definitions: how far a walk along a trail has come.
 
 pub record StateTrail : Type 0 where
   pub trail : Trail

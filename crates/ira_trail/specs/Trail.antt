@@ -35,8 +35,8 @@ pub record IsSentBy (logs : List Log) (steps : List TrailStep) (step : TrailStep
   pub link : next (length logs) sender.place ≡ step.place
   pub pair : IsPair logs sender.place sender.event step.event
 
--- step t, counted from 0, tells the event that stands there, whether it is one of the cut, and for a receipt the step
--- that sent what it receives, where something sent it
+-- step t, counted from 0, has the event that comes there, whether it is one of the cut, and for a receipt the step that
+-- sent what it receives, where something sent it
 pub record TellsEvent (logs : List Log) (cut : List ℕ) (steps : List TrailStep) (t : ℕ) (step : TrailStep)
     : Type 0 where
   pub event : StandsAt (places_of steps) t step.place step.event
@@ -47,8 +47,8 @@ pub record TellsEvent (logs : List Log) (cut : List ℕ) (steps : List TrailStep
 abbrev pub ComesBefore : TrailStep → TrailStep → Type 0
 ComesBefore a b = (a.time < b.time) ⊎ ((a.time ≡ b.time) × (a.place < b.place))
 
--- the steps are all events that come, each told as it is, by time and then by place; those of the cut first, where it is
--- one all of which comes
+-- the steps are all events that come, each with what it is, by time and then by place; those of the cut first, where
+-- all of it comes
 pub record IsTrail (logs : List Log) (cut : List ℕ) (steps : List TrailStep) : Type 0 where
   pub places : All (λ p. p < length logs) (places_of steps)
   pub each : (t : ℕ) (step : TrailStep) → slice_get steps t ≡ Some step → TellsEvent logs cut steps t step
@@ -60,7 +60,7 @@ pub record IsTrail (logs : List Log) (cut : List ℕ) (steps : List TrailStep) :
   pub cut_first : IsCut logs cut → ((i : ℕ) → i < length logs → slice_index cut i ≤ occurrences (places_of steps) i)
       → BeginsWith logs (places_of steps) cut
 
--- ---- Helpers, no definitions: where a trail stands.
+-- ---- Helpers, no definitions: how far a trail has come.
 
 pub record Trail : Type 0 where
   pub logs : List Log
@@ -191,7 +191,7 @@ pub record HasSameLogs (old new : Trail) : Type 0 where
   pub logs : new.logs ≡ old.logs
   pub cut : new.cut ≡ old.cut
 
--- the next event of the node whose turn it is, which stands in the cut where that isn't over
+-- the next event of the node whose turn it is, which is in the cut where that isn't over
 pub record IsNextEvent (trail : Trail) (steps : List TrailStep) (event : Event) : Type 0 where
   pub at : slice_get (log_of trail.logs trail.place) (occurrences (places_of steps) trail.place) ≡ Some event
   pub in_turn : trail.is_past_cut ≡ false

@@ -123,7 +123,8 @@ impl<A: Allocator> Columns<A> {
         A: Clone,
         requires { ForSome cut (λ c. length c.now ≡ length logs.now) }
         ensures few { IfOk result (λ columns. sum_by length columns.nodes < 2 ^ 32) }
-        ensures columns { IfOk result (AreColumnsOf logs.now (cut_or_all logs.now (option_map (λ c. c.now) cut.entry))) }
+        ensures columns { IfOk result
+            (AreColumnsOf logs.now (cut_or_all logs.now (option_map (λ c. c.now) cut.entry))) }
     {
         match cut {
             Some(cut) => Columns::of_cut(alloc, logs, cut),

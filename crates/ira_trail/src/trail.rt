@@ -17,10 +17,10 @@ use std::marker::Model;
 
 /// A walk along the events of a ring's logs, in one order through a cut: the events of the cut first, by time and then
 /// by place, and the others after them, the same way. An event's time is one more than the greatest of the events that
-/// it directly follows: its node's event before it, for a receipt its sending, and for an event outside the cut those of
-/// the cut (Lamport's logical clock: Time, Clocks, and the Ordering of Events in a Distributed System, 1978). So at each
-/// time each node whose next event can come makes just this one. It ends where no event can: of logs that have an order
-/// all have come, of others those wait that are part of a circle, or come after such.
+/// it directly follows: its node's event before it, for a receipt its sending, and for an event outside the cut those
+/// of the cut (Lamport's logical clock: Time, Clocks, and the Ordering of Events in a Distributed System, 1978). So at
+/// each time each node whose next event can come makes just this one. It ends where no event can: of logs that have an
+/// order all have come, of others those wait that are part of a circle, or come after such.
 ///
 /// It keeps some numbers for each node, and two for each message on its way.
 #[derive(Drop)]

@@ -24,7 +24,8 @@ returns-then-self-2-clause-end g c stop given h =
     (elim c.then-self-2.branch [
       | then-self-2-via-then-self-2 w ↦ λ inside. (let z : true ≡ false = sym w.if-self-2.true ∙ inside in cc)
       | then-self-2-via-else-self-2+then-not-has_cut w ↦ λ inside has.
-          (let z : true ≡ false = sym (w.has_cut.ensures.1 (subst HasCut c.self.view_is has)) ∙ w.if-not-has_cut.true in cc)
+          (let z : true ≡ false =
+          sym (w.has_cut.ensures.1 (subst HasCut c.self.view_is has)) ∙ w.if-not-has_cut.true in cc)
     ]) (ap (λ (v : Trail). v.place) c.self.view_is
     ∙ c.requires.place ∙ ap (λ (v : Trail). length v.logs) (sym c.self.view_is)))
 

@@ -12,7 +12,8 @@ returns-then-done-limit g c given h may =
     let here = subst (λ (v : Trail). v.place < length v.logs) (sym c.self.view_is) c.requires.place in
     let cut = subst (λ (v : Trail). v.is_past_cut ≡ false
     → c.limit.result
-    ≡ min (slice_index v.cut c.self.inside.place) (length (log_of v.logs c.self.inside.place))) (sym c.self.view_is) c.limit.ensures.cut in
+    ≡ min (slice_index v.cut c.self.inside.place) (length (log_of v.logs c.self.inside.place)))
+    (sym c.self.view_is) c.limit.ensures.cut in
     let end = subst (λ (v : Trail). v.is_past_cut ≡ true
     → c.limit.result ≡ length (log_of v.logs c.self.inside.place)) (sym c.self.view_is) c.limit.ensures.end in
     let done = done_read _ given h' here c.from-node.result c.index-done.result.now c.from-node.ensures
@@ -41,7 +42,8 @@ returns g c given h =
     let here = subst (λ (v : Trail). v.place < length v.logs) (sym c.self.view_is) c.requires.place in
     let cut = subst (λ (v : Trail). v.is_past_cut ≡ false
     → c.limit.result
-    ≡ min (slice_index v.cut c.self.inside.place) (length (log_of v.logs c.self.inside.place))) (sym c.self.view_is) c.limit.ensures.cut in
+    ≡ min (slice_index v.cut c.self.inside.place) (length (log_of v.logs c.self.inside.place)))
+    (sym c.self.view_is) c.limit.ensures.cut in
     let end = subst (λ (v : Trail). v.is_past_cut ≡ true
     → c.limit.result ≡ length (log_of v.logs c.self.inside.place)) (sym c.self.view_is) c.limit.ensures.end in
     subst (λ (v : Trail). IsNextEvent v given c.event.result) c.self.view_is

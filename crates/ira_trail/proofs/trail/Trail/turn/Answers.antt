@@ -60,7 +60,8 @@ returns-in_default-sent_before-clause-none g c given h =
     let coming = subst (λ (v : Trail). IsNextEvent v given c.in-Some.event) (sym c.self.view_is)
     (c.in-Some.ensures given h) in
     let writer : c.predecessor-link.result ≡ prev (length c.self.inside.logs.now) c.self.inside.place =
-    c.predecessor-link.ensures.value ∙ ap (λ k. prev k c.self.inside.place) (c.get.ensures.value ∙ c.size.ensures.value) in
+    c.predecessor-link.ensures.value
+    ∙ ap (λ k. prev k c.self.inside.place) (c.get.ensures.value ∙ c.size.ensures.value) in
     let none : IsNoneSentBefore c.args.self.now c.predecessor-link.result = c.in_default-sent_before.ensures in
     let none' = subst (λ (v : Trail). IsNoneSentBefore v (prev (length c.self.inside.logs.now) c.self.inside.place))
     (sym c.self.view_is) (rw writer at none) in
@@ -90,7 +91,8 @@ returns-in-Some-sent_before-clause-step g c given h =
     let coming = subst (λ (v : Trail). IsNextEvent v given c.in-Some.event) (sym c.self.view_is)
     (c.in-Some.ensures given h) in
     let writer : c.predecessor-link.result ≡ prev (length c.self.inside.logs.now) c.self.inside.place =
-    c.predecessor-link.ensures.value ∙ ap (λ k. prev k c.self.inside.place) (c.get.ensures.value ∙ c.size.ensures.value) in
+    c.predecessor-link.ensures.value
+    ∙ ap (λ k. prev k c.self.inside.place) (c.get.ensures.value ∙ c.size.ensures.value) in
     let before = subst (λ (v : Trail). IsSentBefore v c.predecessor-link.result c.in-Some-sent_before.sent_by)
     (sym c.self.view_is) c.in-Some-sent_before.ensures in
     let below : prev (length c.self.inside.logs.now) c.self.inside.place
@@ -127,7 +129,8 @@ returns-in-Some-sent_before-clause-step g c given h =
 pub returns-then-is_used_up-clause-step : goal.returns-then-is_used_up-clause-step
 returns-then-is_used_up-clause-step g c given h =
     let writer : c.predecessor-link.result ≡ prev (length c.self.inside.logs.now) c.self.inside.place =
-    c.predecessor-link.ensures.value ∙ ap (λ k. prev k c.self.inside.place) (c.get.ensures.value ∙ c.size.ensures.value) in
+    c.predecessor-link.ensures.value
+    ∙ ap (λ k. prev k c.self.inside.place) (c.get.ensures.value ∙ c.size.ensures.value) in
     let writer_then = subst (λ (v : Trail). c.predecessor-link.result ≡ prev (length v.logs) v.place) c.self.view_is
     writer in
     given_as _ _ given _ _ c.step.ensures.state c.step.ensures.step
