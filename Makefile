@@ -37,7 +37,7 @@ help:
 	@echo '    names       what pages name: links, headings, items of code; crates without a user'
 	@echo '    examples    the tables and the commands of examples/'
 	@echo '    limits      faults, long texts, what is past the limits'
-	@echo '    pages       the commands of README.md and docs/'
+	@echo '    pages       the commands of README.md, docs/ and the README of a package'
 	@echo '    completions commands and options of the completions, those of the help'
 	@echo '    version     the logic that the version, README.md and the toolchain name'
 	@echo '    pictures    pictures of the examples and of recorded rings, read back and held against the logs'

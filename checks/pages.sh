@@ -42,7 +42,7 @@ take_out() {
         { in_block = 0 }' "$1" > "$2/commands"
 }
 
-for page in README.md docs/*.md; do
+for page in README.md docs/*.md build/dist-README.md; do
     rm -rf "$made"/* && mkdir "$made/page" "$made/root" "$made/root/bin"
     cp -r examples "$made/root"
     ln -s "$ira" "$made/root/bin/ira"
