@@ -20,9 +20,6 @@ use Rattle.ira_cert_text.specs.CertTextFault.{BeginsWithSteps, lines_of, Section
 use Rattle.ira_cert_text.proofs.Turns.{step_no_spent, step_good, spent_good, Stage, Turn, opens, drops, closes, TurnsTo}
 use Rattle.ira_cert_text.proofs.Turns.{Stops, stops_same, turn_is_one_line, leads_on, steps_lead, sections_lead}
 
-step_begins : (line : List ℕ) (s : CertStep) → IsStepLine line s → BeginsAsStep line
-step_begins line s h = (h.node ++ codes " " ++ h.pos ++ codes " by " ++ h.other ++ codes " " ++ h.other_pos, h.parts)
-
 spent_no_step : (line : List ℕ) (n : ℕ) → IsSpentLine line n → BeginsAsStep line → ⊥
 spent_no_step line n h k = first_differs 115 100 _ _ refl (sym h.1 ∙ k.1)
 

@@ -52,10 +52,3 @@ pub heads_same : (text : List ℕ) (n m : ℕ) (r s : List ℕ) → BeginsWithCe
 heads_same text n m r s a b =
     let e = same_Some _ _ (sym (begins-again text n r a) ∙ begins-again text m s b) in
     (ap (λ (x : ℕ × List ℕ). x.0) e, ap (λ (x : ℕ × List ℕ). x.1) e)
-
--- what follows a head is shorter than the text by some bytes
-pub head_long : (text : List ℕ) (nodes : ℕ) (rest : List ℕ) → BeginsWithCertHead text nodes rest
-    → 3 + length rest ≤ length text
-head_long text nodes rest h =
-    let e = ap length (h.parts ∙ ap (λ w. w ++ rest) h.head_is.1) in
-    omega (arith, e, length-append (h.head_is.0 ++ codes "\n") rest)

@@ -319,12 +319,6 @@ pub sections_refused : (nodes n : ℕ) (text : List ℕ) (ss : List Section) (f 
 sections_refused nodes n text ss f old mid h count d =
     inr (fault_outside nodes text ss old f h (subst (λ m. RestOutsideFault old.number m old.rest f) count d))
 
-pub sections_end : (nodes n : ℕ) (text : List ℕ) (ss : List Section) (b : Bool) (old mid : LinesLeft)
-    → HasSections nodes text ss old → ReadsOutside n old mid (Ok b) → b ≡ false
-    → BeginsWithSections nodes text ss (codes "end\n")
-sections_end nodes n text ss b old mid h read is =
-    all_sections nodes text ss old h (subst (λ x. ReadsOutside n old mid (Ok x)) is read)
-
 pub section_shorter : (nodes n : ℕ) (b : Bool) (s : Section) (old mid new : LinesLeft) → ReadsOutside n old mid (Ok b)
     → b ≡ true → ReadsSection nodes mid new (Ok s) → suc (length new.rest) ≤ length old.rest
 section_shorter nodes n b s old mid new read is (before, line, h, q, spent, good) =

@@ -181,15 +181,6 @@ owing_leads_not term Passive owed m wants l = l
 owing_leads_not term (Leader round id) owed m wants l = absurd (leading_wants (Send m) term wants (λ e. cc) (λ e. cc))
 owing_leads_not term Yielding owed m wants l = l
 
--- a node that wants neither a yield nor nothing doesn't lead
-pub wanting_leads_not : (term : ℕ) (phase : Phase) (owed : Option Load) (w : Wanted) → w ≡ wanted_of term phase owed
-    → w ≢ WantsYield → w ≢ Nothing → ¬ (IsLeader phase)
-wanting_leads_not term (Choosing round) owed w wants yields_not nor l = l
-wanting_leads_not term (Active round id) owed w wants yields_not nor l = l
-wanting_leads_not term Passive owed w wants yields_not nor l = l
-wanting_leads_not term (Leader round id) owed w wants yields_not nor l = leading_wants w term wants yields_not nor
-wanting_leads_not term Yielding owed w wants yields_not nor l = l
-
 -- a node that receives doesn't lead
 pub receiving_leads_not : (phase : Phase) → Receives phase → ¬ (IsLeader phase)
 receiving_leads_not (Choosing round) r l = r

@@ -1,5 +1,5 @@
 -- Each event has one column.
-use Rattle.std.proofs.Common.{◌≡◌, ℕ, suc, ◌<◌, ◌≤◌, inl, inr, Bool, true, false, IsTrue, List, Some, length, refl, sym}
+use Rattle.std.proofs.Common.{◌≡◌, ℕ, suc, ◌<◌, ◌≤◌, inl, inr, Bool, true, false, List, Some, length, refl, sym}
 use Rattle.std.proofs.Common.{◌∙◌, ap, arith}
 use Rattle.std.specs.Prelude.{min, slice_get, slice_index}
 use Rattle.std.proofs.lemmas.Bool.{cases_lt}

@@ -1,5 +1,5 @@
 -- Of logs that have an order, and a consistent cut, all events come, and a trail is an order.
-use Rattle.std.proofs.Common.{◌≡◌, ◌≢◌, ℕ, suc, ◌<◌, ◌≤◌, inl, inr, List, Some, length, take, refl, sym, ◌∙◌, ap, subst}
+use Rattle.std.proofs.Common.{◌≡◌, ℕ, suc, ◌<◌, ◌≤◌, inl, inr, List, Some, length, take, refl, sym, ◌∙◌, ap, subst}
 use Rattle.std.proofs.Common.{arith}
 use Rattle.std.specs.Prelude.{slice_get, slice_index}
 use Rattle.std.proofs.lemmas.Bool.{cases_eq, cases_lt}
@@ -15,10 +15,10 @@ use Rattle.ira_order.proofs.Bridge.{order_kept, order_schedule}
 use Rattle.ira_order.proofs.Cuts.{cut_moment}
 use Rattle.ira_trail.specs.declared.trail_step.TrailStep.{TrailStep}
 use Rattle.ira_trail.specs.Columns.{AreTimes, Follows, IsEvent, own_next, received, outside}
-use Rattle.ira_trail.specs.Trail.{BeginsWith, ComesBefore, IsTrail, places_of}
+use Rattle.ira_trail.specs.Trail.{BeginsWith, IsTrail, places_of}
 use Rattle.ira_trail.proofs.Pushes.{many_places}
 use Rattle.ira_trail.proofs.Ready.{all_come, kept_beginning, ready_sent, receipt_there, sending_there}
-use Rattle.ira_trail.proofs.Walks.{StepOf, event_stood, step_of}
+use Rattle.ira_trail.proofs.Walks.{event_stood}
 
 module _ (logs : List Log) (cut : List ℕ) (come : ℕ → ℕ) (time : ℕ → ℕ → ℕ) (are : AreLogs logs) (order : HasOrder
     logs) (consistent : IsConsistentCut logs cut) (times : AreTimes logs cut come time) where

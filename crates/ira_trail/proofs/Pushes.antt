@@ -6,15 +6,12 @@ use Rattle.std.specs.List.{cons_option}
 use Rattle.std.proofs.lemmas.Bool.{cases_eq, eq-eqb, ne_eqb}
 use Rattle.std.proofs.lemmas.List.{get_or_append_left, get_or_push, length_push, map-append, length-map, take-append-le}
 use Rattle.std.proofs.lemmas.List.{take_all}
-use Rattle.std.specs.List.{All}
 use Rattle.std.proofs.lemmas.List.Elements.{All-append, All-from_get_or}
 use Rattle.std.proofs.lemmas.List.Sums.{sum_by_push}
-use Rattle.std.proofs.lemmas.Option.{get_or_from_slice_get, slice_get-get_or, slice_get_cases, slice_get_within}
+use Rattle.std.proofs.lemmas.Option.{get_or_from_slice_get, slice_get-get_or, slice_get_within}
 use Rattle.ira_event.specs.declared.event.Event.{Event}
-use Rattle.ira_event.specs.declared.event.Event.TheVariants.{Draw, Sent, Got, Yield}
-use Rattle.ira_event.specs.declared.load.Load.{Load}
 use Rattle.ira_event.specs.Log.{Log}
-use Rattle.ira_order.specs.Matching.{got, sent, receipt, sending}
+use Rattle.ira_order.specs.Matching.{sent, sending}
 use Rattle.ira_order.specs.Order.{StandsAt, occurrences}
 use Rattle.ira_order.specs.Ring.{log_of, next}
 use Rattle.ira_order.proofs.OrderPrefixes.{only_link, rank_more}
@@ -50,79 +47,6 @@ sents_more es n e at =
     rank_more sending es n e (slice_get_within es n e at)
     ∙ ap (λ (x : Event). length (sent (take n es)) + length (cons_option (sending x) []))
     (get_or_from_slice_get es n e e at)
-
--- a beginning with one receipt more ends with it
-pub got_here : (es : List Event) (n : ℕ) → length (got (take n es)) < length (got (take (n + 1) es)) → n < length es
-    → (m : Load) × (slice_get es n ≡ Some (Got m)) × (length (got (take (n + 1) es)) ≡ length (got (take n es)) + 1)
-got_here es n more within = elim (slice_get_cases es n).1 [
-  | inr past ↦ absurd (omega (arith, past.0, within))
-  | inl found ↦ by_event found.0 found.2 found.3
-]
-  where
-    by_event : (e : Event) → slice_get es n ≡ Some e → get_or es n e ≡ e → (m : Load) × (slice_get es n ≡ Some (Got m))
-        × (length (got (take (n + 1) es)) ≡ length (got (take n es)) + 1)
-    by_event (Got m) at is = (
-      m,
-      at,
-      rank_more receipt es n (Got m) within
-          ∙ ap (λ (e : Event). length (got (take n es)) + length (cons_option (receipt e) [])) is,
-    )
-    by_event (Sent m) at is =
-        absurd (omega (
-          arith,
-          more,
-          rank_more receipt es n (Sent m) within,
-          ap (λ (e : Event). length (cons_option (receipt e) [])) is,
-        ))
-    by_event (Draw x) at is =
-        absurd (omega (
-          arith,
-          more,
-          rank_more receipt es n (Draw x) within,
-          ap (λ (e : Event). length (cons_option (receipt e) [])) is,
-        ))
-    by_event Yield at is = absurd (omega (
-      arith,
-      more,
-      rank_more receipt es n Yield within,
-      ap (λ (e : Event). length (cons_option (receipt e) [])) is,
-    ))
-
--- one with one sending more, likewise
-pub sent_here : (es : List Event) (n : ℕ) → length (sent (take n es)) < length (sent (take (n + 1) es)) → n < length es
-    → (m : Load) × (slice_get es n ≡ Some (Sent m)) × (length (sent (take (n + 1) es)) ≡ length (sent (take n es)) + 1)
-sent_here es n more within = elim (slice_get_cases es n).1 [
-  | inr past ↦ absurd (omega (arith, past.0, within))
-  | inl found ↦ by_event found.0 found.2 found.3
-]
-  where
-    by_event : (e : Event) → slice_get es n ≡ Some e → get_or es n e ≡ e → (m : Load) × (slice_get es n ≡ Some (Sent m))
-        × (length (sent (take (n + 1) es)) ≡ length (sent (take n es)) + 1)
-    by_event (Sent m) at is = (
-      m,
-      at,
-      rank_more sending es n (Sent m) within
-          ∙ ap (λ (e : Event). length (sent (take n es)) + length (cons_option (sending e) [])) is,
-    )
-    by_event (Got m) at is = absurd (omega (
-      arith,
-      more,
-      rank_more sending es n (Got m) within,
-      ap (λ (e : Event). length (cons_option (sending e) [])) is,
-    ))
-    by_event (Draw x) at is =
-        absurd (omega (
-          arith,
-          more,
-          rank_more sending es n (Draw x) within,
-          ap (λ (e : Event). length (cons_option (sending e) [])) is,
-        ))
-    by_event Yield at is = absurd (omega (
-      arith,
-      more,
-      rank_more sending es n Yield within,
-      ap (λ (e : Event). length (cons_option (sending e) [])) is,
-    ))
 
 -- the one link into a node
 pub one_link : (n k j i : ℕ) → i < n → j < n → k < n → next n j ≡ i → next n k ≡ i → j ≡ k

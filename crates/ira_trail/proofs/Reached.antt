@@ -1,6 +1,6 @@
 -- The states that a log's events lead to.
-use Rattle.std.proofs.Common.{◌≡◌, ℕ, zero, suc, ◌+◌, ◌<◌, ◌≤◌, Ok, Err, List, [], ◌∷◌, ◌++◌, Some}
-use Rattle.std.proofs.Common.{length, refl, sym, ◌∙◌, ap, subst, arith, take, drop, add-one}
+use Rattle.std.proofs.Common.{◌≡◌, ℕ, zero, suc, ◌+◌, ◌<◌, Ok, Err, List, [], ◌∷◌, ◌++◌, Some}
+use Rattle.std.proofs.Common.{length, sym, ◌∙◌, ap, subst, arith, take, drop, add-one}
 use Rattle.std.specs.Prelude.{MatchResult, Result, slice_get}
 use Rattle.std.proofs.lemmas.List.{length-take-le}
 use Rattle.std.proofs.lemmas.Option.{slice_get_within}
@@ -11,7 +11,6 @@ use Rattle.ira_node.specs.declared.step_fault.StepFault.{StepFault}
 use Rattle.ira_node.specs.NodeState.{first_state}
 use Rattle.ira_node.specs.NodeStep.{NodeStep}
 use Rattle.ira_node.specs.NodeStepFault.{NodeStepFault}
-use Rattle.ira_replay.specs.declared.replay_fault.ReplayFault.{ReplayFault}
 use Rattle.ira_replay.specs.LocalRun.{IsFirstFault, IsLocalRun, LeadsTo}
 use Rattle.ira_replay.proofs.Along.{leads_further}
 use Rattle.ira_replay.proofs.FirstFaults.{run_or_fault}

@@ -1,4 +1,4 @@
--- The event that a step of a trail tells.
+-- The event of a step of a trail.
 use Rattle.std.proofs.Common.{◌≡◌, ℕ, ◌+◌, ◌<◌, ◌≤◌, inl, inr, ◌∷◌, ◌++◌, suc, [], List, Some, length, take, ◌∙◌, arith, get_or}
 use Rattle.std.specs.Prelude.{slice_get}
 use Rattle.std.proofs.lemmas.List.Elements.{All-get_or}

@@ -13,7 +13,7 @@ use Rattle.std.specs.Prelude.{sum_by}
 use Rattle.std.specs.List.{All}
 use Rattle.std.proofs.lemmas.List.Elements.{All-from_get_or}
 use Rattle.std.proofs.lemmas.List.Sums.{sum_by-le}
-use Rattle.ira_event.specs.Limits.{MAX_NODES, MAX_RECORDS}
+use Rattle.ira_event.specs.Limits.{MAX_RECORDS}
 use Rattle.ira_event.specs.Log.{Log}
 use Rattle.ira_event.specs.Logs.{AreLogs}
 use Rattle.ira_order.specs.Order.{StandsAt, occurrences}
@@ -340,6 +340,20 @@ row_written f xs j k c old new same within is grown =
     get_or_from_slice_get (map f xs) k (f old) [] (member_read f xs j k old same within is) in
     member_written f xs j k new (get_or (map f xs) k [] ++ c ∷ []) same (grown
     ∙ ap (λ (ys : List ℕ). ys ++ c ∷ []) (sym was))
+
+-- the table after a step of the trail, whose node has one column more
+pub table_pushed : {X : Type 0} (f : X → List ℕ) (logs : List Log) (cut : List ℕ) (steps : List TrailStep)
+    (r : TrailStep) (nodes : List X) (last line new_line j c : ℕ) (old new : X) → AreFirst logs cut steps
+    → AreFirst logs cut (steps ++ r ∷ []) → IsTable logs cut steps (map f nodes) last line → j ≡ r.place
+    → old ≡ get_or nodes j old → c ≡ column r → f new ≡ f old ++ c ∷ [] → (r.in_cut ≡ true → new_line ≡ suc c)
+    → (r.in_cut ≡ false → new_line ≡ line) → IsTable logs cut (steps ++ r ∷ []) (map f (set nodes j new)) c new_line
+table_pushed f logs cut steps r nodes last line new_line j c old new before are table same was is grown inside past =
+    let here = placed logs cut (steps ++ r ∷ []) are (length steps) r (found_last steps r) in
+    let written = row_written f nodes j r.place c old new same (omega (arith, here, table.places)) was grown in
+    subst (λ (x : List (List ℕ)). IsTable logs cut (steps ++ r ∷ []) x c new_line) (sym written)
+    (subst (λ (n : ℕ). IsTable logs cut (steps ++ r ∷ [])
+    (set (map f nodes) r.place (get_or (map f nodes) r.place [] ++ n ∷ [])) n new_line) (sym is)
+    (table_more logs cut steps r (map f nodes) last line before are table new_line (λ z. inside z ∙ ap suc is) past))
 
 pub row_read : {X : Type 0} (f : X → List ℕ) (xs : List X) (j k : ℕ) (x : X) → j ≡ k → k < length xs
     → x ≡ get_or xs j x → slice_index_or (map f xs) k [] ≡ f x

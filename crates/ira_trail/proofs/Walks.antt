@@ -26,7 +26,7 @@ use Rattle.ira_trail.specs.Trail.{AreFirst, AreOnTheirWay, HasCut, HasGiven, IsT
 use Rattle.ira_trail.specs.Trail.{IsSentBy, MayCome, Trail, all_sents, passed_over, places_of}
 use Rattle.ira_trail.proofs.Pushes.{begins_same, count_elsewhere, count_there, first_more, found_last, kept_in_push}
 use Rattle.ira_trail.proofs.Pushes.{many_places}
-use Rattle.ira_trail.proofs.Ready.{receipt_there, sending_there, sent_or_pair}
+use Rattle.ira_trail.proofs.Ready.{sending_there, sent_or_pair}
 
 pub false_or_true : (b : Bool) → (b ≡ false) ⊎ (b ≡ true)
 false_or_true false = inl refl

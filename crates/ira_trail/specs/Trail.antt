@@ -2,7 +2,7 @@
 use Rattle.std.specs.Prelude.{◌≡◌, ◌⊎◌, ◌↔◌, ℕ, suc, ◌+◌, ◌-◌, ◌<◌, ◌≤◌, Bool, false, true, if◌then◌else◌, List, Option, All}
 use Rattle.std.specs.Prelude.{Some, IsTrue, MatchOption, length, map, slice_get, slice_index, slice_set, sum, take}
 use Rattle.ira_event.specs.declared.event.Event.{Event}
-use Rattle.ira_event.specs.declared.event.Event.TheVariants.{Got, Sent}
+use Rattle.ira_event.specs.declared.event.Event.TheVariants.{Sent}
 use Rattle.ira_event.specs.declared.load.Load.{Load}
 use Rattle.ira_event.specs.Log.{Log}
 use Rattle.ira_event.specs.Logs.{AreLogs}

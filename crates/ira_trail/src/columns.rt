@@ -112,8 +112,8 @@ impl<A: Allocator> Columns<A> {
         Ok(Columns { nodes, line })
     }
 
-    /// The columns of all events, also of logs that have no order: those that wait in a circle stand right of all
-    /// others. With a cut its events stand left of its line, and all others right of it.
+    /// The columns of all events, also of logs that have no order: those that wait in a circle are right of all others.
+    /// With a cut its events are left of its line, and all others right of it.
     pub fn of<L: Allocator>(
         alloc: A,
         logs: &Logs<L>,

@@ -1,5 +1,5 @@
 use Rattle.std.proofs.Common.{◌≡◌, ◌∙◌, ◌∷◌, ◌++◌, ℕ, [], List, Vec, ap, arith, false, length, map, refl, replicate}
-use Rattle.std.proofs.Common.{◌+◌, ◌<◌, ◌≢◌, get_or, get_or-set_other, get_or-set_same, inl, inr, length-set, set, subst}
+use Rattle.std.proofs.Common.{◌+◌, ◌<◌, ◌≢◌, get_or-set_other, get_or-set_same, inl, inr, length-set, set, subst}
 use Rattle.std.proofs.Common.{sym, true}
 use Rattle.std.specs.Prelude.{slice_index_or}
 use Rattle.std.proofs.lemmas.Bool.{cases_eq}
@@ -9,7 +9,7 @@ use Rattle.ira_trail.specs.Filled.{IsFilled}
 use Rattle.ira_trail.proofs.Steps.{last_is_there}
 use Rattle.std.proofs.lemmas.List.{length-map, length_push}
 use Rattle.ira_trail.proofs.Pushes.{found_last}
-use Rattle.ira_trail.proofs.Tables.{IsTable, first_as, no_step, row_written, some_step, table_more, table_none}
+use Rattle.ira_trail.proofs.Tables.{IsTable, first_as, no_step, some_step, table_none, table_pushed}
 use Rattle.ira_trail.proofs.Tables.{column_few, few_columns, few_in_all, row_read, table_whole, trail_as}
 use Rattle.ira_trail.proofs.Turns.{member_written}
 use Rattle.ira_trail.proofs.Walks.{few_events, few_steps, placed}
@@ -70,35 +70,23 @@ pub steps-preserved : goal.steps-preserved
 steps-preserved g c =
     let steps = c.steps.invariant.given.0 in
     let given = c.steps.invariant.given.1 in
-    let table = c.steps.invariant.given.2 in
-    let f = λ (events : Vec ℕ g.row.A.Denot). events.items in
     let new = some_step c.in_ok-step.field-0 _ c.in-Some.step c.in-Some.is (c.in_ok-step.ensures.step steps given) in
     let logs = c.in_ok-step.ensures.logs.logs ∙ c.steps.invariant.logs in
     let cut = c.in_ok-step.ensures.logs.cut ∙ c.steps.invariant.cut in
-    let before = first_as c.args.logs.now _ c.args.cut.now _ steps c.steps.invariant.logs c.steps.invariant.cut
-    given.are_first in
-    let are = first_as c.args.logs.now _ c.args.cut.now _ _ logs cut new.are_first in
-    let here = placed _ _ _ are (length steps) c.in-Some.step (found_last steps c.in-Some.step) in
-    let grown : c.push.new.self.items ≡ c.index_mut.result.now.items ++ c.column-last.result ∷ [] =
-    c.in_ok-push.ensures.items in
-    let written = row_written f c.steps.nodes.items c.from.result c.in-Some.step.place c.column-last.result
-    c.index_mut.result.now c.push.new.self c.from.ensures (omega (arith, here, table.places))
-    c.index_mut.ensures.value grown in
     record {
       logs = logs;
       cut = cut;
       given = (
         steps ++ c.in-Some.step ∷ [],
         new,
-        subst (λ (x : List (List ℕ)). IsTable c.args.logs.now c.args.cut.now (steps ++ c.in-Some.step
-            ∷ []) x c.column-last.result c.steps.line) (sym written)
-            (subst (λ (n : ℕ). IsTable c.args.logs.now c.args.cut.now (steps ++ c.in-Some.step ∷ [])
-            (set (map f c.steps.nodes.items) c.in-Some.step.place
-            (get_or (map f c.steps.nodes.items) c.in-Some.step.place [] ++ n ∷ [])) n c.steps.line)
-            (sym c.column-last.ensures)
-            (table_more c.args.logs.now c.args.cut.now steps c.in-Some.step (map f c.steps.nodes.items) c.steps.last
-            c.steps.line before are table c.steps.line
-            (λ z. (let w : true ≡ false = sym z ∙ c.if-step.false in cc)) (λ z. refl))),
+        table_pushed (λ (events : Vec ℕ g.row.A.Denot). events.items) c.args.logs.now c.args.cut.now steps
+            c.in-Some.step c.steps.nodes.items c.steps.last c.steps.line c.steps.line c.from.result
+            c.column-last.result c.index_mut.result.now c.push.new.self
+            (first_as c.args.logs.now _ c.args.cut.now _ steps c.steps.invariant.logs c.steps.invariant.cut
+            given.are_first)
+            (first_as c.args.logs.now _ c.args.cut.now _ _ logs cut new.are_first) c.steps.invariant.given.2
+            c.from.ensures c.index_mut.ensures.value c.column-last.ensures c.in_ok-push.ensures.items
+            (λ z. (let w : true ≡ false = sym z ∙ c.if-step.false in cc)) (λ z. refl),
       );
     }
 
@@ -106,35 +94,23 @@ pub steps-preserved-then-step : goal.steps-preserved-then-step
 steps-preserved-then-step g c =
     let steps = c.steps.invariant.given.0 in
     let given = c.steps.invariant.given.1 in
-    let table = c.steps.invariant.given.2 in
-    let f = λ (events : Vec ℕ g.row.A.Denot). events.items in
     let new = some_step c.in_ok-step.field-0 _ c.in-Some.step c.in-Some.is (c.in_ok-step.ensures.step steps given) in
     let logs = c.in_ok-step.ensures.logs.logs ∙ c.steps.invariant.logs in
     let cut = c.in_ok-step.ensures.logs.cut ∙ c.steps.invariant.cut in
-    let before = first_as c.args.logs.now _ c.args.cut.now _ steps c.steps.invariant.logs c.steps.invariant.cut
-    given.are_first in
-    let are = first_as c.args.logs.now _ c.args.cut.now _ _ logs cut new.are_first in
-    let here = placed _ _ _ are (length steps) c.in-Some.step (found_last steps c.in-Some.step) in
-    let grown : c.push.new.self.items ≡ c.index_mut.result.now.items ++ c.column-last.result ∷ [] =
-    c.in_ok-push.ensures.items in
-    let written = row_written f c.steps.nodes.items c.from.result c.in-Some.step.place c.column-last.result
-    c.index_mut.result.now c.push.new.self c.from.ensures (omega (arith, here, table.places))
-    c.index_mut.ensures.value grown in
     record {
       logs = logs;
       cut = cut;
       given = (
         steps ++ c.in-Some.step ∷ [],
         new,
-        subst (λ (x : List (List ℕ)). IsTable c.args.logs.now c.args.cut.now (steps ++ c.in-Some.step
-            ∷ []) x c.column-last.result (c.column-last.result + 1)) (sym written)
-            (subst (λ (n : ℕ). IsTable c.args.logs.now c.args.cut.now (steps ++ c.in-Some.step ∷ [])
-            (set (map f c.steps.nodes.items) c.in-Some.step.place
-            (get_or (map f c.steps.nodes.items) c.in-Some.step.place [] ++ n ∷ [])) n (c.column-last.result + 1))
-            (sym c.column-last.ensures)
-            (table_more c.args.logs.now c.args.cut.now steps c.in-Some.step (map f c.steps.nodes.items) c.steps.last
-            c.steps.line before are table (c.column-last.result + 1)
-            (λ z. omega (arith, c.column-last.ensures)) (λ z. (let w : true ≡ false = sym c.if-step.true ∙ z in cc)))),
+        table_pushed (λ (events : Vec ℕ g.row.A.Denot). events.items) c.args.logs.now c.args.cut.now steps
+            c.in-Some.step c.steps.nodes.items c.steps.last c.steps.line (c.column-last.result + 1) c.from.result
+            c.column-last.result c.index_mut.result.now c.push.new.self
+            (first_as c.args.logs.now _ c.args.cut.now _ steps c.steps.invariant.logs c.steps.invariant.cut
+            given.are_first)
+            (first_as c.args.logs.now _ c.args.cut.now _ _ logs cut new.are_first) c.steps.invariant.given.2
+            c.from.ensures c.index_mut.ensures.value c.column-last.ensures c.in_ok-push.ensures.items
+            (λ z. omega arith) (λ z. (let w : true ≡ false = sym c.if-step.true ∙ z in cc)),
       );
     }
 

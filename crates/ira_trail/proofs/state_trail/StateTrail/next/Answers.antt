@@ -1,14 +1,12 @@
-use Rattle.std.proofs.Common.{◌≡◌, ◌≢◌, ◌∙◌, ◌∷◌, ◌++◌, ◌-◌, ◌+◌, ◌<◌, ◌≤◌, inl, inr, [], ℕ, suc, List, Some, ap}
+use Rattle.std.proofs.Common.{◌≡◌, ◌≢◌, ◌∙◌, ◌∷◌, ◌++◌, ◌-◌, ◌+◌, ◌<◌, inl, inr, [], ℕ, suc, List, Some, ap}
 use Rattle.std.proofs.Common.{arith, length, length-set, refl, subst, sym, add-one}
 use Rattle.std.specs.Prelude.{slice_get}
 use Rattle.std.proofs.lemmas.Option.{same_Some, slice_get_read}
 use Rattle.ira_event.specs.Log.{Log}
 use Rattle.ira_node.specs.declared.node_state.NodeState.{NodeState}
-use Rattle.ira_node.specs.NodeStep.{NodeStep}
 use Rattle.ira_order.specs.Order.{occurrences}
 use Rattle.ira_order.specs.Ring.{events_of, log_of, numbered}
 use Rattle.ira_replay.specs.LocalRun.{IsLocalRun}
-use Rattle.ira_trail.specs.declared.trail_step.TrailStep.{TrailStep}
 use Rattle.ira_trail.specs.StateTrail.{HasWalked, Reaches, StateTrail}
 use Rattle.ira_trail.specs.Trail.{HasGiven, places_of}
 use Rattle.ira_trail.proofs.Pushes.{count_elsewhere, count_there}
