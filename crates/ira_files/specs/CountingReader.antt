@@ -1,7 +1,7 @@
 -- A reader whose reads are counted.
 use Rattle.std.specs.Prelude.{ℕ, ◌+◌, ◌-◌, ◌^◌, min, Bool, true, List, Option, Result, Ok, Err, nat_eq}
 
--- a reader: the bytes that it has left, where it tells them, how many reads were made of it, whether
+-- a reader: the bytes that it has left, where it says which, how many reads were made of it, whether
 -- the last gave no byte, and whether it failed
 pub record Reads : Type 0 where
   pub left : Option (List ℕ)

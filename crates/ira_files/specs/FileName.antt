@@ -4,7 +4,7 @@ use Rattle.std.specs.List.{ends_with}
 use Rattle.ira_files.specs.declared.file_name.FileName.{FileName}
 use Rattle.ira_files.specs.declared.file_name.FileName.TheVariants.{Given, Log}
 
--- what stands between the name of a folder and that of a file in it: a slash, where the folder's doesn't end in one
+-- what comes between the name of a folder and that of a file in it: a slash, where the folder's doesn't end in one
 abbrev pub slash_after : List ℕ → List ℕ
 slash_after folder = if ends_with (λ a b. a == b) folder (codes "/") then [] else codes "/"
 

@@ -12,7 +12,7 @@ pub enum FileName<'a> {
     Log(&'a str, u8),
 }
 
-/// What stands between the name of a folder and that of a file in it.
+/// What comes between the name of a folder and that of a file in it.
 pub fn slash_after(folder: &str) -> &'static str
     ensures value { result.now ≡ slash_after folder.now }
     ensures short { length result.now ≤ 1 }

@@ -12,7 +12,7 @@ use std::fs::{self, Files, OpenFile, OpenOptions};
 use std::io::{self, BufWriter};
 
 /// The files of the system. They are written through a buffer. A read that a signal interrupted is made once more, and
-/// so the buffer does with a write. No clause tells what they hold, nor what a read of one gives, since others may
+/// so the buffer does with a write. No clause says what they hold, nor what a read of one gives, since others may
 /// change them at any time.
 #[derive(Drop)]
 pub struct FileShelf<'a, R: Files, A: Allocator> {

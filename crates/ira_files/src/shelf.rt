@@ -11,7 +11,7 @@ pub trait Shelf: TextSource {
     /// A file that is being written.
     type Out: Sink + Drop;
 
-    // the files that lie on it, where it tells them
+    // the files that lie on it, where it says which
     ghost files: { Self → Option (List File) };
 
     // what `create` does to the shelf, and what comes of it
@@ -20,8 +20,8 @@ pub trait Shelf: TextSource {
     // what `close` does to the shelf, and what comes of it
     ghost closes: { Self → Self.Out → Result (Unit {0}) ShelfFault → Self → Type 0 };
 
-    /// A new file of this name, empty; one of the same name is emptied. Where the shelf tells its files, the new one has
-    /// taken nothing yet.
+    /// A new file of this name, empty; one of the same name is emptied. Where the shelf says which files it has, the new
+    /// one has taken nothing yet.
     fn create(&mut self, name: &str) -> Result<Self::Out, ShelfFault>
         ensures made { creates self.old name.now result self.new }
         ensures fresh { IfSome (files self.new) (λ _. IfOk result (λ file. (Self.Out.state file).taken ≡ Some [])) };

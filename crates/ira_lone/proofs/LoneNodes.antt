@@ -195,29 +195,6 @@ makes_got n most terms state ids input events node held after m rest pushed is s
       subst N is (rw (remainder, more) refl),
     )
 
-pub makes_yield : (n most terms : ℕ) (state : NodeState) (ids : List ℕ) (input : List Load) (events : List Event)
-    (node : LoneNode) (held after : NodeState) (pushed : List Event)
-    → parts state ids input events ≡ node → held ≡ node.state → held.term < terms → length node.events < most
-    → NodeStep n held Yield after → pushed ≡ events ++ Yield ∷ []
-    → MakesOwn n most terms node (parts after ids input pushed) (Some after)
-makes_yield n most terms state ids input events node held after pushed is same below below_cap step more =
-    let B : NodeState → Type 0 = λ x. x.term < terms in
-    let S : NodeState → Type 0 = λ x. NodeStep n x Yield after in
-    let N : LoneNode → Type 0 = λ x. parts after ids input pushed ≡ after_event x Yield after in (
-      Yield,
-      λ k e. cc,
-      next_yield n most terms node after (subst B same below) below_cap (subst S same step),
-      subst N is (rw more refl),
-    )
-
--- a leader in the last term makes none
-pub yields_none : (n most terms : ℕ) (node : LoneNode) (held : NodeState) → held ≡ node.state → IsLeader held.phase
-    → terms ≤ held.term → HasNoNext n most terms node
-yields_none n most terms node held same leads past =
-    let L : NodeState → Type 0 = λ x. IsLeader x.phase in
-    let B : NodeState → Type 0 = λ x. terms ≤ x.term in
-    leads_last n most terms node (subst L same leads) (subst B same past)
-
 pub makes_sending : (n most terms : ℕ) (state : NodeState) (ids : List ℕ) (input : List Load) (events : List Event)
     (node : LoneNode) (held after : NodeState) (m : Load) (pushed : List Event)
     → parts state ids input events ≡ node → held ≡ node.state → Send m ≡ wanted_of held.term held.phase held.owed

@@ -45,9 +45,6 @@ term_is s t e = ap (λ (x : NodeState). x.term) e
 phase_is : (s t : NodeState) → s ≡ t → s.phase ≡ t.phase
 phase_is s t e = ap (λ (x : NodeState). x.phase) e
 
-owed_is : (s t : NodeState) → s ≡ t → s.owed ≡ t.owed
-owed_is s t e = ap (λ (x : NodeState). x.owed) e
-
 -- the term is how many resets were received, and one
 pub term_more : (n : ℕ) (s : NodeState) (e : Event) (t : NodeState) → NodeStep n s e t
     → t.term ≡ s.term + resets_in (receipt e)
