@@ -2,5 +2,6 @@ pub mod Adding
 pub mod EventLines
 pub mod FirstLines
 pub mod Printables
+pub mod Quotes
 pub mod Tables
 pub mod Telling

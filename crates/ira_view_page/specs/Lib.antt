@@ -3,6 +3,7 @@ pub mod Numbers
 pub mod Page
 pub mod Places
 pub mod Printable
+pub mod Quoted
 pub mod Table
 pub mod Told
 pub mod Words

@@ -1,6 +1,8 @@
-ghost use Rattle.std.specs.Prelude.{◌≤◌, ◌++◌, codes, decimal, length};
-ghost use Rattle.ira_view_page.specs.Page.{Added, AddedSome};
+ghost use Rattle.std.specs.Prelude.{◌≡◌, ◌≤◌, ◌<◌, ◌++◌, codes, decimal, length};
+ghost use Rattle.ira_view_page.specs.Page.{Added};
 ghost use Rattle.ira_view_page.specs.Places.{place_text, record_text};
+ghost use Rattle.ira_view_page.specs.Printable.{shown};
+ghost use Rattle.ira_view_page.specs.Quoted.{fitting, quoted_text};
 
 use crate::page::Page;
 use crate::places::line_of;
@@ -32,23 +34,23 @@ impl<A: Allocator> Page<A> {
 
     /// Adds a line of a file, of which at most 80 characters are shown.
     pub fn quote(&mut self, line: &[u8])
-        ensures { AddedSome self.old self.new }
+        ensures { Added self.old (quoted_text line.now) self.new }
     {
-        let quoted = quoted_front(line);
-        self.show(&line[..quoted]);
-        if quoted < line.len() {
+        if shown_width(line) <= QUOTED {
+            self.show(line);
+        } else {
+            self.show(&line[..fitting(line)]);
             self.words("..");
         }
     }
 }
 
-/// How many bytes of a line are shown: all, or so many that two points have room after them.
-fn quoted_front(line: &[u8]) -> usize
-    ensures { result ≤ length line.now }
+/// How many bytes of a long line are shown, so that two points have room after them.
+fn fitting(line: &[u8]) -> usize
+    requires { 80 < length (shown line.now) }
+    ensures value { result ≡ fitting 78 line.now }
+    ensures within { result ≤ length line.now }
 {
-    if shown_width(line) <= QUOTED {
-        return line.len();
-    }
     let mut width = 0usize;
     for i in 0..line.len() {
         width = width.saturating_add(byte_width(line[i]));
@@ -56,7 +58,7 @@ fn quoted_front(line: &[u8]) -> usize
             return i;
         }
     }
-    line.len()
+    unreachable!()
 }
 
 /// The column at which the byte of a line stands in its quote; a byte after the line stands at its end.

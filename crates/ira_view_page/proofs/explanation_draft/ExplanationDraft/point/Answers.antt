@@ -8,7 +8,7 @@ pub returns-clause-page : goal.returns-clause-page
 returns-clause-page g c =
     let place = c.begin.ensures & c.place.ensures & c.words.ensures in
     let quoted : AddedSome c.args.self.now.page c.if-not-is_empty.page = elim c.if-not-is_empty.branch [
-      | then-not-is_empty w ↦ rw w.page-is (_, place & w.words-then-not-is_empty.ensures & w.quote.ensures.1)
+      | then-not-is_empty w ↦ rw w.page-is (_, place & w.words-then-not-is_empty.ensures & w.quote.ensures)
       | else-not-is_empty w ↦ rw w.page-is (_, place)
     ] in
     let below =

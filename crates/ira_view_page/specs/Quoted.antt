@@ -1,0 +1,14 @@
+-- How a line is quoted.
+use Rattle.std.specs.Prelude.{ℕ, suc, ◌-◌, List, [], ◌∷◌, ◌++◌, codes, if◌then◌else◌, length, nat_le, take}
+use Rattle.ira_view_page.specs.Printable.{shown, shown_byte}
+
+-- how many first bytes of a line so many characters show
+abbrev pub fitting : ℕ → List ℕ → ℕ
+fitting room [] = 0
+fitting room (c ∷ line) =
+    if nat_le (length (shown_byte c)) room then suc (fitting (room - length (shown_byte c)) line) else 0
+
+-- all of a line that 80 characters show; of a longer one so much as 78 do, and two points
+abbrev pub quoted_text : List ℕ → List ℕ
+quoted_text line =
+    if nat_le (length (shown line)) 80 then shown line else shown (take (fitting 78 line) line) ++ codes ".."
