@@ -50,14 +50,6 @@ module _ (depth less from to r : ℕ) (more : suc less ≡ depth) where
       subst (λ (d : ℕ). begin_at d from to r ≡ begin_at less (halfway from to) to (r - 2 ^ less)) more
       (begin_right less from to r l)
 
--- and of none
-pub begin_of_none : (depth from to : ℕ) → depth ≡ 0 → begin_at depth from to 0 ≡ from
-begin_of_none depth from to none = subst (λ (d : ℕ). begin_at d from to 0 ≡ from) (sym none) refl
-
-pub end_of_none : (depth from to r : ℕ) → depth ≡ 0 → 0 < r → begin_at depth from to r ≡ to
-end_of_none depth from to (suc r) none some = subst (λ (d : ℕ). begin_at d from to (suc r) ≡ to) (sym none) refl
-end_of_none depth from to zero none some = absurd (omega arith)
-
 first : (depth from to : ℕ) → begin_at depth from to 0 ≡ from
 first zero from to = refl
 first (suc depth) from to = begin_left depth from to 0 (some_range depth) ∙ first depth from (halfway from to)

@@ -42,17 +42,6 @@ module _ (logs : List Log) (tasks : List Task) (task : Task) (is : tasks ≡ [] 
       subst (λ (t : Task). IsVerdictOf logs t (No unsound.fault))
       (sym (only_task tasks task no.1.0 unsound.section is no.1.1)) no.1.2
 
--- one section more of a batch is sound
-pub yes_more : (logs : List Log) (tasks : List Task) (n : ℕ) (task : Task) → AreYes logs n tasks
-    → slice_get tasks n ≡ Some task → IsVerdictOf logs task Yes → AreYes logs (n + 1) tasks
-yes_more logs tasks n task h at verdict k other l other_at = elim (cases_lt k n) [
-  | inl below ↦ h k other below other_at
-  | inr top ↦
-      let same : n ≡ k = omega (arith, top, l) in
-      let is : task ≡ other = same_Some task other (sym at ∙ ap (λ (j : ℕ). slice_get tasks j) same ∙ other_at) in
-      subst (λ (t : Task). IsVerdictOf logs t Yes) is verdict
-]
-
 module _ (logs : List Log) (cases : List (List Conjunct)) (sections : List Section) where
   -- one more is sound
   pub sound_more : (n : ℕ) (case : List Conjunct) (section : Section) → slice_get cases n ≡ Some case
@@ -118,7 +107,3 @@ module _ (logs : List Log) (cases : List (List Conjunct)) (sections : List Secti
         | inr last ↦ subst (λ (t : Task). IsTaskOf logs cases sections (first + k) t) last.1
             (subst (λ (j : ℕ). IsTaskOf logs cases sections (first + j) task) last.0 is)
       ]
-
-  pub no_tasks : (first : ℕ) (tasks : List Task) → tasks ≡ [] → AreTasksOf logs cases sections first tasks
-  no_tasks first tasks none k task at = let empty : slice_get {X = Task} [] k ≡ Some task =
-      ap (λ (ts : List Task). slice_get ts k) (sym none) ∙ at in absurd cc

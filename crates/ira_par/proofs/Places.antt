@@ -1,4 +1,4 @@
--- What tables and counts tell of a node's candidates.
+-- What tables and counts say of a node's candidates.
 use Rattle.std.proofs.Common.{◌≡◌, ℕ, ◌≤◌, inl, inr, List, Some, None, length, slice_get, take, sym, ◌∙◌, subst, arith}
 use Rattle.std.proofs.lemmas.List.{take_all}
 use Rattle.std.proofs.lemmas.Option.{slice_get_cases}

@@ -60,7 +60,7 @@ pub(crate) fn profiled_tables<'t, A: Allocator + Clone>(
     )
 }
 
-/// What is found for each clause of the case, which is told by its number.
+/// What is found for each clause of the case, by the clause's number.
 fn find_all<T: Drop, F, A: Allocator>(
     alloc: A,
     case: &Case<A>,
