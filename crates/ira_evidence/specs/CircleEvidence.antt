@@ -26,7 +26,7 @@ abbrev pub IsWaitedFor : List Log → List ℕ → ℕ → Type 0
 IsWaitedFor logs cut i =
     (a : ℕ) × IsPair logs i a (slice_index cut (next (length logs) i) + 1) × (slice_index cut i + 1 < a)
 
--- for each node how many events stand before the one at which it is stuck, a circle once round the ring
+-- for each node how many events come before the one at which it is stuck, a circle once round the ring
 pub record IsCircle (logs : List Log) (cut : List ℕ) : Type 0 where
   pub places : length cut ≡ length logs
   pub waits : (i : ℕ) → i < length logs → IsWaitedFor logs cut i

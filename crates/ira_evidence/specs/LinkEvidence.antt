@@ -1,4 +1,4 @@
--- What stands against a link.
+-- What is wrong with a link.
 use Rattle.std.specs.Prelude.{◌≡◌, ◌≢◌, ℕ, List, Option, Some, None}
 use Rattle.ira_event.specs.Log.{Log}
 use Rattle.ira_order.specs.declared.match_fault.MatchFault.{MatchFault}

@@ -1,4 +1,4 @@
--- What stands against a section of a certificate.
+-- What is wrong with a section of a certificate.
 use Rattle.std.specs.Prelude.{◌≡◌, ◌≢◌, ℕ, List, [], Option, Some, None, Vec, drop, slice_get, take}
 use Rattle.ira_event.specs.Log.{Log}
 use Rattle.ira_pred.specs.Case.{Conjunct}
@@ -24,7 +24,7 @@ pub record IsUnsoundStep (logs : List Log) (case : List Conjunct) (steps : List 
   pub own : IsQueueHead logs case (take u.number steps) u.step.node u.own
   pub other : IsQueueHead logs case (take u.number steps) u.step.other u.other
 
--- these are left of the candidates of node i; nothing is told where the case doesn't ask it
+-- these are left of the candidates of node i; nothing where the case doesn't ask it
 abbrev pub AreLeftOf : {A : Type 0} → List Log → List Conjunct → List CertStep → ℕ → Option (Vec ℕ A) → Type 0
 AreLeftOf logs case steps i None = ¬ (IsAsked case i)
 AreLeftOf logs case steps i (Some left) =
@@ -38,7 +38,7 @@ pub record IsUnspent {A : Type 0} (logs : List Log) (case : List Conjunct) (sect
   pub place : u.place ≡ section.spent
   pub left : AreLeftOf logs case section.steps section.spent u.left
 
--- what stands against a section
+-- what is wrong with a section
 abbrev pub IsSectionEvidence : {A : Type 0} → List Log → List Conjunct → Section → SectionEvidence A → Type 0
 IsSectionEvidence logs case section (Unsound step) = IsUnsoundStep logs case section.steps step
 IsSectionEvidence logs case section (NotSpent unspent) = IsUnspent logs case section unspent

@@ -11,7 +11,7 @@ use ira_event::Logs;
 use ira_order::MatchFault;
 use std::alloc::Allocator;
 
-/// What stands against a link: the receipt that a fault of matching names, and the sending with its number, where there
+/// What is wrong with a link: the receipt that a fault of matching names, and the sending with its number, where there
 /// is one.
 #[derive(Clone, Copy, Debug, PartialEq, Eq)]
 pub struct LinkEvidence {

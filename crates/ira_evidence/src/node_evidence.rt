@@ -14,7 +14,7 @@ const KEPT: u32 = 5;
 #[derive(Drop)]
 pub struct NodeEvidence<A: Allocator> {
     pub fault: ReplayFault,
-    /// How many events stand before the first of the states.
+    /// How many events come before the first of the states.
     pub first: u32,
     /// The last five states up to the event, or all where there are fewer: each is one event later than the one before
     /// it, and in the last the event has no step.

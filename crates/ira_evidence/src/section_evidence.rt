@@ -16,7 +16,7 @@ use ira_event::{Listed, OutOfMemory};
 use ira_order::HappenedBefore;
 use std::alloc::Allocator;
 
-/// What stands against a section: its first step that isn't sound, or the node that isn't spent.
+/// What is wrong with a section: its first step that isn't sound, or the node that isn't spent.
 #[derive(Drop)]
 pub enum SectionEvidence<A: Allocator> {
     Unsound(UnsoundStep),
@@ -120,7 +120,7 @@ fn is_none_left<A: Allocator>(left: &Option<Vec<u32, A>>) -> bool
 }
 
 impl<A: Allocator> SectionEvidence<A> {
-    /// What stands against a section for a case of which the candidates are at hand, place by place; nothing where it is
+    /// What is wrong with a section for a case of which the candidates are given, place by place; nothing where it is
     /// sound. The section's sound steps are made.
     pub fn find<C, I>(
         alloc: A,

@@ -7,7 +7,7 @@ pub struct StuckAt {
     pub receipt: EventAt,
     /// What it received.
     pub load: Load,
-    /// The sending that it waits for. It stands in the log of the node before, after the receipt at which that node is
+    /// The sending that it waits for. It is in the log of the node before, after the receipt at which that node is
     /// stuck.
     pub sending: EventAt,
 }
