@@ -1,9 +1,12 @@
-ghost use Rattle.std.specs.Prelude.{IfOk, map};
+ghost use Rattle.std.specs.Prelude.{◌≡◌, [], IfOk, Some, codes, map};
 ghost use Rattle.ira_audit.specs.Judged.{IsJudged};
 ghost use Rattle.ira_audit.specs.LogTextAnswer.{IsLogTextAnswer};
 ghost use Rattle.ira_audit.specs.Refusal.{IsRingReason};
 ghost use Rattle.ira_audit.specs.RefusedLogs.{AreRefused};
 ghost use Rattle.ira_audit.specs.Report.{IsReportable};
+ghost use Rattle.ira_explain.specs.Counts.{counts};
+ghost use Rattle.ira_view_page.specs.Page.{Added};
+ghost use Rattle.ira_view_page.specs.Told.{evidence_of};
 
 use crate::circle_block::explain_circle;
 use crate::good_block::{explain_end_alone, explain_run};
@@ -22,7 +25,11 @@ use std::alloc::Allocator;
 pub fn draft_of_ring<A: Allocator + Clone>(
     alloc: A,
     logs: &Logs<A>,
-) -> Result<ExplanationDraft<A>, OutOfMemory> {
+) -> Result<ExplanationDraft<A>, OutOfMemory>
+    ensures ring { IfOk result (λ draft. draft.ring ≡ Some (counts logs.now)) }
+    ensures page { IfOk result (λ draft. Added (Some []) (codes "\n") draft.page) }
+    ensures evidence { IfOk result (λ draft. evidence_of draft ≡ Some []) }
+{
     let mut draft = ExplanationDraft::after_answer(alloc)?;
     draft.ring = Some(RingCounts::of(logs));
     Ok(draft)
@@ -32,7 +39,10 @@ pub fn draft_of_ring<A: Allocator + Clone>(
 pub fn draft_run<A: Allocator + Clone>(
     alloc: A,
     logs: &Logs<A>,
-) -> Result<ExplanationDraft<A>, OutOfMemory> {
+) -> Result<ExplanationDraft<A>, OutOfMemory>
+    ensures ring { IfOk result (λ draft. draft.ring ≡ Some (counts logs.now)) }
+    ensures evidence { IfOk result (λ draft. evidence_of draft ≡ Some []) }
+{
     let mut draft = draft_of_ring(alloc.clone()?, logs)?;
     explain_run(&alloc, &mut draft.page, logs);
     Ok(draft)
