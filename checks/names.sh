@@ -1,6 +1,7 @@
 #!/bin/sh
 # What pages name is there: the file and the heading that a link leads to, and in back quotes files and the items of code, as
-# `NodeLog`, `read_log` or `RingAudit::take`. And each crate has a user, but for programs and tests.
+# `NodeLog`, `read_log` or `RingAudit::take`. And each crate has a user, but for programs and tests, and names each crate that
+# crates.txt puts it on.
 #
 #     sh checks/names.sh
 
@@ -58,7 +59,14 @@ sed -n 's/^\([a-z0-9_]*\):\(.*\)/\1 \2/p' crates.txt | awk '
     END { for (n = 1; n <= NR; n++) if (!(crate[n] in used) && crate[n] !~ /^(ira|gate|.*_tests)$/) print crate[n] }' |
     sed 's/$/: no crate rests on it/' > "$made/crates"
 
-for it in links items files crates; do
+sed -n 's/^\([a-z0-9_]*\):\(.*\)/\1 \2/p' crates.txt | while read -r crate below; do
+    for other in $below; do
+        grep -rqw --include='*.rt' --include='*.antt' "$other" "crates/$crate/src" "crates/$crate/specs" \
+            "crates/$crate/proofs" 2> /dev/null || echo "crates.txt: no file of $crate names $other"
+    done
+done > "$made/below"
+
+for it in links items files crates below; do
     while read -r line; do
         fail "$line"
     done < "$made/$it"
