@@ -9,6 +9,7 @@ mod exchange;
 mod laws;
 mod link_evidence;
 mod node_evidence;
+mod reached_state;
 mod section_evidence;
 mod stuck_at;
 
@@ -20,5 +21,6 @@ pub use exchange::{Exchange, nth_receipt, nth_sending};
 pub use laws::{some_faulty_event_is_a_beginning, stuck_receipts_are_a_circle};
 pub use link_evidence::LinkEvidence;
 pub use node_evidence::NodeEvidence;
+pub use reached_state::state_after;
 pub use section_evidence::{SectionEvidence, UnsoundStep, Unspent};
 pub use stuck_at::StuckAt;

@@ -7,10 +7,11 @@ use crate::link_cause::LinkCause;
 use crate::link_sides::{LinkSides, is_raised};
 use crate::numbered::{numbered, numbered_page};
 use crate::ring_files::RingFiles;
-use ira_event::{Event, Load, Logs, NodeLog, OutOfMemory};
+use ira_event::{Event, Load, Logs, OutOfMemory};
+use ira_evidence::state_after;
 use ira_node::{NodeState, Phase};
 use ira_order::{EventAt, MatchFault, successor};
-use ira_replay::{States, replay};
+use ira_replay::replay;
 use ira_view_page::{ExplanationDraft, Page, event_at, line_of};
 use std::alloc::Allocator;
 
@@ -25,16 +26,6 @@ fn is_numbered_backwards<A: Allocator>(alloc: &A, logs: &Logs<A>) -> Result<bool
         }
     }
     Ok(nodes > 2)
-}
-
-/// The state of a node before an event of its log, where it has one.
-fn state_before<A: Allocator>(log: &NodeLog<A>, event: u32) -> Option<NodeState> {
-    for (position, state) in States::new(log.nodes(), log.initiator(), log.events()) {
-        if position.saturating_add(1) == event {
-            return Some(state);
-        }
-    }
-    None
 }
 
 /// Whether a node in this state drops the load for its lesser pair.
@@ -107,7 +98,8 @@ impl<A: Allocator + Clone> FaultyLink<'_, '_, A> {
 
     /// Tells where the reader would have dropped the sending that it has no receipt of.
     fn explain_drop(&self, draft: &mut ExplanationDraft<A>, sending: Load) {
-        if let Some(state) = state_before(self.logs.log(self.reader), self.receipt.at.position)
+        let before = self.receipt.at.position.saturating_sub(1);
+        if let Some(state) = state_after(self.logs.log(self.reader), before)
             && is_dropped(state, sending)
         {
             let mut text = numbered_page(self.alloc, "node ", u32::from(self.reader));

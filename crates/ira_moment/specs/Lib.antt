@@ -4,3 +4,4 @@ pub mod Laws
 pub mod Moment
 pub mod NodeProgress
 pub mod Rounds
+pub mod Totals

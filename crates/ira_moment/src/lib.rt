@@ -8,6 +8,7 @@ mod laws;
 mod moment;
 mod node_progress;
 mod rounds;
+mod totals;
 
 pub use chosen_moment::ChosenMoment;
 pub use cut_fault::CutFault;
@@ -16,3 +17,4 @@ pub use laws::moments_are_configurations;
 pub use moment::Moment;
 pub use node_progress::NodeProgress;
 pub use rounds::{Round, Rounds};
+pub use totals::Totals;

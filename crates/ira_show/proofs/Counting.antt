@@ -4,7 +4,7 @@ use Rattle.std.specs.Prelude.{slice_get}
 use Rattle.std.specs.List.{sum_by}
 use Rattle.std.proofs.lemmas.List.Sums.{sum_by_more}
 use Rattle.std.proofs.lemmas.Option.{get_or_from_slice_get, slice_get_within}
-use Rattle.ira_show.specs.Counts.{capped_sum}
+use Rattle.ira_moment.specs.Totals.{capped_sum}
 
 capped_again : (n s x y : ℕ) → n ≡ min s (2 ^ 64 - 1) → y ≡ s + x → min (n + x) (2 ^ 64 - 1) ≡ min y (2 ^ 64 - 1)
 capped_again n s x y is more = omega arith

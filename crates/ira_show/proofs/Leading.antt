@@ -3,7 +3,7 @@ use Rattle.std.proofs.Common.{◌≡◌, ℕ, zero, suc, ◌+◌, List, [], ◌�
 use Rattle.std.proofs.Common.{◌∙◌}
 use Rattle.std.specs.Prelude.{slice_get}
 use Rattle.ira_moment.specs.declared.node_progress.NodeProgress.{NodeProgress}
-use Rattle.ira_show.specs.declared.leads.Leads.{Leads}
+use Rattle.ira_view_page.specs.declared.summary.Leads.{Leads}
 use Rattle.ira_show.specs.Summary.{leader_from, leads_in, or_else}
 
 drop_suc : {X : Type 0} (xs : List X) (i : ℕ) (x : X) → slice_get xs i ≡ Some x → drop i xs ≡ x ∷ drop (suc i) xs

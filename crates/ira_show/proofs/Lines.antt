@@ -12,42 +12,16 @@ use Rattle.std.proofs.lemmas.List.{take_all, take_more}
 use Rattle.std.proofs.lemmas.Option.{get_or_from_slice_get, slice_get_within}
 use Rattle.ira_show.specs.Listed.{list_text}
 use Rattle.ira_view_page.specs.Page.{Added, AddedBy}
-use Rattle.ira_view_page.proofs.Adding.{◌&◌, added_next, added_part}
+use Rattle.ira_view_page.proofs.Adding.{◌&◌, added_as, added_part, holds}
 
 -- nothing was there before
 pub began : {X : Type 0} {a b : Option (List X)} {x : List X} → a ≡ Some [] → Added a x b → Added (Some []) x b
 began {X} {a} {b} {x} is p = subst (λ (o : Option (List X)). Added o x b) is p
 
--- the same in other words
-pub added_as : {X : Type 0} {a b : Option (List X)} {x y : List X} → x ≡ y → Added a x b → Added a y b
-added_as {X} {a} {b} {x} {y} same p = subst (λ (t : List X). Added a t b) same p
-
--- what holds nothing but these
-pub holds : {X : Type 0} {a b : Option (List X)} {x : List X} (all : List X) → a ≡ Some [] → Added a x b → b ≡ Some all
-    → all ≡ x
-holds {X} {a} {b} {x} all is p at =
-    let r = p.ends all at in
-    let none : r.0 ≡ [] = cc in
-    r.2 ∙ ap (λ before. before ++ x) none
-
 -- a part that holds nothing but these
 pub added_whole : {X Y : Type 0} {seen : List Y → List X} {a c : Option (List X)} {e part : Option (List Y)}
     {t : List Y} → e ≡ Some [] → Added e t part → AddedBy seen a part c → Added a (seen t) c
 added_whole {X} {Y} {seen} {a} {c} {e} {part} {t} is p q = added_part t (λ all at. holds all is p at) q
-
--- a finished page holds nothing but these
-pub finished : {E : Type 0} {a b : Option (List ℕ)} {x : List ℕ} (r : Result (List ℕ) E) → a ≡ Some [] → Added a x b
-    → MatchResult r (λ text. b ≡ Some text) (λ e. b ≡ None) → IfOk r (λ text. text ≡ x)
-finished (Ok text) is p at = holds text is p at
-finished (Err e) is p at = tt
-
--- the next element, which is there
-pub added_at : {X Y : Type 0} {p q r : Option (List Y)} (f : X → List Y) (xs : List X) (i : ℕ) (x : X)
-    → slice_get xs i ≡ Some x → Added p (flat_map f (take i xs)) q → Added q (f x) r
-    → Added p (flat_map f (take (i + 1) xs)) r
-added_at {X} {Y} {p} {q} {r} f xs i x at a b =
-    added_next f xs i x (slice_get_within xs i x at) a
-    (subst (λ (y : X). Added q (f y) r) (sym (get_or_from_slice_get xs i x x at)) b)
 
 -- the text of the next element, which is there
 flat_more : {X Y : Type 0} (f : X → List Y) (xs : List X) (i : ℕ) (x : X) → slice_get xs i ≡ Some x
@@ -66,20 +40,7 @@ added_below head f xs i x at a b =
     added_as (append_assoc head (flat_map f (take i xs)) (f x) ∙ ap (λ t. head ++ t) (sym (flat_more f xs i x at)))
     (a & b)
 
--- the element of a numbered list, and of two lists side by side
-numbered_at : {X : Type 0} (xs : List X) (k i : ℕ) (x : X) → slice_get xs i ≡ Some x
-    → slice_get (enumerate_from k xs) i ≡ Some (k + i, x)
-numbered_at [] k i x at = cc
-numbered_at (y ∷ ys) k zero x at = let n : k + 0 ≡ k = add-zero k in cc
-numbered_at {X} (y ∷ ys) k (suc i) x at =
-    let n : k + 1 + i ≡ k + suc i = omega arith in
-    numbered_at ys (k + 1) i x at ∙ ap (λ (m : ℕ). Some (m, x)) n
-
-pub element_at : {X : Type 0} (xs : List X) (i : ℕ) (x : X) → slice_get xs i ≡ Some x
-    → slice_get (enumerate_from 0 xs) i ≡ Some (i, x)
-element_at {X} xs i x at =
-    let n : 0 + i ≡ i = omega arith in numbered_at xs 0 i x at ∙ ap (λ (m : ℕ). Some (m, x)) n
-
+-- the element of two lists side by side
 pub both_at : {X Y : Type 0} (xs : List X) (ys : List Y) (i : ℕ) (x : X) (y : Y) → slice_get xs i ≡ Some x
     → slice_get ys i ≡ Some y → slice_get (zip xs ys) i ≡ Some (x, y)
 both_at [] ys i x y at other = cc

@@ -12,7 +12,7 @@ use Rattle.ira_moment.specs.declared.rounds.Round.{Round}
 use Rattle.ira_pred.specs.Case.{Conjunct}
 use Rattle.ira_pred.specs.Formula.{Formula}
 use Rattle.ira_show.proofs.Lines.{list_any-map}
-use Rattle.ira_show.specs.Counts.{capped_sum}
+use Rattle.ira_moment.specs.Totals.{capped_sum}
 use Rattle.ira_show.specs.RoundLines.{beyond_text, head_cells, is_later, round_row, round_rows, rounds_text}
 use Rattle.ira_show.specs.Way.{link_text, loads_text, numbered_link_text, way_text}
 use Rattle.ira_view_page.specs.Table.{table_row, table_text}

@@ -1,7 +1,6 @@
 pub mod Asked
 pub mod Cells
 pub mod Change
-pub mod Counts
 pub mod EventLine
 pub mod EventParts
 pub mod Heading
@@ -12,4 +11,5 @@ pub mod NodeLines
 pub mod RoundLines
 pub mod Showed
 pub mod Summary
+pub mod Totals
 pub mod Way

@@ -5,7 +5,7 @@ use Rattle.std.specs.List.{enumerate_from, flat_map}
 use Rattle.ira_event.specs.declared.load.Load.{Load}
 use Rattle.ira_event.specs.LogText.{load_text}
 use Rattle.ira_order.specs.Ring.{next}
-use Rattle.ira_show.specs.Counts.{capped_sum}
+use Rattle.ira_moment.specs.Totals.{capped_sum}
 use Rattle.ira_show.specs.Listed.{comma_text, list_text}
 use Rattle.ira_view_page.specs.Numbers.{more_text}
 

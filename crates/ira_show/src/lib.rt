@@ -3,17 +3,16 @@
 
 mod cells;
 mod change;
-mod counts;
 mod event_line;
 mod event_lines;
 mod heading;
 mod leaders;
-mod leads;
 mod listed;
 mod moment_page;
 mod nodes;
 mod rounds;
 mod summary;
+mod totals;
 mod way;
 
 pub use event_lines::show_events;

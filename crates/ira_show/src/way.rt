@@ -3,8 +3,8 @@ ghost use Rattle.ira_show.specs.Listed.{list_text};
 ghost use Rattle.ira_view_page.specs.Numbers.{more_text};
 ghost use Rattle.ira_view_page.specs.Page.{Added};
 
-use crate::counts::number_on_the_way;
 use crate::listed::add_comma;
+use crate::totals::number_on_the_way;
 use ira_event::Load;
 use ira_moment::Moment;
 use ira_order::successor;

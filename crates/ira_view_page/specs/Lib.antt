@@ -4,6 +4,7 @@ pub mod Page
 pub mod Places
 pub mod Printable
 pub mod Quoted
+pub mod Summary
 pub mod Table
 pub mod Told
 pub mod Words

@@ -2,8 +2,9 @@ use Rattle.std.proofs.Common.{◌≤◌, ◌∙◌, ap, arith, length, refl}
 use Rattle.std.specs.List.{enumerate_from, flat_map}
 use Rattle.std.proofs.lemmas.List.{take_all}
 use Rattle.std.proofs.lemmas.List.FromFn.{length-enumerate_from}
+use Rattle.ira_view_page.proofs.Adding.{added_as, added_at, element_at, finished}
 use Rattle.ira_show.specs.Leaders.{difference_text, is_leader, node_difference}
-use Rattle.ira_show.proofs.Lines.{added_as, added_at, element_at, finished, ok_then}
+use Rattle.ira_show.proofs.Lines.{ok_then}
 use Rattle.ira_show.proofs.Naming.{none_differ}
 use Rattle.ira_show.proofs.leaders.leads_differ.Goals as goal
 

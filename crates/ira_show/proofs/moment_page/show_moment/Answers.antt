@@ -1,6 +1,6 @@
 use Rattle.std.proofs.Common.{inl, inr, true}
-use Rattle.ira_view_page.proofs.Adding.{◌&◌}
-use Rattle.ira_show.proofs.Lines.{finished, ok_then}
+use Rattle.ira_view_page.proofs.Adding.{◌&◌, finished}
+use Rattle.ira_show.proofs.Lines.{ok_then}
 use Rattle.ira_show.specs.Heading.{heading_text}
 use Rattle.ira_show.specs.MomentText.{TellsMoment}
 use Rattle.ira_show.proofs.moment_page.show_moment.Goals as goal

@@ -1,9 +1,9 @@
 use Rattle.std.proofs.Common.{◌∷◌, ◌∙◌, [], ap, decimal}
 use Rattle.ira_view_page.specs.Table.{left_cell, right_cell}
-use Rattle.ira_view_page.proofs.Adding.{◌&◌}
+use Rattle.ira_view_page.proofs.Adding.{◌&◌, added_as}
 use Rattle.ira_show.specs.Cells.{cell_if}
 use Rattle.ira_show.specs.NodeLines.{start_text}
-use Rattle.ira_show.proofs.Lines.{added_as, added_whole, began}
+use Rattle.ira_show.proofs.Lines.{added_whole, began}
 use Rattle.ira_show.proofs.nodes.cells.Goals as goal
 
 pub returns : goal.returns

@@ -3,8 +3,9 @@ use Rattle.std.specs.List.{flat_map, zip}
 use Rattle.std.proofs.lemmas.List.{take_all}
 use Rattle.ira_view_page.specs.Table.{table_row}
 use Rattle.ira_view_page.specs.declared.page.Mark.TheVariants.{Plain}
+use Rattle.ira_view_page.proofs.Adding.{added_as}
 use Rattle.ira_show.specs.NodeLines.{head_cells, node_row}
-use Rattle.ira_show.proofs.Lines.{added_as, added_below, added_whole, began, both_at, length-zip-le}
+use Rattle.ira_show.proofs.Lines.{added_below, added_whole, began, both_at, length-zip-le}
 use Rattle.ira_show.proofs.nodes.show_nodes.Goals as goal
 
 pub loop-place-init : goal.loop-place-init

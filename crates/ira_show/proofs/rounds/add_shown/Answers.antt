@@ -1,8 +1,9 @@
 use Rattle.std.proofs.Common.{ap}
 use Rattle.std.specs.List.{flat_map}
 use Rattle.ira_moment.specs.Rounds.{drawn}
+use Rattle.ira_view_page.proofs.Adding.{added_as}
 use Rattle.ira_show.specs.RoundLines.{round_row}
-use Rattle.ira_show.proofs.Lines.{added_as, take_shown}
+use Rattle.ira_show.proofs.Lines.{take_shown}
 use Rattle.ira_show.proofs.rounds.add_shown.Goals as goal
 
 pub returns : goal.returns

@@ -1,7 +1,7 @@
 use Rattle.std.proofs.Common.{ap}
 use Rattle.ira_view_page.specs.Numbers.{places_text}
-use Rattle.ira_view_page.proofs.Adding.{◌&◌}
-use Rattle.ira_show.proofs.Lines.{added_as, added_whole, began}
+use Rattle.ira_view_page.proofs.Adding.{◌&◌, added_as}
+use Rattle.ira_show.proofs.Lines.{added_whole, began}
 use Rattle.ira_show.proofs.rounds.cells.Goals as goal
 
 pub returns : goal.returns

@@ -2,8 +2,8 @@ use Rattle.std.proofs.Common.{◌≡◌, ◌-◌, ◌==◌, ◌∙◌, ap, lengt
 use Rattle.std.proofs.lemmas.List.{length-map}
 use Rattle.ira_moment.specs.Rounds.{drawn}
 use Rattle.ira_show.specs.RoundLines.{beyond_text}
-use Rattle.ira_view_page.proofs.Adding.{◌&◌}
-use Rattle.ira_show.proofs.Lines.{added_as, added_whole, began}
+use Rattle.ira_view_page.proofs.Adding.{◌&◌, added_as}
+use Rattle.ira_show.proofs.Lines.{added_whole, began}
 use Rattle.ira_show.proofs.Parts.{rounds_are, some_rounds}
 use Rattle.ira_show.proofs.rounds.show_rounds.Goals as goal
 

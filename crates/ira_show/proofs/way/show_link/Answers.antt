@@ -1,6 +1,5 @@
 use Rattle.std.proofs.Common.{◌∙◌, sym}
-use Rattle.ira_view_page.proofs.Adding.{◌&◌}
-use Rattle.ira_show.proofs.Lines.{added_as}
+use Rattle.ira_view_page.proofs.Adding.{◌&◌, added_as}
 use Rattle.ira_show.proofs.Parts.{some_loads}
 use Rattle.ira_show.proofs.way.show_link.Goals as goal
 

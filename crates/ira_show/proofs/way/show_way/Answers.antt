@@ -4,10 +4,9 @@ use Rattle.std.proofs.lemmas.Bool.Decides.{nat_tests}
 use Rattle.std.proofs.lemmas.List.{take_all}
 use Rattle.std.proofs.lemmas.List.FromFn.{length-enumerate_from}
 use Rattle.ira_order.specs.Ring.{next}
-use Rattle.ira_show.specs.Counts.{capped_sum}
+use Rattle.ira_moment.specs.Totals.{capped_sum}
 use Rattle.ira_show.specs.Way.{link_text, numbered_link_text}
-use Rattle.ira_view_page.proofs.Adding.{◌&◌}
-use Rattle.ira_show.proofs.Lines.{added_as, added_at, element_at}
+use Rattle.ira_view_page.proofs.Adding.{◌&◌, added_as, added_at, element_at}
 use Rattle.ira_show.proofs.Parts.{some_way}
 use Rattle.ira_show.proofs.way.show_way.Goals as goal
 

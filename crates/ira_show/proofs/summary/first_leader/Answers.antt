@@ -1,6 +1,6 @@
 use Rattle.std.proofs.Common.{sym, ◌∙◌}
 use Rattle.ira_show.proofs.Leading.{leads_here, leads_later}
-use Rattle.ira_show.proofs.leads.first_leader.Goals as goal
+use Rattle.ira_show.proofs.summary.first_leader.Goals as goal
 
 pub returns-in-Some : goal.returns-in-Some
 returns-in-Some g c =

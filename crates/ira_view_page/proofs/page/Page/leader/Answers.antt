@@ -1,5 +1,5 @@
 use Rattle.ira_view_page.proofs.Adding.{◌&◌}
-use Rattle.ira_show.proofs.summary.show_leader.Goals as goal
+use Rattle.ira_view_page.proofs.page.Page.leader.Goals as goal
 
 pub returns : goal.returns
 returns g c =

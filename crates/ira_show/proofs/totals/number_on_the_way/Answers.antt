@@ -1,6 +1,6 @@
 use Rattle.std.proofs.Common.{◌∙◌, length}
 use Rattle.ira_show.proofs.Counting.{capped_at}
-use Rattle.ira_show.proofs.counts.number_on_the_way.Goals as goal
+use Rattle.ira_show.proofs.totals.number_on_the_way.Goals as goal
 
 pub loop-link-preserved : goal.loop-link-preserved
 loop-link-preserved g c =

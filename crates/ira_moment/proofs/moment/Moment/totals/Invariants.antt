@@ -1,6 +1,6 @@
 use Rattle.std.proofs.Common.{◌≡◌, take}
-use Rattle.ira_show.specs.Counts.{capped_sum}
-use Rattle.ira_show.proofs.counts.Counts.of.Given as goal
+use Rattle.ira_moment.specs.Totals.{capped_sum}
+use Rattle.ira_moment.proofs.moment.Moment.totals.Given as goal
 
 abbrev pub invariant-loop-node : goal.invariant-loop-node
 invariant-loop-node g l = record {
