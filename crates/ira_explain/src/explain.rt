@@ -4,7 +4,7 @@ ghost use Rattle.ira_audit.specs.LogTextAnswer.{IsLogTextAnswer};
 ghost use Rattle.ira_audit.specs.Refusal.{IsRingReason};
 ghost use Rattle.ira_audit.specs.RefusedLogs.{AreRefused};
 ghost use Rattle.ira_audit.specs.Report.{IsReportable};
-ghost use Rattle.ira_explain.specs.Counts.{counts};
+ghost use Rattle.ira_explain.specs.Counts.{counts, ring_of};
 ghost use Rattle.ira_view_page.specs.Page.{Added};
 ghost use Rattle.ira_view_page.specs.Told.{evidence_of};
 
@@ -57,7 +57,7 @@ fn draft_refused<A: Allocator + Clone>(
     requires { AreRefused refused.now }
 {
     let (logs, faulty) = (refused.logs(), refused.faulty_events());
-    let mut draft = draft_of_ring(alloc.clone()?, logs)?;
+    let mut draft = ExplanationDraft::after_answer(alloc.clone()?)?;
     let ring = RingFiles {
         alloc: &alloc,
         files,
@@ -93,6 +93,17 @@ fn draft_no_ring<A: Allocator + Clone>(
     Ok(draft)
 }
 
+/// How many nodes and events there are, where the texts are those of a ring's logs.
+fn ring_of<A: Allocator + Clone>(judged: &Judged<A>) -> Option<RingCounts>
+    ensures { result ≡ ring_of judged.now }
+{
+    match judged {
+        Judged::Good(logs) => Some(RingCounts::of(logs.logs())),
+        Judged::Refused(refused) => Some(RingCounts::of(refused.logs())),
+        Judged::NoRing(_) => None,
+    }
+}
+
 /// Why the logs of a ring, or texts that should be them, are judged as they are: an empty line, and what stands in which
 /// lines of which files, what is due there, the rule, and usual causes that the files point to.
 pub fn explain_logs<A: Allocator + Clone>(
@@ -101,12 +112,14 @@ pub fn explain_logs<A: Allocator + Clone>(
     judged: &Judged<A>,
 ) -> Result<Explanation<A>, OutOfMemory>
     requires { IsJudged (map (λ file. file.text.now) files.now) judged.now }
+    ensures { IfOk result (λ explanation. explanation.ring ≡ ring_of judged.now) }
 {
-    let draft = match judged {
+    let mut draft = match judged {
         Judged::Good(logs) => draft_run(alloc, logs.logs())?,
         Judged::Refused(refused) => draft_refused(alloc, files, refused)?,
         Judged::NoRing(reason) => draft_no_ring(alloc, files, *reason)?,
     };
+    draft.ring = ring_of(judged);
     draft.finish()
 }
 
