@@ -12,7 +12,7 @@ use ira_evidence::state_after;
 use ira_node::{NodeState, Phase};
 use ira_order::{EventAt, MatchFault, successor};
 use ira_replay::replay;
-use ira_view_page::{ExplanationDraft, Page, event_at, line_of};
+use ira_view_page::{ExplanationDraft, Page, event_at};
 use std::alloc::Allocator;
 
 /// Whether numbered the other way round all links match.
@@ -89,11 +89,10 @@ impl<A: Allocator + Clone> FaultyLink<'_, '_, A> {
         text.words(
             ") where it owes exactly this message: the node stopped before its last record was ",
         );
-        text.words("written. Where a crash is the cause, end the log of node ");
-        text.number(self.reader as u64);
-        text.words(" before line ");
-        text.number(line_of(self.receipt.at.position) as u64);
-        text.words(", and so on along the ring.");
+        text.words(
+            "written. Where a crash is the cause, `ira mend --out DIR` ends the logs where they ",
+        );
+        text.words("fit together.");
     }
 
     /// Tells where the reader would have dropped the sending that it has no receipt of.

@@ -9,7 +9,9 @@ use ira_event::{Event, NodeLog, OutOfMemory};
 use ira_evidence::{Beginning, NodeEvidence, beginnings};
 use ira_node::StepFault;
 use ira_order::{DirectDependencies, EventAt, FaultyEvent, HappenedBefore};
-use ira_view_page::{ExplanationDraft, Mark, Page, Row, Table, event_at, event_of, file_of};
+use ira_view_page::{
+    ExplanationDraft, Mark, Page, Row, Table, event_at, event_of, file_of, log_at,
+};
 use std::alloc::Allocator;
 
 /// So many events are shown before the one that has no step, and how the node starts where these are all.
@@ -129,20 +131,25 @@ impl<'a, 'l, A: Allocator + Clone> StoppedLog<'a, 'l, A> {
     }
 
     /// Adds the states that lead to the event, and the rules that say what is due there.
-    fn explain_states(&self, draft: &mut ExplanationDraft<A>) {
+    fn explain_states(&self, page: &mut Page<A>) {
+        page.table(&self.state_table());
+        page.blank();
+        let (rule, further) = self.stopped.rules();
+        page.paragraph(rule.words());
+        if let Some(rule) = further {
+            page.paragraph(rule.words());
+        }
+    }
+
+    /// Adds why the event that the answer names has no step, and tells it and the state before it as evidence.
+    fn explain_named(&self, draft: &mut ExplanationDraft<A>) {
         let at = EventAt {
             place: self.log.place(),
             position: self.evidence.fault.position,
         };
         draft.faulty(self.file, at, self.stopped.event);
         draft.state_before = Some(self.stopped.state);
-        draft.page.table(&self.state_table());
-        draft.page.blank();
-        let (rule, further) = self.stopped.rules();
-        draft.page.paragraph(rule.words());
-        if let Some(rule) = further {
-            draft.page.paragraph(rule.words());
-        }
+        self.explain_states(&mut draft.page);
     }
 
     /// Adds the usual cause, where there is one.
@@ -236,19 +243,26 @@ fn is_before<A: Allocator>(
     )
 }
 
-/// Adds the events without a step of other nodes, where there are any.
+/// The least place where an event to begin with happened before the named one.
+fn first_before(found: &[Beginning]) -> Option<u8> {
+    let first = found.iter().find(|beginning| beginning.happened_before)?;
+    Some(first.event.at.place)
+}
+
+/// Adds the events without a step of other nodes, where there are any, and gives the place of one to begin with, where
+/// that isn't the named one.
 fn explain_others<A: Allocator + Clone>(
     ring: &RingFiles<'_, '_, A>,
     draft: &mut ExplanationDraft<A>,
     faulty: &[FaultyEvent],
     named: FaultyEvent,
-) -> Result<(), OutOfMemory>
+) -> Result<Option<u8>, OutOfMemory>
     requires order { HasOrder ring.now.logs.now }
     requires faulty { AreFirstFaultyEvents ring.now.logs.now faulty.now }
     requires named { IsFirstFaultyEvent ring.now.logs.now named }
 {
     if faulty.len() < 2 {
-        return Ok(());
+        return Ok(None);
     }
     let ordered = DirectDependencies::new(ring.alloc.clone()?, ring.logs)?;
     let found = beginnings(ring.alloc, &ordered, faulty, named)?;
@@ -258,10 +272,28 @@ fn explain_others<A: Allocator + Clone>(
         }
     }
     draft.page.blank();
-    if found.iter().any(|beginning| beginning.happened_before) {
+    let first = first_before(&found);
+    if first.is_some() {
         ring.explain_beginnings(&mut draft.page, faulty.len(), &found);
     } else {
         ring.explain_no_beginning(&mut draft.page, faulty, named);
+    }
+    Ok(first)
+}
+
+/// Adds why the event without a step of this place has none, and its usual cause.
+fn explain_beginning<A: Allocator + Clone>(
+    ring: &RingFiles<'_, '_, A>,
+    draft: &mut ExplanationDraft<A>,
+    place: u8,
+) -> Result<(), OutOfMemory> {
+    let Some(log) = log_at(ring.logs, place) else {
+        return Ok(());
+    };
+    if let Some(stopped) = StoppedLog::find(ring.alloc, file_of(ring.files, place), log)? {
+        draft.page.blank();
+        stopped.explain_states(&mut draft.page);
+        stopped.explain_cause(draft);
     }
     Ok(())
 }
@@ -282,9 +314,11 @@ pub(crate) fn explain_node<A: Allocator + Clone>(
         ring.logs.log(named.at.place),
     );
     if let Some(stopped) = StoppedLog::find(ring.alloc, file, log)? {
-        stopped.explain_states(draft);
-        explain_others(ring, draft, faulty, named)?;
-        stopped.explain_cause(draft);
+        stopped.explain_named(draft);
+        match explain_others(ring, draft, faulty, named)? {
+            Some(place) => explain_beginning(ring, draft, place)?,
+            None => stopped.explain_cause(draft),
+        }
     }
     Ok(())
 }
@@ -297,7 +331,7 @@ pub(crate) fn explain_log_alone<A: Allocator + Clone>(
     log: &NodeLog<A>,
 ) -> Result<(), OutOfMemory> {
     if let Some(stopped) = StoppedLog::find(alloc, file, log)? {
-        stopped.explain_states(draft);
+        stopped.explain_named(draft);
         stopped.explain_cause(draft);
     }
     Ok(())

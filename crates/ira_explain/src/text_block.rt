@@ -179,12 +179,10 @@ impl<A: Allocator + Clone> NoLog<'_, A> {
         if number_of(piece, b"end ").is_some_and(|count| count as usize == records) {
             draft.hint_apart("only the line feed is missing.");
         } else {
-            let mut hint = Page::new(self.alloc);
-            hint.words("a crash, or a file that was not closed. What stands in it up to its last ");
-            hint.words("whole line may be kept: take an incomplete line away and add the line ");
-            add_end_line(&mut hint, records);
-            hint.words(".");
-            draft.hint_apart_of(&hint);
+            draft.hint_apart(
+                "a crash, or a file that was not closed. With all logs of the ring `ira mend --out DIR` keeps what \
+                 stands in each up to its last whole line, as far as it fits together.",
+            );
         }
     }
 

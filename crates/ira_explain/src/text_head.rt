@@ -131,11 +131,16 @@ impl<A: Allocator + Clone> NoLog<'_, A> {
         if stop.number() <= whole {
             self.explain_head_line(draft, stop);
         } else {
-            self.explain_short_head(draft, whole);
+            self.explain_short_head(draft, whole, stop);
         }
     }
 
-    fn explain_short_head(&self, draft: &mut ExplanationDraft<A>, whole: usize) {
+    fn explain_short_head(
+        &self,
+        draft: &mut ExplanationDraft<A>,
+        whole: usize,
+        due_line: HeadLine,
+    ) {
         let page = &mut draft.page;
         page.begin(Mark::Plain);
         page.show(self.file.name.as_bytes());
@@ -144,12 +149,19 @@ impl<A: Allocator + Clone> NoLog<'_, A> {
         page.words("; the head has four.");
         page.end();
         let number = whole.saturating_add(1);
-        let end = self.file.line(number).len();
+        let piece = self.file.line(number);
+        let end = piece.len();
         if end == 0 {
             draft.text(self.file);
         } else {
             let due = page_of(self.alloc, "a line feed");
             draft.point(self.file, number, end, end, Remark::Due, &due);
+        }
+        if due_line.stop(piece) == end {
+            draft.hint_apart(
+                "a node that was stopped before it had written its head. With all files of the ring `ira mend --out DIR` \
+                 gives it a log without events.",
+            );
         }
     }
 
