@@ -4,8 +4,12 @@ pub mod CircleEvidence
 pub mod Elimination
 pub mod Exchange
 pub mod Laws
+pub mod LinkCause
 pub mod LinkEvidence
+pub mod LoadDifference
+pub mod LogBetween
 pub mod NodeEvidence
+pub mod RingOrder
 pub mod SectionEvidence
 pub mod Side
 pub mod StuckNodes

@@ -1,10 +1,9 @@
 ghost use Rattle.std.specs.Prelude.{◌<◌, length};
 ghost use Rattle.ira_order.specs.MatchFault.{IsMatchFault};
 
-use crate::link_sides::LinkSides;
 use crate::ring_files::RingFiles;
 use ira_event::{Logs, OutOfMemory};
-use ira_evidence::{Exchange, LinkEvidence};
+use ira_evidence::{Exchange, LinkEvidence, LinkSides};
 use ira_order::{MatchFault, successor};
 use ira_view_page::file_of;
 use std::alloc::Allocator;
@@ -53,7 +52,7 @@ impl<'a, 'l, A: Allocator> FaultyLink<'a, 'l, A> {
         let LinkEvidence { receipt, sending } = LinkEvidence::of_fault(logs, fault);
         let (link, k) = receipt_of(logs, fault);
         let reader = successor(logs.size().get(), link);
-        let sides = LinkSides::of(ring.alloc, logs.log(link), logs.log(reader))?;
+        let sides = LinkSides::of_link(ring.alloc, logs, link)?;
         Ok(FaultyLink {
             alloc: ring.alloc,
             logs,

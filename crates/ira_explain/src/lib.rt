@@ -3,7 +3,6 @@
 
 mod carets;
 mod circle_block;
-mod difference;
 mod exchange_table;
 mod explain;
 mod faulty_link;
@@ -13,11 +12,13 @@ mod heads_block;
 mod line_form;
 mod line_stop;
 mod link_block;
-mod link_cause;
-mod link_sides;
+mod link_hint;
+mod link_search;
 mod node_block;
 mod numbered;
 mod ring_files;
+mod ring_hint;
+mod rows_hint;
 mod rule;
 mod slip;
 mod stopped;

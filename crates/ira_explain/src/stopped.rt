@@ -26,6 +26,8 @@ pub(crate) struct Stopped {
     next: Option<Event>,
     /// What the node would owe after that one, did it come in place of the event.
     called: Option<Load>,
+    /// The event after it that sends what is owed.
+    sent_later: Option<u32>,
     /// Where the log first has a sending that begins clean.
     first_clean: Option<u32>,
 }
@@ -51,6 +53,7 @@ impl Stopped {
             last,
             next: event_of(log, position.saturating_add(1)),
             called: called_for(log, *state, position.saturating_add(1)),
+            sent_later: sending_after(log, position, state.owed),
             first_clean: first_clean_start(log),
         })
     }
@@ -202,13 +205,14 @@ impl Stopped {
             (StepFault::Ended, Event::Sent(Load::Reset(1)), _) => {
                 text.words("the `yield` is recorded too, in front of its `send reset 1`.");
             }
-            (StepFault::Owes, Event::Got(_), _) => {
-                text.words(
-                    "a message is passed on before the next one is taken: record the sending where it was made.",
-                );
-            }
+            (StepFault::Owes, Event::Got(_), _) => self.add_unsent(text),
             (StepFault::Owes, Event::Draw(_), _) if self.owes_reset() => {
-                text.words("a reset is passed on before the node draws in the new term.");
+                text.words("a reset is passed on before the node draws in the new term");
+                text.words(if self.sent_later.is_some() {
+                    "."
+                } else {
+                    "; by its log the node never passed it on."
+                });
             }
             (StepFault::NotLeader, _, Phase::Yielding) => {
                 text.words("it has yielded in this term already.");
@@ -222,6 +226,24 @@ impl Stopped {
             _ => return false,
         }
         true
+    }
+
+    /// Adds where what is owed was sent, or that by its log the node never sent it.
+    fn add_unsent<A: Allocator>(&self, text: &mut Page<A>) {
+        match (self.sent_later, self.last.and_then(debt_rule)) {
+            (Some(later), _) => {
+                text.words("that sending stands on line ");
+                text.number(line_of(later) as u64);
+                text.words(": a message is passed on before the next one is taken.");
+            }
+            (None, Some(Rule::GivesIn)) => text.words(
+                "that sending stands nowhere below: by its log the node dropped a message whose pair is greater than \
+                 its own.",
+            ),
+            (None, _) => text.words(
+                "that sending stands nowhere below: by its log the node never made it.",
+            ),
+        }
     }
 
     /// The line of the event after it.
@@ -338,6 +360,19 @@ fn called_for<A: Allocator>(log: &NodeLog<A>, state: NodeState, position: u32) -
     }
 }
 
+/// The first event of a log after this one that sends this load.
+fn sending_after<A: Allocator>(log: &NodeLog<A>, position: u32, load: Option<Load>) -> Option<u32> {
+    let sending = Event::Sent(load?);
+    let mut number = 0u32;
+    for event in log.events() {
+        number = number.saturating_add(1);
+        if number > position && event == sending {
+            return Some(number);
+        }
+    }
+    None
+}
+
 /// The first sending of a log with hop 1 that is clean.
 fn first_clean_start<A: Allocator>(log: &NodeLog<A>) -> Option<u32> {
     let mut position = 0u32;
@@ -362,7 +397,9 @@ fn first_clean_start<A: Allocator>(log: &NodeLog<A>) -> Option<u32> {
 fn hop_cause(sent: u32, owed: u32) -> Option<&'static str>
     ensures { IfSome result (λ words. IsPrintable words.now) }
 {
-    if sent.saturating_add(1) == owed {
+    if owed == 1 {
+        Some("hops begin at 1, with what a node sends of its own.")
+    } else if sent.saturating_add(1) == owed {
         Some("the hop is not raised.")
     } else if owed.saturating_add(1) == sent {
         Some("the hop is raised twice.")

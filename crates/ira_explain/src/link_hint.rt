@@ -1,0 +1,255 @@
+ghost use Rattle.ira_view_page.specs.Printable.{IsPrintable};
+
+use crate::numbered::numbered;
+use crate::ring_hint::RingHint;
+use crate::rows_hint::RowsHint;
+use ira_event::Load;
+use ira_node::NodeState;
+use ira_view_page::Page;
+use std::alloc::Allocator;
+
+/// A usual cause why a link doesn't match: it explains all that the two nodes recorded of the link.
+#[derive(Clone, Copy)]
+pub(crate) enum LinkHint<'a> {
+    Ring(RingHint<'a>),
+    Rows(RowsHint),
+    /// The sender's log ends where it owes what was received.
+    OwedAtEnd {
+        writer: u8,
+        file: &'a str,
+        line: usize,
+    },
+    /// Each sending without a receipt is one that the reader drops, this one first.
+    Dropped {
+        reader: u8,
+        state: NodeState,
+        load: Load,
+    },
+    /// The reader recorded no reset that it took, or the writer none that it sent.
+    Resets {
+        node: u8,
+        is_writer: bool,
+    },
+    /// The writer recorded its own messages alone.
+    PassedOn {
+        writer: u8,
+    },
+    /// Sendings from this number on, so many, have no receipt.
+    NoReceipt {
+        first: u32,
+        count: u32,
+    },
+    /// So many sendings have no receipt, not one after the other.
+    SeveralLost {
+        count: u32,
+    },
+    /// This receipt is of the load before it.
+    CameTwice {
+        receipt: u32,
+        writer: u8,
+    },
+    /// So many receipts are of the loads before them.
+    SeveralTwice {
+        count: u32,
+        writer: u8,
+    },
+    /// From this sending on, so many aren't recorded.
+    NoSending {
+        first: u32,
+        count: u32,
+        writer: u8,
+    },
+    /// Both are exchanged with the next ones.
+    Turned {
+        first: u32,
+    },
+    /// This sending was received as that receipt, after later ones.
+    HeldBack {
+        sending: u32,
+        receipt: u32,
+    },
+    /// This receipt is that sending, before earlier ones.
+    CameEarly {
+        receipt: u32,
+        sending: u32,
+    },
+    /// What was received is nowhere among what was sent.
+    NeverSent {
+        writer: u8,
+        load: Load,
+    },
+}
+
+/// The number of the last of so many from a first one on.
+fn last_of(first: u32, count: u32) -> u32 {
+    first.saturating_add(count).saturating_sub(1)
+}
+
+/// Adds sendings, or receipts, from a first one on.
+fn add_numbers<A: Allocator>(text: &mut Page<A>, one: &str, several: &str, first: u32, count: u32)
+    requires one { IsPrintable one.now }
+    requires several { IsPrintable several.now }
+{
+    if count == 1 {
+        numbered(text, one, first);
+    } else {
+        numbered(text, several, first);
+        numbered(text, " to ", last_of(first, count));
+    }
+}
+
+impl LinkHint<'_> {
+    /// Whether it is likelier than that a node is missing on the link, where that explains it too.
+    pub(crate) fn is_sure(self) -> bool {
+        match self {
+            LinkHint::NoReceipt { count, .. } | LinkHint::NoSending { count, .. } => count == 1,
+            LinkHint::Rows(RowsHint::RaisedHop) => false,
+            _ => true,
+        }
+    }
+
+    /// Adds its sentence.
+    pub(crate) fn print<A: Allocator>(self, text: &mut Page<A>) {
+        match self {
+            LinkHint::Ring(hint) => hint.print(text),
+            LinkHint::Rows(hint) => hint.print(text),
+            LinkHint::OwedAtEnd { writer, file, line } => {
+                numbered(text, "the log of node ", u32::from(writer));
+                text.words(" ends (");
+                text.place(file, line);
+                text.words(
+                    ") where it owes exactly this message: its sending is not recorded. Where the ",
+                );
+                text.words(
+                    "node was killed before it wrote that, `ira mend --out DIR` ends the logs where ",
+                );
+                text.words("they fit together.");
+            }
+            LinkHint::Dropped {
+                reader,
+                state,
+                load,
+            } => {
+                numbered(text, "node ", u32::from(reader));
+                text.words(" was then ");
+                text.state(&state);
+                text.words(", so it drops ");
+                text.load(load);
+                text.words(
+                    " for its lesser pair: a dropped message is a receipt too, and is recorded.",
+                );
+            }
+            LinkHint::Resets { node, is_writer } => {
+                numbered(text, "node ", u32::from(node));
+                text.words(if is_writer {
+                    " records no reset that it sends"
+                } else {
+                    " records no reset that it receives"
+                });
+                text.words(
+                    ", and all else matches: each sending and receipt of a reset is recorded.",
+                );
+            }
+            LinkHint::PassedOn { writer } => {
+                numbered(text, "node ", u32::from(writer));
+                text.words(
+                    " records the messages that it begins, and none that it passes on: record each sending.",
+                );
+            }
+            LinkHint::NoReceipt { first, count } => {
+                numbered(text, "from receipt ", first);
+                if count == 1 {
+                    text.words(" on each is the sending after its own: ");
+                } else {
+                    numbered(text, " on each is the sending ", count);
+                    text.words(" after its own: ");
+                }
+                add_numbers(text, "sending ", "sendings ", first, count);
+                text.words(if count == 1 {
+                    " was lost, or its receipt is not recorded."
+                } else {
+                    " were lost, or their receipts are not recorded."
+                });
+            }
+            LinkHint::SeveralLost { count } => {
+                text.words("each receipt is a sending, in their order, and ");
+                text.number(count as u64);
+                text.words(
+                    " sendings between them have none: they were lost, or their receipts are not recorded.",
+                );
+            }
+            LinkHint::CameTwice { receipt, writer } => {
+                numbered(text, "from receipt ", receipt);
+                numbered(
+                    text,
+                    " on each is the sending before its own: message ",
+                    receipt.saturating_sub(1),
+                );
+                numbered(
+                    text,
+                    " came twice, or a sending of node ",
+                    u32::from(writer),
+                );
+                text.words(" is not recorded.");
+            }
+            LinkHint::SeveralTwice { count, writer } => {
+                text.number(count as u64);
+                numbered(
+                    text,
+                    " receipts are of the load before them, and all others are the sendings, one by one: \
+                     messages came twice, or sendings of node ",
+                    u32::from(writer),
+                );
+                text.words(" are not recorded.");
+            }
+            LinkHint::NoSending {
+                first,
+                count,
+                writer,
+            } => {
+                text.words("without ");
+                add_numbers(text, "receipt ", "receipts ", first, count);
+                text.words(" all others are sendings, in their order: ");
+                text.words(if count == 1 {
+                    "a sending of node "
+                } else {
+                    "sendings of node "
+                });
+                text.number(writer as u64);
+                text.words(if count == 1 {
+                    " is not recorded."
+                } else {
+                    " are not recorded."
+                });
+            }
+            LinkHint::Turned { first } => {
+                let next = first.saturating_add(1);
+                numbered(text, "receipts ", first);
+                numbered(text, " and ", next);
+                numbered(text, " are sendings ", next);
+                numbered(text, " and ", first);
+                text.words(": the link changed their order, or the records were sorted.");
+            }
+            LinkHint::HeldBack { sending, receipt } => {
+                numbered(text, "sending ", sending);
+                numbered(text, " is receipt ", receipt);
+                text.words(
+                    ", after later ones: the link changed their order, or the records were sorted.",
+                );
+            }
+            LinkHint::CameEarly { receipt, sending } => {
+                numbered(text, "receipt ", receipt);
+                numbered(text, " is sending ", sending);
+                text.words(
+                    ", before earlier ones: the link changed their order, or the records were sorted.",
+                );
+            }
+            LinkHint::NeverSent { writer, load } => {
+                numbered(text, "by its log node ", u32::from(writer));
+                text.words(" never sent ");
+                text.load(load);
+                text.words(".");
+            }
+        }
+    }
+}

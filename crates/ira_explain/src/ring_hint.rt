@@ -1,0 +1,158 @@
+use crate::numbered::numbered;
+use ira_view_page::Page;
+use std::alloc::Allocator;
+
+/// A usual cause why a link doesn't match that speaks of the ring: it explains all links.
+#[derive(Clone, Copy)]
+pub(crate) enum RingHint<'a> {
+    /// Numbered the other way round all links match.
+    Backwards,
+    /// With these two nodes in each other's place all links match.
+    Exchanged(u8, u8),
+    /// In this order of the places all links match.
+    OtherOrder(&'a [u8]),
+    /// The logs of a ring of two that are local runs and don't fit.
+    TwoRuns,
+    /// The log of this place fits neither neighbour, and with another log there all links would match.
+    AnotherRun { place: u8, before: u8, after: u8 },
+    /// With one node more between the two the link would match; the ring would have so many nodes then.
+    NodeBetween { writer: u8, reader: u8, nodes: u32 },
+}
+
+/// At most so many places of an order are shown.
+const MOST_PLACES: usize = 16;
+
+/// Adds an order of places.
+fn add_order<A: Allocator>(text: &mut Page<A>, order: &[u8]) {
+    let mut is_first = true;
+    for place in order.iter().take(MOST_PLACES) {
+        if !is_first {
+            text.words(", ");
+        }
+        is_first = false;
+        text.number(*place as u64);
+    }
+    if order.len() > MOST_PLACES {
+        text.words(", ..");
+    }
+}
+
+/// The node at this place where two nodes have each other's place.
+fn exchanged(place: u8, a: u8, b: u8) -> u8 {
+    if place == a {
+        b
+    } else if place == b {
+        a
+    } else {
+        place
+    }
+}
+
+/// Whether an order is that of the places with these two exchanged.
+fn has_exchanged(order: &[u8], a: u8, b: u8) -> bool {
+    let mut place = exchanged(0, a, b);
+    for node in order {
+        if *node != exchanged(place, a, b) {
+            return false;
+        }
+        place = place.saturating_add(1);
+        if usize::from(place) >= order.len() {
+            place = 0;
+        }
+    }
+    true
+}
+
+/// The two nodes that have each other's place in an order, where that is all.
+fn exchange_of(order: &[u8]) -> Option<(u8, u8)> {
+    for a in 0u8..255 {
+        for b in a..255 {
+            if usize::from(b) >= order.len() {
+                break;
+            }
+            if a < b && has_exchanged(order, a, b) {
+                return Some((a, b));
+            }
+        }
+    }
+    None
+}
+
+/// Whether each place but the first follows the greater one.
+fn is_backwards(order: &[u8]) -> bool {
+    let mut last = order.len();
+    for place in order.iter().skip(1) {
+        if usize::from(*place) + 1 != last {
+            return false;
+        }
+        last = last.saturating_sub(1);
+    }
+    true
+}
+
+impl<'a> RingHint<'a> {
+    /// Of an order from place 0 on in which all links match.
+    pub(crate) fn of_order(order: &'a [u8]) -> RingHint<'a> {
+        if is_backwards(order) {
+            return RingHint::Backwards;
+        }
+        match exchange_of(order) {
+            Some((a, b)) => RingHint::Exchanged(a, b),
+            None => RingHint::OtherOrder(order),
+        }
+    }
+
+    /// Adds its sentence.
+    pub(crate) fn print<A: Allocator>(self, text: &mut Page<A>) {
+        match self {
+            RingHint::Backwards => text.words(
+                "numbered the other way round, all links match: your node I sends to node I-1.",
+            ),
+            RingHint::Exchanged(a, b) => {
+                numbered(text, "with nodes ", u32::from(a));
+                numbered(text, " and ", u32::from(b));
+                text.words(
+                    " in each other's place all links match: their logs, or their places, are exchanged.",
+                );
+            }
+            RingHint::OtherOrder(order) => {
+                text.words("with the nodes in the order ");
+                add_order(text, order);
+                text.words(" all links match: places are to be in the order of the ring.");
+            }
+            RingHint::TwoRuns => text.words(
+                "each of the two logs is that of a node, and neither fits the other: they are of two runs.",
+            ),
+            RingHint::AnotherRun {
+                place,
+                before,
+                after,
+            } => {
+                numbered(text, "the log of node ", u32::from(place));
+                numbered(
+                    text,
+                    " is that of a node, and fits neither what node ",
+                    u32::from(before),
+                );
+                numbered(text, " sent nor what node ", u32::from(after));
+                text.words(
+                    " received; the others fit one another, with another log there: it is of another run.",
+                );
+            }
+            RingHint::NodeBetween {
+                writer,
+                reader,
+                nodes,
+            } => {
+                numbered(text, "with one node more between node ", u32::from(writer));
+                numbered(text, " and node ", u32::from(reader));
+                numbered(
+                    text,
+                    " all links match: a log may be missing there, of a ring of ",
+                    nodes,
+                );
+                text.words(" nodes.");
+            }
+        }
+    }
+}
