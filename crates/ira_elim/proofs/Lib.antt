@@ -1,3 +1,5 @@
+pub mod Between
+pub mod Clocks
 pub mod Greatest
 pub mod NewEliminations
 pub mod NoNews

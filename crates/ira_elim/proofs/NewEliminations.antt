@@ -24,7 +24,7 @@ use Rattle.ira_elim.proofs.Places.{one_first}
 use Rattle.ira_elim.proofs.Present.{before_counts}
 
 -- an earlier event of the node happened before it too
-before_earlier : (logs : List Log) (i a b j c : ℕ) → 1 ≤ a → a ≤ b → Before logs i b j c → Before logs i a j c
+pub before_earlier : (logs : List Log) (i a b j c : ℕ) → 1 ≤ a → a ≤ b → Before logs i b j c → Before logs i a j c
 before_earlier logs i a b j c first le before = elim (cases_eq a b) [
   | inl same ↦ subst (λ (k : ℕ). Before logs i k j c) (sym same) before
   | inr other ↦ onward (own refl (before_places logs i b j c before).0 first (omega (arith, le, other))

@@ -1,6 +1,6 @@
 -- A set of pairs has its least one, and changes by one pair alone.
 use Rattle.std.proofs.Common.{◌≡◌, ◌≢◌, ℕ, ◌+◌, ◌*◌, ◌/◌, ◌%◌, ◌^◌, ◌<◌, ◌↔◌, ◌⊎◌, inl, inr, List, length, get_or, set}
-use Rattle.std.proofs.Common.{sum, bit_and, bit_or, w64, sym, ap, ◌∙◌, arith, refl, replicate, length-set}
+use Rattle.std.proofs.Common.{sum, bit_and, bit_or, w64, sym, ap, ◌∙◌, arith, replicate, length-set}
 use Rattle.std.proofs.Common.{get_or-set_same, get_or-set_other, subst}
 use Rattle.std.specs.Int.{bit_at, bit_not, trailing_zeros}
 use Rattle.std.proofs.lemmas.Bool.{cases_eq, cases_lt}

@@ -11,7 +11,7 @@ use Rattle.ira_cert_text.specs.declared.cert_step.CertStep.{CertStep}
 use Rattle.ira_cert.specs.Conjuncts.{HasDifferentPlaces}
 use Rattle.ira_cert.specs.Queues.{AreQueues, HasList}
 use Rattle.ira_elim.specs.PairSet.{Has}
-use Rattle.ira_elim.specs.CandidateClock.{CandidateClock, IsCandidateClock}
+use Rattle.ira_elim.specs.CandidateClock.{CandidateClock, IsCandidateClock, IsCounted}
 
 -- they are the candidates of some case that asks each node for one thing at most
 abbrev pub AreQueuesOfSomeCase : List Log → List (Option (List ℕ)) → Type 0
@@ -37,6 +37,11 @@ AreWithin logs queues = (i p : ℕ) → IsFirstLeft queues i p → (i < length l
 abbrev pub AreStands : List Log → List (Option (List ℕ)) → List CandidateClock → Type 0
 AreStands logs queues stands = (j q : ℕ) → IsFirstLeft queues j q → (s : CandidateClock) × (slice_get stands j ≡ Some s)
     × IsCandidateClock logs j q s
+
+-- the counts of each node that has a first candidate left are those at its position
+abbrev pub AreCounted : List (Option (List ℕ)) → List CandidateClock → Type 0
+AreCounted queues stands = (j q : ℕ) (s : CandidateClock) → IsFirstLeft queues j q → slice_get stands j ≡ Some s
+    → IsCounted s
 
 -- the step names the first candidates left of two different nodes, and the event that leads on from the one
 -- state happened before the event that led to the other

@@ -1,18 +1,22 @@
-ghost use Rattle.std.specs.Prelude.{◌≡◌, ◌<◌, ◌≤◌, ◌⊎◌, ℕ, List, IfOk, IsTrue, length};
+ghost use Rattle.std.specs.Prelude.{◌≡◌, ◌≢◌, ◌+◌, ◌<◌, ◌≤◌, ◌⊎◌, ◌↔◌, ℕ, List, IfOk, IsTrue, length};
 ghost use Rattle.ira_event.specs.Log.{Log};
+ghost use Rattle.ira_order.specs.Before.{Before};
 ghost use Rattle.ira_order.specs.Ring.{log_of};
 ghost use Rattle.ira_order.specs.VectorClock.{IsCount};
-ghost use Rattle.ira_elim.specs.CandidateClock.{AreNoReceipts, IsCandidateClock};
+ghost use Rattle.ira_elim.specs.CandidateClock.{AreNoReceipts, IsCandidateClock, IsCounted, LearnsNothing};
 
 use ira_event::{Event, NodeLog};
 use ira_order::HappenedBefore;
 use std::alloc::{AllocError, Allocator};
 use std::marker::Model;
 
-/// A node at its first candidate left, and how many events of each other node happened up to there.
+/// A node at its first candidate left, and how many events of each other node happened up to there, or up to an earlier
+/// position: most counts are never looked at, and are written anew where they are.
 #[derive(Drop)]
 pub(crate) struct CandidateClock<A: Allocator> {
     position: u32,
+    /// The position at which the counts were written.
+    counted_at: u32,
     counts: Vec<u32, A>,
 }
 
@@ -21,11 +25,11 @@ impl<A: Allocator> Model for CandidateClock<A> {
 
     ghost Value = { CandidateClock };
 
-    ghost view = { λ s. record { position = s.position; counts = s.counts.items } };
+    ghost view = { λ s. record { position = s.position; counted_at = s.counted_at; counts = s.counts.items } };
 }
 
 impl<A: Allocator> CandidateClock<A> {
-    /// The node at this position.
+    /// The node at this position, with its counts there.
     pub(crate) fn at<C: HappenedBefore>(
         alloc: A,
         ordered: &C,
@@ -34,18 +38,24 @@ impl<A: Allocator> CandidateClock<A> {
     ) -> Result<CandidateClock<A>, AllocError>
         requires place { place < length (C.logs_of ordered.now) }
         requires position { position ≤ length (log_of (C.logs_of ordered.now) place) }
-        ensures { IfOk result (IsCandidateClock (C.logs_of ordered.now) place position) }
+        ensures clock { IfOk result (IsCandidateClock (C.logs_of ordered.now) place position) }
+        ensures counted { IfOk result IsCounted }
     {
         let nodes = usize::from(ordered.logs().size().get());
         let mut counts = vec![in alloc; 0; nodes]?;
         ordered.write_counts(place, position, &mut counts);
-        Ok(CandidateClock { position, counts })
+        Ok(CandidateClock {
+            position,
+            counted_at: position,
+            counts,
+        })
     }
 
     /// A node that isn't asked: nothing eliminates it, and it eliminates nothing.
     pub(crate) fn nowhere(alloc: A) -> CandidateClock<A> {
         CandidateClock {
             position: u32::MAX,
+            counted_at: u32::MAX,
             counts: Vec::new(alloc),
         }
     }
@@ -66,12 +76,50 @@ impl<A: Allocator> CandidateClock<A> {
     pub(crate) fn count(&self, own: u8, place: u8) -> u32
         requires { place < length self.now.counts }
         ensures { (logs : List Log) (q : ℕ) → own < length logs → place < length logs
-            → q ≤ length (log_of logs own) → IsCandidateClock logs own q self.now → IsCount logs own q place result }
+            → q ≤ length (log_of logs own) → IsCandidateClock logs own q self.now → IsCounted self.now
+            → IsCount logs own q place result }
     {
         if place == own {
             return self.position;
         }
         self.counts[usize::from(place)]
+    }
+
+    /// Whether event `position + 1` of the node at `place` happened before the node at `own` came here. Where the
+    /// counts don't say so, they are written anew first.
+    pub(crate) fn knows<C: HappenedBefore>(
+        &mut self,
+        ordered: &C,
+        own: u8,
+        place: u8,
+        position: u32,
+    ) -> bool
+        requires places { (own < length (C.logs_of ordered.now)) × (place < length (C.logs_of ordered.now)) }
+        requires within { self.old.position ≤ length (log_of (C.logs_of ordered.now) own) }
+        requires old { IsCandidateClock (C.logs_of ordered.now) own self.old.position self.old }
+        ensures new { IsCandidateClock (C.logs_of ordered.now) own self.old.position self.new }
+        ensures value { place ≢ own
+            → IsTrue result ↔ Before (C.logs_of ordered.now) place (position + 1) own self.old.position }
+    {
+        if self.counts[usize::from(place)] > position {
+            return true;
+        }
+        self.refresh(ordered, own);
+        self.counts[usize::from(place)] > position
+    }
+
+    /// Writes the counts anew, unless they are those at the position.
+    pub(crate) fn refresh<C: HappenedBefore>(&mut self, ordered: &C, own: u8)
+        requires place { own < length (C.logs_of ordered.now) }
+        requires within { self.old.position ≤ length (log_of (C.logs_of ordered.now) own) }
+        requires old { IsCandidateClock (C.logs_of ordered.now) own self.old.position self.old }
+        ensures new { IsCandidateClock (C.logs_of ordered.now) own self.old.position self.new }
+        ensures counted { IsCounted self.new }
+    {
+        if self.counted_at != self.position {
+            ordered.write_counts(own, self.position, &mut self.counts);
+            self.counted_at = self.position;
+        }
     }
 
     /// Moves the node on, and tells whether it receives a message on the way; where it doesn't, it knows no
@@ -87,16 +135,12 @@ impl<A: Allocator> CandidateClock<A> {
         requires position { position ≤ length (log_of (C.logs_of ordered.now) place) }
         requires old { IsCandidateClock (C.logs_of ordered.now) place self.old.position self.old }
         ensures new { IsCandidateClock (C.logs_of ordered.now) place position self.new }
-        ensures same { IsTrue result ⊎ (self.new.counts ≡ self.old.counts) }
+        ensures quiet { IsTrue result ⊎ LearnsNothing (C.logs_of ordered.now) place self.old.position position }
     {
         let log = ordered.logs().log(place);
         let from = self.position;
         self.position = position;
-        if !receives(log, from, position) {
-            return false;
-        }
-        ordered.write_counts(place, position, &mut self.counts);
-        true
+        receives(log, from, position)
     }
 }
 

@@ -1,4 +1,4 @@
-ghost use Rattle.std.specs.Prelude.{◌≡◌, ◌<◌, ◌≤◌, ◌⊎◌, ℕ, List, Option, Some, [], Contains, IfOk, MatchOption, length, slice_get};
+ghost use Rattle.std.specs.Prelude.{◌≡◌, ◌≢◌, ◌<◌, ◌≤◌, ℕ, IsTrue, List, Option, Some, [], Contains, IfOk, MatchOption, length, slice_get};
 ghost use Rattle.ira_event.specs.Log.{Log};
 ghost use Rattle.ira_pred.specs.Case.{Conjunct};
 ghost use Rattle.ira_order.specs.Ring.{log_of};
@@ -6,9 +6,10 @@ ghost use Rattle.ira_cert_text.specs.declared.cert_step.CertStep.{CertStep};
 ghost use Rattle.ira_cert.specs.Conjuncts.{HasDifferentPlaces};
 ghost use Rattle.ira_cert.specs.Queues.{AreQueues};
 ghost use Rattle.ira_elim.specs.Decided.{IsDecided};
-ghost use Rattle.ira_elim.specs.Elimination.{AreQueuesOfSomeCase, AreGreatestCounts, ArePlaces, AreStands, AreWithin, HasEliminations, HasFirstLefts, IsElimination, IsFirstLeft, IsGreatestCount};
+ghost use Rattle.ira_elim.specs.Elimination.{AreCounted, AreQueuesOfSomeCase, AreGreatestCounts, ArePlaces, AreStands, AreWithin, HasEliminations, HasFirstLefts, IsElimination, IsFirstLeft, IsGreatestCount};
 ghost use Rattle.ira_elim.specs.PairSet.{Has};
-ghost use Rattle.ira_elim.specs.CandidateClock.{AreStanding, HasMovedOn, HasSameCounts, KnowsNext, StandsUpTo};
+ghost use Rattle.ira_order.specs.DirectDependencies.{distance};
+ghost use Rattle.ira_elim.specs.CandidateClock.{AreInLogs, AreNearest, AreStanding, HasMovedOn, HasRuledOut, HasRuledOutBy, IsNearest, KnowsNext, RulesOut, StandsUpTo};
 
 use crate::candidate_clock::CandidateClock;
 use crate::cut::Cut;
@@ -46,9 +47,10 @@ where
     if let Some(spent) = first_spent(&queues, &asked) {
         return Ok(Decided::Absent { steps, spent });
     }
-    let mut stands = stands(alloc.clone()?, ordered, nodes, &queues)?;
+    let nearest = nearest_places(alloc.clone()?, nodes, &asked)?;
+    let mut stands = all_stands(alloc.clone()?, ordered, nodes, &queues)?;
     let mut pairs = eliminating_pairs(alloc.clone()?, &stands, &asked)?;
-    'steps: while let Some(step) = next_step(&mut pairs, &stands, &queues) {
+    'steps: while let Some(step) = next_step(&mut pairs, &mut stands, ordered, &queues) {
         steps.take(step)?;
         eliminate(&mut queues, step.node);
         let Some(position) = front(&queues, step.node) else {
@@ -60,11 +62,13 @@ where
             &mut pairs,
             ordered,
             &asked,
+            &nearest,
             step.node,
             position,
         );
     }
-    let cut = least_cut(alloc, nodes, &stands, &asked)?;
+    let counted = all_stands(alloc.clone()?, ordered, nodes, &queues)?;
+    let cut = least_cut(alloc, nodes, &counted, &asked)?;
     Ok(Decided::Present(Cut::of_positions(cut)))
 }
 
@@ -111,8 +115,52 @@ fn first_spent<I: Iterator<Item = u32> + Listed>(
     None
 }
 
-/// Where each node stands, place by place.
-fn stands<C, A, I>(
+/// For each place the asked one that comes next before it on the ring; the place itself where no other is asked.
+fn nearest_places<A: Allocator>(
+    alloc: A,
+    nodes: u8,
+    asked: &[u8],
+) -> Result<Vec<u8, A>, OutOfMemory>
+    requires { (i : ℕ) → Contains asked.now i → i < nodes }
+    ensures { IfOk result (λ nearest. AreNearest nodes asked.now nearest.items) }
+{
+    let mut nearest = Vec::with_capacity(alloc, usize::from(nodes))?;
+    for place in 0..nodes {
+        nearest.push(nearest_place(nodes, asked, place))?;
+    }
+    Ok(nearest)
+}
+
+/// The asked place that comes next before this one on the ring; this one where no other is asked.
+fn nearest_place(nodes: u8, asked: &[u8], place: u8) -> u8
+    requires places { (i : ℕ) → Contains asked.now i → i < nodes }
+    requires place { place < nodes }
+    ensures { IsNearest nodes asked.now place result }
+{
+    let mut nearest = place;
+    for other in asked {
+        if links_between(nodes, *other, place) < links_between(nodes, nearest, place) {
+            nearest = *other;
+        }
+    }
+    nearest
+}
+
+/// How many links of a ring of so many nodes lead from one on to another; all where they are the same.
+fn links_between(nodes: u8, from: u8, to: u8) -> u16
+    requires from { from < nodes }
+    requires to { to < nodes }
+    ensures { result ≡ distance nodes from to }
+{
+    if from < to {
+        u16::from(to - from)
+    } else {
+        u16::from(to) + u16::from(nodes) - u16::from(from)
+    }
+}
+
+/// Where each node stands, place by place, with its counts there.
+fn all_stands<C, A, I>(
     alloc: A,
     ordered: &C,
     nodes: u8,
@@ -126,6 +174,7 @@ where
     requires within { AreWithin (C.logs_of ordered.now) queues.now }
     ensures count { IfOk result (λ stands. length stands.items ≡ nodes) }
     ensures stands { IfOk result (λ stands. AreStands (C.logs_of ordered.now) queues.now stands.items) }
+    ensures counted { IfOk result (λ stands. AreCounted queues.now stands.items) }
 {
     let mut stands = Vec::with_capacity(alloc.clone()?, usize::from(nodes))?;
     for place in 0..nodes {
@@ -179,20 +228,23 @@ fn add_eliminated_by<A: Allocator>(
 
 /// The elimination of the least pair that allows one, by `node` and then by `other`; the pairs before it
 /// are removed.
-fn next_step<A: Allocator, I: Iterator<Item = u32> + Listed>(
+fn next_step<C: HappenedBefore, A: Allocator, I: Iterator<Item = u32> + Listed>(
     pairs: &mut PairSet<A>,
-    stands: &[CandidateClock<A>],
+    stands: &mut Vec<CandidateClock<A>, A>,
+    ordered: &C,
     queues: &[Option<Ahead<I>>],
 ) -> Option<CertStep>
-    ensures pairs { (logs : List Log) → AreWithin logs queues.now → AreStands logs queues.now stands.now
-        → HasEliminations logs queues.now pairs.old → HasEliminations logs queues.now pairs.new }
-    ensures step { (logs : List Log) → AreWithin logs queues.now → AreStands logs queues.now stands.now
-        → HasEliminations logs queues.now pairs.old
-        → MatchOption result ((s : CertStep) → IsElimination logs queues.now s → ⊥)
-        (λ s. IsElimination logs queues.now s) }
+    requires within { AreWithin (C.logs_of ordered.now) queues.now }
+    requires stands { AreStands (C.logs_of ordered.now) queues.now stands.old.items }
+    requires pairs { HasEliminations (C.logs_of ordered.now) queues.now pairs.old }
+    ensures pairs { HasEliminations (C.logs_of ordered.now) queues.now pairs.new }
+    ensures stands { AreStands (C.logs_of ordered.now) queues.now stands.new.items }
+    ensures nodes { length stands.new.items ≡ length stands.old.items }
+    ensures step { MatchOption result ((s : CertStep) → IsElimination (C.logs_of ordered.now) queues.now s → ⊥)
+        (λ s. IsElimination (C.logs_of ordered.now) queues.now s) }
 {
     'pairs: while let Some((node, other)) = pairs.first() {
-        if let Some(step) = step_by(stands, queues, node, other) {
+        if let Some(step) = step_by(stands, ordered, queues, node, other) {
             return Some(step);
         }
         pairs.remove(node, other);
@@ -201,24 +253,24 @@ fn next_step<A: Allocator, I: Iterator<Item = u32> + Listed>(
 }
 
 /// The elimination of the node's first candidate left by that of the other.
-fn step_by<A: Allocator, I: Iterator<Item = u32> + Listed>(
-    stands: &[CandidateClock<A>],
+fn step_by<C: HappenedBefore, A: Allocator, I: Iterator<Item = u32> + Listed>(
+    stands: &mut Vec<CandidateClock<A>, A>,
+    ordered: &C,
     queues: &[Option<Ahead<I>>],
     node: u8,
     other: u8,
 ) -> Option<CertStep>
-    ensures { (logs : List Log) → AreWithin logs queues.now → AreStands logs queues.now stands.now
-        → MatchOption result
-        ((s : CertStep) → s.node ≡ node → s.other ≡ other → IsElimination logs queues.now s → ⊥)
-        (λ s. IsElimination logs queues.now s) }
+    requires within { AreWithin (C.logs_of ordered.now) queues.now }
+    requires stands { AreStands (C.logs_of ordered.now) queues.now stands.old.items }
+    ensures stands { AreStands (C.logs_of ordered.now) queues.now stands.new.items }
+    ensures nodes { length stands.new.items ≡ length stands.old.items }
+    ensures step { MatchOption result
+        ((s : CertStep) → s.node ≡ node → s.other ≡ other → IsElimination (C.logs_of ordered.now) queues.now s → ⊥)
+        (λ s. IsElimination (C.logs_of ordered.now) queues.now s) }
 {
     let pos = front(queues, node)?;
     let other_pos = front(queues, other)?;
-    let count = *stands
-        .get(usize::from(other))?
-        .counts()
-        .get(usize::from(node))?;
-    if node == other || count <= pos {
+    if node == other || !stands[usize::from(other)].knows(ordered, other, node, pos) {
         return None;
     }
     Some(CertStep {
@@ -235,22 +287,73 @@ fn advance<C: HappenedBefore, A: Allocator>(
     pairs: &mut PairSet<A>,
     ordered: &C,
     asked: &[u8],
+    nearest: &[u8],
     node: u8,
     position: u32,
 )
-    requires asked { AreStanding stands.old.items asked.now }
+    requires asked { AreStanding stands.old.items asked.now
+        × AreInLogs (C.logs_of ordered.now) stands.old.items asked.now }
+    requires nearest { AreNearest (length (C.logs_of ordered.now)) asked.now nearest.now }
+    requires all { HasRuledOut (C.logs_of ordered.now) stands.old.items asked.now pairs.old }
     requires node { Contains asked.now node }
     requires place { node < length (C.logs_of ordered.now) }
     requires position { position ≤ length (log_of (C.logs_of ordered.now) node) }
     requires stand { StandsUpTo (C.logs_of ordered.now) stands.old.items node position }
     ensures moved { HasMovedOn (C.logs_of ordered.now) stands.old.items stands.new.items node position }
     ensures kept { (a b : ℕ) → Has pairs.old a b → Has pairs.new a b }
-    ensures added { HasSameCounts stands.old.items stands.new.items node
-        ⊎ ((i : ℕ) → Contains asked.now i → KnowsNext stands.new.items node i → Has pairs.new i node) }
+    ensures added { (i : ℕ) → Contains asked.now i → RulesOut (C.logs_of ordered.now) stands.old.items node position i
+        → Has pairs.new i node }
 {
-    if stands[usize::from(node)].advance(ordered, node, position) {
-        add_eliminated_by(pairs, stands, asked, node);
+    if !stands[usize::from(node)].advance(ordered, node, position) {
+        return;
     }
+    let near = nearest[usize::from(node)];
+    if knows_no_more(stands, pairs, ordered, asked, near, node, position) {
+        return;
+    }
+    stands[usize::from(node)].refresh(ordered, node);
+    add_eliminated_by(pairs, stands, asked, node);
+}
+
+/// Whether the pairs have each asked node that the node at its position rules out. What it knows of the nodes before
+/// the nearest asked one came by that one; so where it doesn't rule that one out, it rules out none that the other
+/// doesn't.
+fn knows_no_more<C: HappenedBefore, A: Allocator>(
+    stands: &[CandidateClock<A>],
+    pairs: &PairSet<A>,
+    ordered: &C,
+    asked: &[u8],
+    near: u8,
+    node: u8,
+    position: u32,
+) -> bool
+    requires asked { AreInLogs (C.logs_of ordered.now) stands.now asked.now }
+    requires near { IsNearest (length (C.logs_of ordered.now)) asked.now node near }
+    requires all { near ≢ node → HasRuledOutBy (C.logs_of ordered.now) stands.now asked.now pairs.now near }
+    requires place { node < length (C.logs_of ordered.now) }
+    requires position { position ≤ length (log_of (C.logs_of ordered.now) node) }
+    ensures { IsTrue result → (i : ℕ) → Contains asked.now i
+        → RulesOut (C.logs_of ordered.now) stands.now node position i → Has pairs.now i node }
+{
+    if near == node {
+        return false;
+    }
+    if ordered.count(node, position, near) > stands[usize::from(near)].position() {
+        return false;
+    }
+    has_all_of(pairs, asked, near, node)
+}
+
+/// Whether the set has all asked nodes but `node` with that one that it has with the other.
+fn has_all_of<A: Allocator>(pairs: &PairSet<A>, asked: &[u8], other: u8, node: u8) -> bool
+    ensures { IsTrue result → (i : ℕ) → Contains asked.now i → Has pairs.now i other → i ≢ node → Has pairs.now i node }
+{
+    for place in asked {
+        if *place != node && pairs.has(*place, other) && !pairs.has(*place, node) {
+            return false;
+        }
+    }
+    true
 }
 
 /// The greatest of the counts at the events that led to the first candidates left, node by node.
@@ -264,7 +367,8 @@ fn least_cut<A: Allocator>(
     requires standing { AreStanding stands.now asked.now }
     ensures { (logs : List Log) (queues : List (Option (List ℕ))) → nodes ≡ length logs
         → ArePlaces queues asked.now → HasFirstLefts queues → AreWithin logs queues
-        → AreStands logs queues stands.now → IfOk result (λ cut. AreGreatestCounts logs queues cut.items) }
+        → AreStands logs queues stands.now → AreCounted queues stands.now
+        → IfOk result (λ cut. AreGreatestCounts logs queues cut.items) }
 {
     let mut cut = Vec::with_capacity(alloc, usize::from(nodes))?;
     for place in 0..nodes {
@@ -279,7 +383,7 @@ fn greatest_count<A: Allocator>(stands: &[CandidateClock<A>], asked: &[u8], plac
     requires standing { AreStanding stands.now asked.now }
     ensures { (logs : List Log) (queues : List (Option (List ℕ))) → place < length logs
         → ArePlaces queues asked.now → HasFirstLefts queues → AreWithin logs queues
-        → AreStands logs queues stands.now → IsGreatestCount logs queues place result }
+        → AreStands logs queues stands.now → AreCounted queues stands.now → IsGreatestCount logs queues place result }
 {
     let mut greatest = 0;
     for other in asked {

@@ -1,4 +1,4 @@
-ghost use Rattle.std.specs.Prelude.{◌≡◌, ◌↔◌, ◌<◌, ◌+◌, ◌*◌, ◌/◌, ◌⊎◌, ℕ, IfOk, MatchOption, sum};
+ghost use Rattle.std.specs.Prelude.{◌≡◌, ◌↔◌, ◌<◌, ◌+◌, ◌*◌, ◌/◌, ◌⊎◌, ℕ, IfOk, IsTrue, MatchOption, sum};
 ghost use Rattle.ira_elim.specs.PairSet.{Has};
 
 use ira_event::OutOfMemory;
@@ -51,6 +51,13 @@ impl<A: Allocator> PairSet<A> {
             words: vec![in alloc; 0; WORDS]?,
             filled: [0; SUMMARY],
         })
+    }
+
+    /// Whether the set has the pair.
+    pub(crate) fn has(&self, a: u8, b: u8) -> bool
+        ensures { IsTrue result ↔ Has self.now a b }
+    {
+        (self.words[word_of(a, b)] >> (b % 64)) % 2 == 1
     }
 
     /// The least pair of the set, by its first place and then by its second.

@@ -1,7 +1,6 @@
 use Rattle.std.proofs.Common.{ℕ, Contains, below_more, get_or, arith}
 use Rattle.ira_elim.specs.PairSet.{Has}
 use Rattle.ira_elim.specs.CandidateClock.{KnowsNext}
-use Rattle.ira_elim.proofs.Places.{at_place}
 use Rattle.ira_elim.proofs.Standing.{each_asked}
 use Rattle.ira_elim.proofs.elimination.eliminating_pairs.Goals as goal
 

@@ -1,4 +1,4 @@
-use Rattle.std.proofs.Common.{◌≡◌, ℕ, ◌<◌, Contains, get_or}
+use Rattle.std.proofs.Common.{ℕ, ◌<◌, Contains, get_or}
 use Rattle.ira_elim.specs.PairSet.{Has}
 use Rattle.ira_elim.specs.CandidateClock.{KnowsNext}
 use Rattle.ira_elim.proofs.elimination.eliminating_pairs.Given as goal

@@ -9,7 +9,7 @@ use Rattle.ira_elim.proofs.Standing.{found_at, is_within, long_counts}
 use Rattle.ira_elim.proofs.elimination.greatest_count.Goals as goal
 
 pub loop-other-init : goal.loop-other-init
-loop-other-init g c = λ logs queues lp places left inside are. (λ k l. absurd (omega arith), inl refl)
+loop-other-init g c = λ logs queues lp places left inside are counted. (λ k l. absurd (omega arith), inl refl)
 
 pub bounds-stands-from : goal.bounds-stands-from
 bounds-stands-from g c =
@@ -46,9 +46,9 @@ count-requires g c =
     )
 
 pub loop-other-preserved : goal.loop-other-preserved
-loop-other-preserved g c = λ logs queues lp places left inside are.
+loop-other-preserved g c = λ logs queues lp places left inside are counted.
     let stands = c.args.stands.now in let asked = c.args.asked.now in
-    let so_far = c.loop-other.invariant logs queues lp places left inside are in
+    let so_far = c.loop-other.invariant logs queues lp places left inside are counted in
     let other : ℕ = get_or asked c.loop-other.other-index 0 in
     let member = at_place asked c.loop-other.other-index c.loop-other-test.true in
     let within = is_within stands asked other c.requires.standing member in
@@ -60,13 +60,14 @@ loop-other-preserved g c = λ logs queues lp places left inside are.
     subst (IsCandidateClock logs other first.0) (same_Some _ _ (sym stand.1 ∙ at)) stand.2 in
     let here = inside other first.0 first.1 in
     let count : IsCount logs other first.0 c.args.place c.count.result =
-    c.count.ensures logs first.0 here.0 lp here.1 is in
+    c.count.ensures logs first.0 here.0 lp here.1 is
+    (counted other first.0 c.index-stands-from.result first.1 at) in
     greatest_more logs queues asked c.args.place c.loop-other.other-index c.loop-other.greatest first.0 c.count.result
     c.max-greatest.result is.order.1 is.order.2 first.1 count c.max-greatest.ensures so_far.0 so_far.1
 
 pub returns : goal.returns
-returns g c = λ logs queues lp places left inside are.
-    let all = c.loop-other.invariant logs queues lp places left inside are in
+returns g c = λ logs queues lp places left inside are counted.
+    let all = c.loop-other.invariant logs queues lp places left inside are counted in
     record {
       upper = λ j q first.
           each_place queues c.args.asked.now (λ (j : ℕ). (q : ℕ) → IsFirstLeft queues j q → (n : ℕ)
