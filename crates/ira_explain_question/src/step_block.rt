@@ -7,10 +7,9 @@ use ira_cand::Ahead;
 use ira_cert::{CertStep, QueueHead, Section, Unsound, case_queues};
 use ira_elim::Found;
 use ira_event::{Listed, OutOfMemory};
-use ira_evidence::{SectionEvidence, UnsoundStep, Unspent};
+use ira_evidence::{SectionEvidence, UnsoundStep, Unspent, state_after};
 use ira_node::NodeState;
 use ira_order::HappenedBefore;
-use ira_replay::States;
 use ira_view_page::{ExplanationDraft, Front, Mark, Page, line_of, log_at};
 use std::alloc::Allocator;
 
@@ -116,13 +115,8 @@ impl<A: Allocator + Clone> ExplainedCase<'_, A> {
 
     /// A number of events of a node, and its state after them, where it has so many.
     fn state_at(&self, node: u8, events: u32) -> Option<(u32, NodeState)> {
-        let log = log_at(self.ring.logs(), node)?;
-        for (position, state) in States::new(log.nodes(), log.initiator(), log.events()) {
-            if position == events {
-                return Some((position, state));
-            }
-        }
-        None
+        let state = state_after(log_at(self.ring.logs(), node)?, events)?;
+        Some((events, state))
     }
 
     /// What the steps before one left of a node's candidates, of which these are at hand; nothing where it asks nothing
