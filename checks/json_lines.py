@@ -251,6 +251,8 @@ def check_leaders(reader, ring, names):
             status, (answer, *_) = reader.json('show', '--json', '--leads', ','.join(map(str, named)), *names)
             assert answer['named'] == named and answer['leaders'] == leaders
             assert status == (0 if named == leaders else 1)
+    status, (answer, *_) = reader.json('show', '--json', '--leads', 'any', *names)
+    assert 'named' not in answer and status == (0 if leaders else 1)
 
 
 def check_question(reader, question, certificate, names):

@@ -50,6 +50,7 @@ LINES = [
     ["explain", "--question", "active_beside_passive.ask", "0.log", "1.log"],
     ["explain", "--question", "two_leaders.ask", "--cert", "one_step_short.cert", "0.log", "1.log"],
     ["show", "--leads", "1", "0.log", "1.log"],
+    ["show", "--leads", "any", "0.log", "1.log"],
     ["show", "--question", "active_beside_passive.ask", "0.log", "1.log"],
     ["show", "--events", "--at", "2,3", "0.log", "1.log"],
     ["show", "--json", "0.log", "1.log"],

@@ -31,7 +31,8 @@ _ira() {
     compopt -o filenames 2> /dev/null
     case $command:$before in
         help:*) mapfile -t COMPREPLY < <(compgen -W "${_ira_commands% help}" -- "$word") ;;
-        *:--case | *:--at | show:--leads | draw:--from | draw:--to) COMPREPLY=() ;;
+        *:--case | *:--at | draw:--from | draw:--to) COMPREPLY=() ;;
+        show:--leads) mapfile -t COMPREPLY < <(compgen -W 'any' -- "$word") ;;
         mend:--start) mapfile -t COMPREPLY < <(compgen -W 'initiator passive' -- "$word") ;;
         check:--depth) mapfile -t COMPREPLY < <(compgen -W '0 1 2 3 4' -- "$word") ;;
         *:--dir | run:--out | upgrade:--out | mend:--out) mapfile -t COMPREPLY < <(compgen -d -- "$word") ;;

@@ -19,7 +19,7 @@ complete -c ira -n '__fish_seen_subcommand_from explain' -l question -r -F -d 'T
 complete -c ira -n '__fish_seen_subcommand_from explain' -l case -x -d 'The case to explain, from 0'
 complete -c ira -n '__fish_seen_subcommand_from explain' -l cert -r -F -d 'The certificate'
 
-complete -c ira -n '__fish_seen_subcommand_from show' -l leads -x -d 'Places of the nodes that are to lead'
+complete -c ira -n '__fish_seen_subcommand_from show' -l leads -x -a any -d 'Places of the nodes that are to lead, or any'
 complete -c ira -n '__fish_seen_subcommand_from show' -l at -x -d 'The moment when each node has made so many events'
 complete -c ira -n '__fish_seen_subcommand_from show' -l question -r -F -d 'The question'
 complete -c ira -n '__fish_seen_subcommand_from show' -l case -x -d 'The case of the question, from 0'

@@ -1,5 +1,5 @@
 -- What the program does that is asked to show a ring.
-use Rattle.std.specs.Prelude.{◌≡◌, ◌⊎◌, ℕ, Bool, true, false, List, [], ◌∷◌, ◌++◌, Option, Some, Ok, Err, option_map}
+use Rattle.std.specs.Prelude.{◌≡◌, ◌⊎◌, ℕ, Bool, true, false, List, [], ◌∷◌, ◌++◌, Option, None, Some, Ok, Err}
 use Rattle.ira_event.specs.Log.{Log}
 use Rattle.ira_event.specs.Sink.{SinkState, StopsIn, Takes}
 use Rattle.ira_audit.specs.GoodLogs.{AreGoodLogs}
@@ -13,9 +13,11 @@ use Rattle.ira_json.specs.ShownAnswer.{IsRingText}
 use Rattle.ira_moment.specs.CutFault.{IsCutFault}
 use Rattle.ira_moment.specs.Moment.{whole_cut}
 use Rattle.ira_moment.specs.declared.cut_fault.CutFault.{CutFault}
-use Rattle.ira_views.specs.Differences.{AreDifferences, AreNoPlaces}
+use Rattle.ira_views.specs.Differences.{AreDifferences, ArePlaces, TellsOfLeader}
 use Rattle.ira_views.specs.ShownRing.{IsAtCut, IsNoCut, IsNoQuestion, IsOfQuestion, IsPageOf, ShownRing}
 use Rattle.ira_views.specs.declared.ring_fault.RingFault.{RingFault}
+use Rattle.ira_words.specs.declared.asked_leaders.AskedLeaders.{AskedLeaders}
+use Rattle.ira_words.specs.declared.asked_leaders.AskedLeaders.TheVariants.{Any, Places}
 use Rattle.ira_words.specs.declared.asked_moment.AskedMoment.{AskedMoment}
 use Rattle.ira_words.specs.declared.asked_moment.AskedMoment.TheVariants.{AtEnd, AtCut, OfQuestion}
 use Rattle.ira_words.specs.declared.show_request.ShowRequest.{ShowRequest}
@@ -40,8 +42,23 @@ moment_texts (OfQuestion asked) question = question ∷ []
 moment_texts _ question = []
 
 -- the places of the nodes that are to lead, if some are named
-abbrev pub leads_of : ShowRequest → Option (List ℕ)
-leads_of show = option_map (λ places. places.items) show.leads
+abbrev pub named_places : Option AskedLeaders → Option (List ℕ)
+named_places (Some (Places places)) = Some places.items
+named_places (Some Any) = None
+named_places None = None
+
+-- one of them is none of the ring
+abbrev pub AreNoPlaces : List Log → Option AskedLeaders → Type 0
+AreNoPlaces logs (Some (Places places)) = ¬ (ArePlaces logs places.items)
+AreNoPlaces logs (Some Any) = ⊥
+AreNoPlaces logs None = ⊥
+
+-- there are no differences exactly where those lead when the logs end who are to: these nodes and no other, or some node;
+-- and none where that isn't asked
+abbrev pub AreAskedDifferences : List Log → Option AskedLeaders → List ℕ → Type 0
+AreAskedDifferences logs (Some (Places places)) differences = AreDifferences logs places.items differences
+AreAskedDifferences logs (Some Any) differences = TellsOfLeader logs differences
+AreAskedDifferences logs None differences = differences ≡ []
 
 -- the ring of these logs at the moment that the words name: their end; when each node has made so many events, which are
 -- a consistent cut; or the first that meets a case of the question of this text, of the case of a number or of any
@@ -108,14 +125,14 @@ PrintsRingAs false ring differences has_events = PrintsRing ring differences has
 pub data TellsRing (texts : List (List ℕ)) (show : ShowRequest) (question : List ℕ) (out out' : SinkState)
     (outcome : Outcome) : Type 0 where
   shown : (logs : List Log) (ring : ShownRing) (differences : List ℕ) → AreGoodLogs texts logs
-      → IsAskedRing logs show.moment question ring → AreDifferences logs (leads_of show) differences
+      → IsAskedRing logs show.moment question ring → AreAskedDifferences logs show.leads differences
       → PrintsRingAs show.is_json ring differences show.has_events out out' outcome
       → TellsRing texts show question out out' outcome
   refused : (r : Reason) → IsReasonAgainst texts show.moment question r
       → ReportsAs show.is_json (audit.No r) out out' outcome → TellsRing texts show question out out' outcome
   no_moment : (logs : List Log) (f : CutFault) → AreGoodLogs texts logs → IsCutFaultOf logs show.moment f → out' ≡ out
       → outcome ≡ Err (NoMoment f) → TellsRing texts show question out out' outcome
-  no_place : (logs : List Log) → AreGoodLogs texts logs → AreNoPlaces logs (leads_of show) → out' ≡ out
+  no_place : (logs : List Log) → AreGoodLogs texts logs → AreNoPlaces logs show.leads → out' ≡ out
       → outcome ≡ Err NoPlace → TellsRing texts show question out out' outcome
 
 -- the files that are named were read, that of a question first, and the ring was shown by their texts

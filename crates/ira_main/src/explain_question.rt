@@ -9,7 +9,7 @@ use crate::view_printer::{print_findings_view, print_view};
 use ira_event::Sink;
 use ira_files::{FileName, TextSource};
 use ira_views::{AskedFiles, explain_certified, explain_findings, judge_texts};
-use ira_words::{AskedQuestion, LogSource};
+use ira_words::{CaseSelection, LogSource};
 use std::alloc::Allocator;
 use std::sync::Wait;
 use std::thread::Threads;
@@ -20,7 +20,7 @@ pub(crate) fn explain_question_files<'a, R, A, F, W>(
     rt: &R,
     alloc: A,
     is_json: bool,
-    asked: AskedQuestion<'a>,
+    asked: CaseSelection<'a>,
     source: &LogSource<'a>,
     shelf: &F,
     out: &mut W,

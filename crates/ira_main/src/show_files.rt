@@ -1,8 +1,9 @@
 ghost use Rattle.std.specs.Prelude.{◌≡◌, ◌⊎◌, ℕ, Err, List, MatchResult, length, option_map};
 ghost use Rattle.ira_audit.specs.GoodLogs.{AreGoodLogs};
 ghost use Rattle.ira_main.specs.FilesRead.{IsFilesFault, ReadsFiles};
-ghost use Rattle.ira_main.specs.Show.{IsAskedRing, IsNoAskedRing, ShowsLogs, TellsRing, leads_of, moment_names, moment_texts};
-ghost use Rattle.ira_main.specs.declared.program_fault.ProgramFault.TheVariants.{OutOfMemory};
+ghost use Rattle.ira_main.specs.Show.{AreAskedDifferences, AreNoPlaces, IsAskedRing, IsNoAskedRing, ShowsLogs, TellsRing};
+ghost use Rattle.ira_main.specs.Show.{moment_names, moment_texts, named_places};
+ghost use Rattle.ira_main.specs.declared.program_fault.ProgramFault.TheVariants.{NoPlace, OutOfMemory};
 
 use crate::program_fault::ProgramFault;
 use crate::read_files::{read_file, read_logs};
@@ -13,8 +14,9 @@ use crate::status::Status;
 use ira_audit::{Answer, GoodLogs};
 use ira_event::Sink;
 use ira_files::{FileName, TextBuffer, TextSource};
-use ira_views::{RingFault, ShownRing, differences};
-use ira_words::{AskedMoment, ShowRequest};
+use ira_view_page::{Page, PageText};
+use ira_views::{RingFault, ShownRing, differences, missing_leader};
+use ira_words::{AskedLeaders, AskedMoment, ShowRequest};
 use std::alloc::{Allocator, Global};
 use std::thread::Threads;
 
@@ -56,11 +58,32 @@ pub(crate) fn ring_at<A: Allocator + Clone>(
 
 /// The places of the nodes that are to lead, if some are named.
 pub(crate) fn named_leaders<'t>(show: &'t ShowRequest<'_>) -> Option<&'t [u64]>
-    ensures { option_map (λ named. named.now) result ≡ leads_of show.now }
+    ensures { option_map (λ named. named.now) result ≡ named_places show.now.leads }
 {
     match &show.leads {
-        Some(places) => Some(places.as_slice()),
-        None => None,
+        Some(AskedLeaders::Places(places)) => Some(places.as_slice()),
+        Some(AskedLeaders::Any) | None => None,
+    }
+}
+
+// How those who lead when the logs end differ from those who are to. There is no difference where that isn't asked.
+fn asked_differences<'a, A: Allocator + Clone>(
+    alloc: A,
+    logs: &GoodLogs<A>,
+    leads: &Option<AskedLeaders>,
+) -> Result<PageText<A>, ProgramFault<'a>>
+    ensures { MatchResult result (AreAskedDifferences logs.now leads.now)
+        (λ f. ((f ≡ NoPlace) × AreNoPlaces logs.now leads.now) ⊎ (f ≡ OutOfMemory)) }
+{
+    let Some(leads) = leads else {
+        return Ok(Page::new(alloc).finish()?);
+    };
+    match leads {
+        AskedLeaders::Any => Ok(missing_leader(alloc, logs)?),
+        AskedLeaders::Places(places) => match differences(alloc, logs, places)? {
+            Some(differences) => Ok(differences),
+            None => Err(ProgramFault::NoPlace),
+        },
     }
 }
 
@@ -79,9 +102,7 @@ fn show_good<'a, A: Allocator + Clone, W: Sink>(
         → TellsRing texts show.now question.now (W.state out.old) (W.state out.new) result
         ⊎ ((W.state out.new ≡ W.state out.old) × (result ≡ Err OutOfMemory)) }
 {
-    let Some(differences) = differences(alloc.clone()?, &logs, named_leaders(show))? else {
-        return Err(ProgramFault::NoPlace);
-    };
+    let differences = asked_differences(alloc.clone()?, &logs, &show.leads)?;
     match ring_at(alloc.clone()?, logs, &show.moment, question) {
         Ok(ring) => print_ring(global, alloc, &ring, &differences, names, show, out),
         Err(RingFault::No(reason)) => report_as(global, show.is_json, &Answer::No(reason), out),

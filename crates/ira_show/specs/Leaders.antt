@@ -1,5 +1,5 @@
 -- Lines on nodes of which a ring says otherwise than its logs whether they lead.
-use Rattle.std.specs.Prelude.{ℕ, List, [], ◌++◌, Bool, true, false, codes, decimal, ◌==◌}
+use Rattle.std.specs.Prelude.{ℕ, List, [], ◌++◌, Bool, true, false, codes, decimal, ◌==◌, Option, None, Some}
 use Rattle.std.specs.List.{enumerate_from, flat_map, list_any}
 use Rattle.ira_node.specs.declared.node_state.NodeState.{NodeState}
 use Rattle.ira_node.specs.declared.phase.Phase.{Phase}
@@ -7,7 +7,9 @@ use Rattle.ira_node.specs.declared.phase.Phase.TheVariants.{Choosing, Active, Pa
 use Rattle.ira_node.specs.declared.wanted.Wanted.{Wanted}
 use Rattle.ira_node.specs.declared.wanted.Wanted.TheVariants.{Draw, Send, Receipt, Yield, Nothing}
 use Rattle.ira_node.specs.Wanted.{wanted_of}
+use Rattle.ira_moment.specs.Moment.{LeadsAt, Moment}
 use Rattle.ira_moment.specs.declared.node_progress.NodeProgress.{NodeProgress}
+use Rattle.ira_view_page.specs.declared.summary.Leads.{Leads}
 use Rattle.ira_view_page.specs.Words.{state_text}
 
 abbrev pub is_leader : Phase → Bool
@@ -42,3 +44,12 @@ node_difference named node =
 
 abbrev pub differences_text : List ℕ → List NodeProgress → List ℕ
 differences_text named nodes = flat_map (node_difference named) (enumerate_from 0 nodes)
+
+-- some node leads at the moment
+abbrev pub SomeNodeLeads : Moment → Type 0
+SomeNodeLeads m = (i : ℕ) × LeadsAt m i
+
+-- the line on a ring that nobody leads
+abbrev pub missing_text : Option Leads → List ℕ
+missing_text None = codes "no node leads" ++ codes "\n"
+missing_text (Some leads) = []

@@ -1,5 +1,5 @@
 -- What a ring's nodes and events come to at a moment.
-use Rattle.std.specs.Prelude.{ℕ, Bool, false, ◌||◌, Option, is_none, length, nat_lt}
+use Rattle.std.specs.Prelude.{Bool, false, ◌||◌, Option, is_none, length, nat_lt}
 use Rattle.std.specs.List.{list_any}
 use Rattle.ira_node.specs.declared.node_state.NodeState.{NodeState}
 use Rattle.ira_node.specs.declared.phase.Phase.{Phase}

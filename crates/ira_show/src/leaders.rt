@@ -1,13 +1,15 @@
 ghost use Rattle.std.specs.Prelude.{◌≡◌, ◌==◌, ◌↔◌, [], IfOk};
 ghost use Rattle.std.specs.List.{list_any};
 ghost use Rattle.ira_moment.specs.Moment.{AreLeaders};
-ghost use Rattle.ira_show.specs.Leaders.{difference_text, differences_text, due_text, is_leader};
+ghost use Rattle.ira_show.specs.Leaders.{SomeNodeLeads, difference_text, differences_text, due_text, is_leader, missing_text};
+ghost use Rattle.ira_show.specs.Summary.{leader_from};
 ghost use Rattle.ira_view_page.specs.Page.{Added};
 
+use crate::summary::first_leader;
 use ira_event::OutOfMemory;
 use ira_moment::Moment;
 use ira_node::{NodeState, Phase, Wanted};
-use ira_view_page::{Page, PageText};
+use ira_view_page::{Leads, Page, PageText};
 use std::alloc::Allocator;
 
 /// Whether a node in the phase leads.
@@ -84,5 +86,31 @@ pub fn leads_differ<A: Allocator, M: Allocator>(
             is_named(named, place),
         );
     }
+    page.finish()
+}
+
+/// Adds that no node leads, where none does.
+fn print_missing<A: Allocator>(page: &mut Page<A>, leader: Option<Leads>)
+    ensures { Added page.old (missing_text leader) page.new }
+{
+    match leader {
+        None => {
+            page.words("no node leads");
+            page.end();
+        }
+        Some(_) => {}
+    }
+}
+
+/// A line where no node leads; so none exactly where some node does.
+pub fn leader_missing<A: Allocator, M: Allocator>(
+    alloc: A,
+    moment: &Moment<M>,
+) -> Result<PageText<A>, OutOfMemory>
+    ensures text { IfOk result (λ text. text ≡ missing_text (leader_from 0 moment.now.nodes)) }
+    ensures none { IfOk result (λ text. (text ≡ []) ↔ SomeNodeLeads moment.now) }
+{
+    let mut page = Page::new(alloc);
+    print_missing(&mut page, first_leader(moment));
     page.finish()
 }

@@ -16,5 +16,5 @@ mod totals;
 mod way;
 
 pub use event_lines::show_events;
-pub use leaders::leads_differ;
+pub use leaders::{leader_missing, leads_differ};
 pub use moment_page::show_moment;

@@ -24,7 +24,7 @@ fn leading(node: u8, state: NodeState) -> Option<Leads>
 }
 
 /// The node at the least place that leads.
-fn first_leader<A: Allocator>(moment: &Moment<A>) -> Option<Leads>
+pub(crate) fn first_leader<A: Allocator>(moment: &Moment<A>) -> Option<Leads>
     ensures { result ≡ leader_from 0 moment.now.nodes }
 {
     for place in 0..moment.size() {

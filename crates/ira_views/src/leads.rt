@@ -1,11 +1,11 @@
-ghost use Rattle.std.specs.Prelude.{◌≡◌, ◌≤◌, ℕ, Contains, IfOk, MatchOption, option_map};
-ghost use Rattle.ira_views.specs.Differences.{AreDifferences, AreNoPlaces};
+ghost use Rattle.std.specs.Prelude.{◌≡◌, ◌≤◌, ℕ, Contains, IfOk, MatchOption};
+ghost use Rattle.ira_views.specs.Differences.{AreDifferences, ArePlaces, TellsOfLeader};
 
 use ira_audit::GoodLogs;
 use ira_event::OutOfMemory;
 use ira_moment::Moment;
-use ira_show::leads_differ;
-use ira_view_page::{Page, PageText};
+use ira_show::{leader_missing, leads_differ};
+use ira_view_page::PageText;
 use std::alloc::{AllocError, Allocator};
 
 /// The numbers as places of a ring of so many nodes, where each is one.
@@ -28,24 +28,31 @@ fn places<A: Allocator>(
     Ok(Some(places))
 }
 
-/// A line for each node of which those that are named, if some are, say otherwise than the logs whether it leads at their
-/// end. Nothing where one that is named is none of the ring.
+/// A line for each node of which those that are named say otherwise than the logs whether it leads at their end. Nothing
+/// where one that is named is none of the ring.
 pub fn differences<A: Allocator + Clone>(
     alloc: A,
     logs: &GoodLogs<A>,
-    leads: Option<&[u64]>,
+    named: &[u64],
 ) -> Result<Option<PageText<A>>, OutOfMemory>
     ensures { IfOk result (λ found. MatchOption found
-        (AreNoPlaces logs.now (option_map (λ named. named.now) leads.entry))
-        (AreDifferences logs.now (option_map (λ named. named.now) leads.entry))) }
+        (¬ (ArePlaces logs.now named.now)) (AreDifferences logs.now named.now)) }
 {
-    let Some(named) = leads else {
-        return Ok(Some(Page::new(alloc).finish()?));
-    };
     let logs = logs.logs();
     let Some(places) = places(alloc.clone()?, named, logs.size().get())? else {
         return Ok(None);
     };
     let moment = Moment::at_end(alloc.clone()?, logs)?;
     Ok(Some(leads_differ(alloc, &moment, &places)?))
+}
+
+/// A line where no node leads when the logs end.
+pub fn missing_leader<A: Allocator + Clone>(
+    alloc: A,
+    logs: &GoodLogs<A>,
+) -> Result<PageText<A>, OutOfMemory>
+    ensures { IfOk result (TellsOfLeader logs.now) }
+{
+    let moment = Moment::at_end(alloc.clone()?, logs.logs())?;
+    leader_missing(alloc, &moment)
 }

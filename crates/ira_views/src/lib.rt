@@ -15,7 +15,7 @@ mod view;
 pub use explain::{explain_text, explain_texts};
 pub use findings_view::FindingsView;
 pub use ira_explain_question::AskedFiles;
-pub use leads::differences;
+pub use leads::{differences, missing_leader};
 pub use question::{explain_certified, explain_findings};
 pub use ring_fault::RingFault;
 pub use shown_ring::ShownRing;

@@ -4,10 +4,12 @@ use Rattle.std.specs.Prelude.{◌≡◌, ◌≢◌, ◌≤◌, ◌⊎◌}
 use Rattle.std.specs.Borrow.{Bor}
 use Rattle.clap.specs.Takes.{is_given}
 use Rattle.clap.specs.Walk.{Row, Text, all_of, first_of}
-use Rattle.ira_words.specs.Options.{HasNumber, HasNumbers, IsLeftOut, ListsNumbers, MayHaveNumber, MayHaveNumbers}
+use Rattle.ira_words.specs.Options.{HasNumber, HasNumbers, IsLeftOut, ListsNumbers, MayHaveNumber}
+use Rattle.ira_words.specs.declared.asked_leaders.AskedLeaders.{AskedLeaders}
+use Rattle.ira_words.specs.declared.asked_leaders.AskedLeaders.TheVariants.{Any, Places}
 use Rattle.ira_words.specs.declared.asked_moment.AskedMoment.{AskedMoment}
 use Rattle.ira_words.specs.declared.asked_moment.AskedMoment.TheVariants.{AtCut, AtEnd, OfQuestion}
-use Rattle.ira_words.specs.declared.asked_question.AskedQuestion.{AskedQuestion}
+use Rattle.ira_words.specs.declared.case_selection.CaseSelection.{CaseSelection}
 use Rattle.ira_words.specs.declared.check_request.CheckRequest.{CheckRequest}
 use Rattle.ira_words.specs.declared.decide_request.DecideRequest.{DecideRequest}
 use Rattle.ira_words.specs.declared.draw_request.DrawRequest.{DrawRequest}
@@ -56,7 +58,7 @@ IsOfFiles (Folder folder) files = ⊥
 -- ---- a question, and perhaps a case of it
 
 -- the question and the case are the values of these options
-pub record HasQuestion (rows : List Row) (asked : AskedQuestion) : Type 0 where
+pub record HasQuestion (rows : List Row) (asked : CaseSelection) : Type 0 where
   pub question : first_of (codes "question") rows ≡ Some asked.question.now
   pub case : MayHaveNumber rows (codes "case") asked.case
 
@@ -86,7 +88,7 @@ pub record AsksNothing (rows : List Row) : Type 0 where
   pub certificate : IsLeftOut (codes "cert") rows
 
 -- what is named is the question, perhaps a case of it, and the logs
-pub record HasFindings (rows : List Row) (asked : AskedQuestion) (logs : LogSource) : Type 0 where
+pub record HasFindings (rows : List Row) (asked : CaseSelection) (logs : LogSource) : Type 0 where
   pub asked_is : HasQuestion rows asked
   pub certificate : IsLeftOut (codes "cert") rows
   pub logs_are : HasLogs rows logs
@@ -146,18 +148,29 @@ pub record NamesLogsToJudge (rows : List Row) : Type 0 where
   pub logs : NamesLogs rows
   pub folders : is_given (codes "each") rows ≡ true → NamesFolders rows
 
--- the request has the values of these options, and the logs that are named beside them; leaders are left out only where
--- the option is, and events and JSON are wanted exactly where `--events` and `--json` are given
+-- who is to lead: some node, where the option says `any`, or else the nodes of its numbers; nothing is asked where it is
+-- left out
+abbrev pub HasLeaders : List Row → Option AskedLeaders → Type 0
+HasLeaders rows None = IsLeftOut (codes "leads") rows
+HasLeaders rows (Some Any) = first_of (codes "leads") rows ≡ Some (codes "any")
+HasLeaders rows (Some (Places places)) = HasNumbers rows (codes "leads") places.items
+
+-- the option says `any` or lists numbers, or it is left out
+abbrev pub NamesLeaders : List Row → Type 0
+NamesLeaders rows = (first_of (codes "leads") rows ≡ Some (codes "any")) ⊎ ListsNumbers (codes "leads") rows
+
+-- the request has the values of these options, and the logs that are named beside them; events and JSON are wanted
+-- exactly where `--events` and `--json` are given
 pub record HasLogsToShow (rows : List Row) (show : ShowRequest) : Type 0 where
-  pub leads : MayHaveNumbers rows (codes "leads") (option_map (λ places. places.items) show.leads)
+  pub leads : HasLeaders rows show.leads
   pub moment : HasMoment rows show.moment
   pub events : show.has_events ≡ is_given (codes "events") rows
   pub json : show.is_json ≡ is_given (codes "json") rows
   pub logs : HasLogs rows show.logs
 
--- options and names that go together: leaders are a list of numbers, and a moment and logs are named in one way
+-- options and names that go together: leaders are `any` or a list of numbers, and a moment and logs are named in one way
 pub record NamesLogsToShow (rows : List Row) : Type 0 where
-  pub leads : ListsNumbers (codes "leads") rows
+  pub leads : NamesLeaders rows
   pub moment : NamesMoment rows
   pub logs : NamesLogs rows
 

@@ -47,11 +47,6 @@ WritesNumbers text = All WritesNumber (parts_of text)
 abbrev pub HasNumbers : List Row → Text → List ℕ → Type 0
 HasNumbers rows name ns = IsSomeAnd (first_of name rows) (λ text. AreNumbers ns (parts_of text))
 
--- the same, or there are no numbers, where the option is left out
-abbrev pub MayHaveNumbers : List Row → Text → Option (List ℕ) → Type 0
-MayHaveNumbers rows name (Some ns) = HasNumbers rows name ns
-MayHaveNumbers rows name None = IsLeftOut name rows
-
 -- the option is left out, or its value is a list of numbers
 abbrev pub ListsNumbers : Text → List Row → Type 0
 ListsNumbers name rows = IfSome (first_of name rows) WritesNumbers

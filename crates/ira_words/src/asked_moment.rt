@@ -1,4 +1,4 @@
-use crate::asked_question::AskedQuestion;
+use crate::case_selection::CaseSelection;
 
 /// A moment of the logged run, as the words name it.
 #[derive(Drop)]
@@ -8,6 +8,6 @@ pub enum AskedMoment<'a> {
     /// The one when each node has made so many of its events, in the order of the ring's places. The numbers are any,
     /// and not only those of a consistent cut.
     AtCut(Vec<u64>),
-    /// The first that meets a case of a question.
-    OfQuestion(AskedQuestion<'a>),
+    /// The first that meets one of these cases of a question.
+    OfQuestion(CaseSelection<'a>),
 }

@@ -2,14 +2,14 @@ ghost use Rattle.std.specs.Prelude.{◌≡◌, ◌↔◌, [], IfErr, IfOk, IsTru
 ghost use Rattle.clap.specs.Words.{app_of, found_of, kind_of, rows_of};
 ghost use Rattle.clap.specs.declared.error.kind.ErrorKind.TheVariants as kind;
 ghost use Rattle.ira_words.specs.Asked.{AsksLogs, HasAnswer, HasAnswerToExplain, HasFiles, HasFilesToDecide, HasFilesToRewrite};
-ghost use Rattle.ira_words.specs.Asked.{HasFolders, HasLogs, HasLogsToDraw, HasLogsToMend, HasLogsToShow, HasMoment, HasOptions};
+ghost use Rattle.ira_words.specs.Asked.{HasFolders, HasLeaders, HasLogs, HasLogsToDraw, HasLogsToMend, HasLogsToShow, HasMoment, HasOptions};
 ghost use Rattle.ira_words.specs.Asked.{MayHaveLogs, MayNameLogs, NamesAnswer, NamesFolders};
-ghost use Rattle.ira_words.specs.Asked.{NamesLogs, NamesLogsToDraw, NamesLogsToJudge, NamesLogsToMend, NamesLogsToShow};
+ghost use Rattle.ira_words.specs.Asked.{NamesLeaders, NamesLogs, NamesLogsToDraw, NamesLogsToJudge, NamesLogsToMend, NamesLogsToShow};
 ghost use Rattle.ira_words.specs.Asked.{NamesMoment, NamesStart, SaysStart};
 ghost use Rattle.ira_words.specs.CommandEntry.{with_entry};
 ghost use Rattle.ira_words.specs.CommandLine.{commands, ira_app, ira_top};
 ghost use Rattle.ira_words.specs.FoundOptions.{AreFoundAfter, AreTyped, IsOneOf};
-ghost use Rattle.ira_words.specs.Options.{AreNumbers, ListsNumbers, MayHaveNumbers, WritesNumbers, parts_of};
+ghost use Rattle.ira_words.specs.Options.{AreNumbers, WritesNumbers, parts_of};
 ghost use Rattle.ira_words.specs.Request.{AreAcceptedWords, Asks, GoTogether, GoTogetherAfter, IsMadeOf, IsVersionOption, MayBeRefused};
 ghost use Rattle.ira_words.specs.declared.options_fault.OptionsFault.TheVariants as options;
 ghost use Rattle.ira_words.specs.declared.request.Request.TheVariants as request;
@@ -18,8 +18,9 @@ ghost use Rattle.ira_words.specs.declared.words_fault.WordsFault.TheVariants as 
 use crate::argument::Argument;
 use crate::argument::Form::{Files, Flag, Number, Value};
 use crate::argument::Need::{Default, Optional, Required};
+use crate::asked_leaders::AskedLeaders;
 use crate::asked_moment::AskedMoment;
-use crate::asked_question::AskedQuestion;
+use crate::case_selection::CaseSelection;
 use crate::check_request::CheckRequest;
 use crate::command_entry::CommandEntry;
 use crate::decide_request::DecideRequest;
@@ -60,7 +61,7 @@ const USAGE: &str = "ira < LOG\n       ira logs [--json] <LOGS>\n       \
 const NOTE: &str =
     "Without words ira judges the log of one node, on standard input. It prints `yes`, or \
     `no` and\nthe first reason. The status is 0 for yes, absent cases, an elected leader, upgraded \
-    or mended\nlogs, 1 for no, a case that is present, no leader or other leaders than --leads names, \
+    or mended\nlogs, 1 for no, a case that is present, no leader or others than --leads says, \
     2 for\nrefused words, a refused ring, a failed read or a failed write, 3 out of memory.";
 
 const TEXT: ValueParser = ValueParser::String;
@@ -92,7 +93,7 @@ const START_HELP: &str =
     "initiator or passive: what a node is taken for of whose log not even the head is left";
 
 const LEADS_HELP: &str =
-    "The places of the nodes that are to lead at the end, and no other, as 1,2";
+    "The places of the nodes that are to lead at the end, and no other, as 1,2; or any: some node is";
 
 const AT_HELP: &str = "The moment when each node has made so many events, by place, as 2,3";
 
@@ -171,7 +172,7 @@ const COMMANDS: &[CommandEntry] = &[
         name: "show",
         about: "Shows what happened, at the end of the logs or at another moment",
         arguments: &[
-            Argument("leads", Value("P,..", TEXT), Optional, LEADS_HELP),
+            Argument("leads", Value("P,..|any", TEXT), Optional, LEADS_HELP),
             AT,
             MET_QUESTION,
             MET_CASE,
@@ -394,7 +395,7 @@ fn explained_answer<'a>(
         },
         Some(question) => match text(matches, "cert") {
             None => Ok(ExplainedAnswer::Findings {
-                asked: AskedQuestion {
+                asked: CaseSelection {
                     question,
                     case: number(matches, "case"),
                 },
@@ -431,19 +432,18 @@ fn numbers(alloc: Global, text: &str) -> Result<Vec<u64>, OptionsFault>
     Ok(numbers)
 }
 
-/// The nodes that are to lead, if any are named.
+/// Who is to lead, if that is asked.
 fn asked_leaders<'a>(
     alloc: Global,
     matches: &ArgMatches<'a>,
-) -> Result<Option<Vec<u64>>, OptionsFault>
-    ensures found { IfOk result (λ leads. MayHaveNumbers (rows_of (found_of matches.now)) (codes "leads")
-        (option_map (λ places. places.items) leads)) }
-    ensures refused { IfErr result
-        (λ why. ListsNumbers (codes "leads") (rows_of (found_of matches.now)) → why ≡ options.OutOfMemory) }
+) -> Result<Option<AskedLeaders>, OptionsFault>
+    ensures found { IfOk result (HasLeaders (rows_of (found_of matches.now))) }
+    ensures refused { IfErr result (λ why. NamesLeaders (rows_of (found_of matches.now)) → why ≡ options.OutOfMemory) }
 {
     match text(matches, "leads") {
         None => Ok(None),
-        Some(text) => Ok(Some(numbers(alloc, text)?)),
+        Some("any") => Ok(Some(AskedLeaders::Any)),
+        Some(text) => Ok(Some(AskedLeaders::Places(numbers(alloc, text)?))),
     }
 }
 
@@ -465,7 +465,7 @@ fn asked_moment<'a>(
             },
         },
         Some(question) => match text(matches, "at") {
-            None => Ok(AskedMoment::OfQuestion(AskedQuestion {
+            None => Ok(AskedMoment::OfQuestion(CaseSelection {
                 question,
                 case: number(matches, "case"),
             })),

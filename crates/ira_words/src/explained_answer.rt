@@ -1,4 +1,4 @@
-use crate::asked_question::AskedQuestion;
+use crate::case_selection::CaseSelection;
 use crate::log_source::LogSource;
 
 /// An answer to explain, as the words name it.
@@ -10,7 +10,7 @@ pub enum ExplainedAnswer<'a> {
     Logs(LogSource<'a>),
     /// What is found for a question, or for one case of it.
     Findings {
-        asked: AskedQuestion<'a>,
+        asked: CaseSelection<'a>,
         logs: LogSource<'a>,
     },
     /// That of logs together with the question and the certificate of these files.

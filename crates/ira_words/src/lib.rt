@@ -2,8 +2,9 @@
 #![tactic(auto)]
 
 mod argument;
+mod asked_leaders;
 mod asked_moment;
-mod asked_question;
+mod case_selection;
 mod check_request;
 mod command_entry;
 mod command_line;
@@ -23,8 +24,9 @@ mod run_request;
 mod show_request;
 mod words_fault;
 
+pub use asked_leaders::AskedLeaders;
 pub use asked_moment::AskedMoment;
-pub use asked_question::AskedQuestion;
+pub use case_selection::CaseSelection;
 pub use check_request::CheckRequest;
 pub use command_line::read_words;
 pub use decide_request::DecideRequest;

@@ -56,7 +56,8 @@ impl OptionsFault {
             OptionsFault::CutAndQuestion =>
                 "--at <N0,N1,..> and --question <Q> exclude one another",
             OptionsFault::NoNumbers => {
-                "--leads <P,..> and --at <N0,N1,..> are numbers with commas between them, as 2,3"
+                "--leads <P,..> and --at <N0,N1,..> are numbers with commas between them, as 2,3; \
+                or --leads any"
             }
             OptionsFault::Start => "--start <S> is initiator or passive",
             OptionsFault::OutOfMemory => "out of memory",

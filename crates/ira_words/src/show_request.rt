@@ -1,12 +1,12 @@
+use crate::asked_leaders::AskedLeaders;
 use crate::asked_moment::AskedMoment;
 use crate::log_source::LogSource;
 
 /// Logs to show, as the words name them.
 #[derive(Drop)]
 pub struct ShowRequest<'a> {
-    /// The places of the nodes that are to lead when the logs end, and no other node; any numbers, and not only places
-    /// of the ring. Nothing is asked of who leads if this is left out.
-    pub leads: Option<Vec<u64>>,
+    /// Who is to lead when the logs end. Nothing is asked of who leads if this is left out.
+    pub leads: Option<AskedLeaders>,
     pub moment: AskedMoment<'a>,
     /// Whether an order of all events through that moment is wanted, and not tables.
     pub has_events: bool,

@@ -3,10 +3,12 @@ use Rattle.ira_main.proofs.Showing.{against, no_cut, reportable, ring_of}
 use Rattle.ira_main.specs.Show.TellsRing.{no_moment, no_place, refused, shown}
 use Rattle.ira_main.proofs.show_files.show_good.Goals as goal
 
-pub returns-in_default : goal.returns-in_default
-returns-in_default g c = λ texts good.
-    let none = rw (c.in_default.is, c.named_leaders.ensures) at c.in_ok-differences.ensures in
-    inl (no_place c.args.logs good none refl refl)
+pub returns-in_err-differences : goal.returns-in_err-differences
+returns-in_err-differences g c = λ texts good.
+    elim c.in_err-differences.ensures [
+      | inl none ↦ inl (no_place c.args.logs good none.1 refl (rw none.0 refl))
+      | inr full ↦ inr (refl, rw full refl)
+    ]
 
 pub print_ring-requires : goal.print_ring-requires
 print_ring-requires g c =
@@ -15,9 +17,8 @@ print_ring-requires g c =
 
 pub returns-in-Ok : goal.returns-in-Ok
 returns-in-Ok g c = λ texts good.
-    let differ = rw (c.in-Some.is, c.named_leaders.ensures) at c.in_ok-differences.ensures in
     elim c.print_ring.ensures [
-      | inl told ↦ inl (shown c.args.logs _ _ good c.in-Ok.ensures differ told)
+      | inl told ↦ inl (shown c.args.logs _ _ good c.in-Ok.ensures c.in_ok-differences.ensures told)
       | inr full ↦ inr full
     ]
 

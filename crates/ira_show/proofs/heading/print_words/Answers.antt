@@ -1,4 +1,4 @@
-use Rattle.std.proofs.Common.{◌≡◌, ◌<◌, ℕ, List, [], length, rules, subst}
+use Rattle.std.proofs.Common.{◌≡◌, ◌<◌, List, [], length, subst}
 use Rattle.std.specs.Prelude.{slice_index_or}
 use Rattle.std.proofs.lemmas.List.{get_or_read}
 use Rattle.ira_pred.specs.Case.{Conjunct}

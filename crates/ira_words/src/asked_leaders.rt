@@ -1,0 +1,8 @@
+/// Who is to lead when the logs end.
+#[derive(Drop)]
+pub enum AskedLeaders {
+    /// Some node, whichever.
+    Any,
+    /// The nodes at these places, and no other. They are any numbers, and not only places of the ring.
+    Places(Vec<u64>),
+}
