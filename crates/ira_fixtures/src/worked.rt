@@ -124,15 +124,15 @@ pub const CIRCLE: [&[u8]; 2] = [
 ];
 
 /// `ELECTION` with node 0's receipts exchanged.
-pub const RECEIPTS_EXCHANGED: [&[u8]; 2] = [
-    b"irlog 1\nnodes 2\nplace 0\nstart initiator\n\
+pub const RECEIPTS_EXCHANGED: [&[u8]; 2] = [EXCHANGED_0, ELECTION_1];
+
+/// The text of node 0 of `RECEIPTS_EXCHANGED`.
+pub const EXCHANGED_0: &[u8] = b"irlog 1\nnodes 2\nplace 0\nstart initiator\n\
     draw 2\n\
     send 1 2 1 clean\n\
     recv 1 2 2 clean\n\
     recv 1 1 1 clean\n\
-    end 4\n",
-    ELECTION_1,
-];
+    end 4\n";
 
 /// `ELECTION` without node 1's last sending.
 pub const RECEIPT_WITHOUT_SENDING: [&[u8]; 2] = [

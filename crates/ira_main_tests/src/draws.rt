@@ -1,23 +1,23 @@
 //! The command `draw` where a growth is refused.
 
 use crate::fakes::{Input, Memory, MemoryShelf, NEVER, served};
-use crate::samples::{ELECTED_0, ELECTED_1, TWO_CASES};
 use ira_files::CountingReader;
+use ira_fixtures::{ELECTION_0, ELECTION_1, TWO_CASES};
 use ira_refusing::each_growth_refused;
 use std::process::Abort;
 use std::sync::Wait;
 use std::thread::Threads;
 use std::time::Clock;
 
-const FILES: &[(&str, &str)] = &[
-    ("0", ELECTED_0),
-    ("1", ELECTED_1),
+const FILES: &[(&str, &[u8])] = &[
+    ("0", ELECTION_0),
+    ("1", ELECTION_1),
     ("two", TWO_CASES),
     (
         "wide",
-        "irlog 1\nnodes 2\nplace 0\nstart initiator\ndraw 3\nend 1\n",
+        b"irlog 1\nnodes 2\nplace 0\nstart initiator\ndraw 3\nend 1\n",
     ),
-    ("none", "irlog 1\nnodes 2\nplace 1\nstart passive\nend 0\n"),
+    ("none", b"irlog 1\nnodes 2\nplace 1\nstart passive\nend 0\n"),
 ];
 
 /// Whether the picture is kept with this memory, or memory runs out before anything is printed.

@@ -42,7 +42,7 @@ impl Sink for NewFile {
 #[derive(Drop)]
 pub(crate) struct MemoryShelf<'a> {
     alloc: Global,
-    files: &'a [(&'a str, &'a str)],
+    files: &'a [(&'a str, &'a [u8])],
     written: Vec<NewFile>,
 }
 
@@ -59,7 +59,7 @@ impl<'a> Model for MemoryShelf<'a> {
 }
 
 impl<'a> MemoryShelf<'a> {
-    pub(crate) fn new(alloc: Global, files: &'a [(&'a str, &'a str)]) -> MemoryShelf<'a> {
+    pub(crate) fn new(alloc: Global, files: &'a [(&'a str, &'a [u8])]) -> MemoryShelf<'a> {
         MemoryShelf {
             alloc,
             files,
@@ -88,7 +88,7 @@ impl<'a> MemoryShelf<'a> {
         for i in 0..self.files.len() {
             let (given, text) = self.files[i];
             if given == name {
-                return Some(text.as_bytes());
+                return Some(text);
             }
         }
         None
@@ -105,10 +105,10 @@ impl<'a> MemoryShelf<'a> {
     }
 
     /// Whether these files were written, in this order, and no other.
-    pub(crate) fn has_written(&self, files: &[(&str, &str)]) -> bool {
+    pub(crate) fn has_written(&self, files: &[(&str, &[u8])]) -> bool {
         self.written.len() == files.len()
             && self.written.iter().zip(files).all(|(file, (name, text))| {
-                file.name.as_str() == *name && file.bytes.as_slice() == text.as_bytes()
+                file.name.as_str() == *name && file.bytes.as_slice() == *text
             })
     }
 

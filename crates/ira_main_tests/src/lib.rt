@@ -17,5 +17,3 @@ mod recorded;
 mod refusals;
 #[cfg(test)]
 mod requests;
-#[cfg(test)]
-mod samples;

@@ -1,8 +1,8 @@
 //! The program without words: one log on its input.
 
 use crate::fakes::{Input, assert_served};
-use crate::samples::SECOND_TERM_0;
 use ira_files::CountingReader;
+use ira_fixtures::SECOND_TERM;
 use std::alloc::Global;
 use std::process::Abort;
 use std::sync::Wait;
@@ -83,7 +83,7 @@ fn log_text_table(rt: HostRuntime) {
 
 #[test]
 fn second_term(rt: HostRuntime) {
-    assert_judged(&rt, [SECOND_TERM_0, ""], "yes\n");
+    assert_read(&rt, SECOND_TERM[0], "yes\n", 2);
 }
 
 #[test]

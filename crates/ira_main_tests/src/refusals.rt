@@ -3,11 +3,8 @@
 //! shelf gives to be read is in no contract, so that answers are compared.
 
 use crate::fakes::{Input, Memory, MemoryShelf, NEVER, Output, served, served_amply};
-use crate::samples::{
-    ELECTED_0, ELECTED_1, EXCHANGED_0, EXPLAINED, LEADER_AND_ACTIVE, PAIRS_OF_THREE, TWO_CASES,
-    TWO_STEPS, UPGRADED_0, UPGRADED_1,
-};
 use ira_files::CountingReader;
+use ira_fixtures::{ELECTION_0, ELECTION_1, EXCHANGED_0, LEADER_AND_ACTIVE, TWO_CASES, TWO_STEPS};
 use ira_refusing::each_growth_refused;
 use std::process::Abort;
 use std::sync::Wait;
@@ -20,31 +17,46 @@ struct Case {
     status: u8,
     out: &'static str,
     err: &'static str,
-    written: &'static [(&'static str, &'static str)],
+    written: &'static [(&'static str, &'static [u8])],
 }
 
-const FILES: &[(&str, &str)] = &[
-    ("0.log", ELECTED_0),
-    ("1.log", ELECTED_1),
-    ("ring/0.log", ELECTED_0),
-    ("ring/1.log", ELECTED_1),
+const FILES: &[(&str, &[u8])] = &[
+    ("0.log", ELECTION_0),
+    ("1.log", ELECTION_1),
+    ("ring/0.log", ELECTION_0),
+    ("ring/1.log", ELECTION_1),
     ("exchanged/0.log", EXCHANGED_0),
-    ("exchanged/1.log", ELECTED_1),
+    ("exchanged/1.log", ELECTION_1),
     ("one", LEADER_AND_ACTIVE),
     ("two", TWO_CASES),
     ("c", TWO_STEPS),
 ];
 
-const ELECTION: &[(&str, &str)] = &[("d/0.log", ELECTED_0), ("d/1.log", ELECTED_1)];
+const ELECTION: &[(&str, &[u8])] = &[("d/0.log", ELECTION_0), ("d/1.log", ELECTION_1)];
 
-const EMPTY: &[(&str, &str)] = &[
+/// The logs of the election in version 2.
+const UPGRADED: &[(&str, &[u8])] = &[
     (
         "d/0.log",
-        "irlog 1\nnodes 2\nplace 0\nstart initiator\nend 0\n",
+        b"irlog 2\nnodes 2\nplace 0\nstart initiator\ndraw 2\nsend 1 2 1 clean\n\
+          recv 1 1 1 clean\nrecv 1 2 2 clean\nend 4\n",
     ),
     (
         "d/1.log",
-        "irlog 1\nnodes 2\nplace 1\nstart passive\nend 0\n",
+        b"irlog 2\nnodes 2\nplace 1\nstart initiator\ndraw 1\nsend 1 1 1 clean\n\
+          recv 1 2 1 clean\nsend 1 2 2 clean\nend 4\n",
+    ),
+];
+
+/// The logs of two nodes of which the first initiates and can't draw.
+const EMPTY: &[(&str, &[u8])] = &[
+    (
+        "d/0.log",
+        b"irlog 1\nnodes 2\nplace 0\nstart initiator\nend 0\n",
+    ),
+    (
+        "d/1.log",
+        b"irlog 1\nnodes 2\nplace 1\nstart passive\nend 0\n",
     ),
 ];
 
@@ -80,7 +92,8 @@ const CASES: &[Case] = &[
     Case {
         words: &["explain", "--dir=ring"],
         status: 0,
-        out: EXPLAINED,
+        out: "yes\n\n  Node 0 leads in round 1 with ID 2. 2 nodes, 8 events; 3 messages sent, 3 received, \
+              0 on the way.\n",
         err: "",
         written: &[],
     },
@@ -239,7 +252,8 @@ const CASES: &[Case] = &[
     Case {
         words: &["pairs", "3"],
         status: 0,
-        out: PAIRS_OF_THREE,
+        out: "irask 1\nnodes 3\ncase\n0: leader\n1: leader\ncase\n0: leader\n2: leader\n\
+              case\n1: leader\n2: leader\nend\n",
         err: "",
         written: &[],
     },
@@ -298,7 +312,7 @@ const CASES: &[Case] = &[
         status: 0,
         out: "upgraded 2 logs\n",
         err: "",
-        written: &[("d/0.log", UPGRADED_0), ("d/1.log", UPGRADED_1)],
+        written: UPGRADED,
     },
     Case {
         words: &["mend", "--out=d", "0.log", "1.log"],
@@ -329,7 +343,7 @@ where
     R: AllocGlobal + Threads + Wait + Clock + Sync,
 {
     let mut shelf = MemoryShelf::new(rt.alloc(), FILES);
-    let mut input = CountingReader::new(Input::new(ELECTED_0.as_bytes()));
+    let mut input = CountingReader::new(Input::new(ELECTION_0));
     let found = served(
         rt,
         alloc,
@@ -370,7 +384,7 @@ fn is_cut_after(
     taken: &[u8],
 ) -> bool {
     let mut shelf = MemoryShelf::new(rt.alloc(), FILES);
-    let mut input = CountingReader::new(Input::new(ELECTED_0.as_bytes()));
+    let mut input = CountingReader::new(Input::new(ELECTION_0));
     let found = served_amply(rt, case.words, &mut shelf, &mut input, [taken.len(), NEVER]);
     let told = b"ira: cannot write the answer\n".as_slice();
     let is_kept = if case.is_of("decide") {

@@ -17,7 +17,8 @@ returns-then-eq c =
     (bytes_decides (slice_index_or c.self.inside.files.now c.loop-i.i blank).0.now c.args.name.now).0 (sym c.eq.ensures
     ∙ c.if-eq.true) in
     rw (← c.self.view_is) (first_of_all _ c.self.inside.files.now c.loop-i.i blank c.args.name.now c.loop-i-test.true
-    (rw (← c.self.view_is) at c.loop-i.invariant) c.as_bytes.result.now (rw (c.as_bytes.ensures.value, same) refl))
+    (rw (← c.self.view_is) at c.loop-i.invariant) (slice_index_or c.self.inside.files.now c.loop-i.i blank).1.now
+    (rw same refl))
 
 pub loop-i-preserved : goal.loop-i-preserved
 unfolding blank
