@@ -52,6 +52,16 @@ pub record IsAnswerOf {S : Type 0} (reads : Reading S) (shelf : S) (folder : Bor
   pub runs : answer ≡ audit.Yes → AreTextsOfRuns texts
   pub reportable : IsReportable answer
 
+-- the answer is that of the folder of this number
+abbrev pub IsAnswerAt : {S : Type 0} → Reading S → S → List (Bor (List ℕ)) → ℕ → Answer → Type 0
+IsAnswerAt reads shelf folders i answer =
+    (folder : Bor (List ℕ)) → slice_get folders i ≡ Some folder → IsAnswerOf reads shelf folder answer
+
+-- each answer that there is is that of its folder
+abbrev pub AreAnswersOf : {S : Type 0} → Reading S → S → List (Bor (List ℕ)) → List (Option Answer) → Type 0
+AreAnswersOf reads shelf folders answers =
+    (i : ℕ) (answer : Answer) → slice_get answers i ≡ Some (Some answer) → IsAnswerAt reads shelf folders i answer
+
 -- what comes of a folder: the answer of the texts of its logs, or a file of theirs that wasn't read
 abbrev pub IsFolderAnswer : {S : Type 0} → Reading S → S → Bor (List ℕ) → FolderAnswer → Type 0
 IsFolderAnswer reads shelf folder (Judged answer) = IsAnswerOf reads shelf folder answer

@@ -1,27 +1,104 @@
-ghost use Rattle.std.specs.Prelude.{◌≡◌, IfOk, length};
+ghost use Rattle.std.specs.Prelude.{◌≡◌, ◌<◌, IfOk, IfSome, length};
 ghost use Rattle.std.specs.List.{AllZip, list_any};
-ghost use Rattle.ira_main.specs.Each.{AreFolderTexts, AreTellable, IsFolderAnswer, JudgesEach, each_status, is_no, unread_names};
+ghost use Rattle.ira_main.specs.Each.{AreAnswersOf, AreFolderTexts, AreTellable, IsAnswerAt, IsAnswerOf, IsFolderAnswer};
+ghost use Rattle.ira_main.specs.Each.{JudgesEach, each_status, is_no, unread_names};
 
 use crate::folder_answer::{FolderAnswer, judge_folder};
 use crate::program_fault::ProgramFault;
+use crate::read_files::thread_count;
 use crate::status::Status;
 use ira_audit::Answer;
 use ira_event::{MemorySink, OutOfMemory, Sink, WriteFault, write_bytes};
 use ira_files::{FileName, Shelf, TextSource};
 use ira_words::EachRequest;
 use std::alloc::{AllocError, Allocator, Global};
+use std::thread::{self, Threads};
 
-/// Judges the logs in each of these folders, one after another.
-fn folder_answers<'a, A: Allocator + Clone, F: TextSource>(
+/// The answer for the logs in the folder of this number. `None` where a file of theirs can't be read now, or memory is out.
+fn answer_at<A: Allocator + Clone, F: TextSource>(
+    alloc: &A,
+    folders: &[&str],
+    number: usize,
+    shelf: &F,
+) -> Option<Answer>
+    requires { number < length folders.now }
+    ensures { IfSome result (IsAnswerAt F.reads shelf.now folders.now number) }
+{
+    match judge_folder(alloc, folders[number], shelf) {
+        Ok(FolderAnswer::Judged(answer)) => Some(answer),
+        Ok(FolderAnswer::Unread(_)) | Err(OutOfMemory) => None,
+    }
+}
+
+/// No answer yet, for so many folders.
+fn no_answers<A: Allocator>(alloc: A, folders: usize) -> Result<Vec<Option<Answer>, A>, AllocError>
+    ensures { IfOk result (λ answers. length answers.items ≡ folders) }
+{
+    let mut answers = Vec::with_capacity(alloc, folders)?;
+    for _ in 0..folders {
+        answers.push(None)?;
+    }
+    Ok(answers)
+}
+
+/// Judges the logs in each of these folders. Threads that run at a time have a share of the folders each.
+fn judge_at_once<R, A, F>(
+    rt: &R,
+    alloc: &A,
+    folders: &[&str],
+    shelf: &F,
+    answers: &mut [Option<Answer>],
+)
+where
+    R: Threads + Sync,
+    A: Allocator + Clone + Sync,
+    F: TextSource + Sync,
+    requires { length answers.old ≡ length folders.now }
+    ensures count { length answers.new ≡ length folders.now }
+    ensures each { AreAnswersOf F.reads shelf.now folders.now answers.new }
+{
+    let judge = |number: usize, answer: &mut Option<Answer>|
+        requires { number < length folders.now }
+        ensures { IfSome answer.new (IsAnswerAt F.reads shelf.entry.now folders.entry.now number) }
+    { *answer = answer_at(alloc, folders, number, shelf) };
+    thread::for_each_mut(rt, answers, thread_count(rt), &judge);
+}
+
+/// What comes of a folder, of which the answer may be known.
+fn settled<'a, A: Allocator + Clone, F: TextSource>(
+    alloc: &A,
+    answer: Option<Answer>,
+    folder: &'a str,
+    shelf: &F,
+) -> Result<FolderAnswer<'a>, OutOfMemory>
+    requires { IfSome answer (IsAnswerOf F.reads shelf.now folder.entry) }
+    ensures { IfOk result (IsFolderAnswer F.reads shelf.now folder.entry) }
+{
+    match answer {
+        Some(answer) => Ok(FolderAnswer::Judged(answer)),
+        None => judge_folder(alloc, folder, shelf),
+    }
+}
+
+/// Judges the logs in each of these folders, several at a time. One without an answer is judged again when all have ended:
+/// then no other file is open, so what comes of it can't depend on how many were.
+fn folder_answers<'a, R, A, F>(
+    rt: &R,
     alloc: &A,
     folders: &[&'a str],
     shelf: &F,
 ) -> Result<Vec<FolderAnswer<'a>, A>, OutOfMemory>
+where
+    R: Threads + Sync,
+    A: Allocator + Clone + Sync,
+    F: TextSource + Sync,
     ensures { IfOk result (λ answers. AllZip (IsFolderAnswer F.reads shelf.now) folders.now answers.items) }
 {
+    let mut known = no_answers(alloc.clone()?, folders.len())?;
+    judge_at_once(rt, alloc, folders, shelf, &mut known);
     let mut answers = Vec::with_capacity(alloc.clone()?, folders.len())?;
-    for folder in folders {
-        answers.push(judge_folder(alloc, folder, shelf)?)?;
+    for (i, folder) in folders.iter().enumerate() {
+        answers.push(settled(alloc, known[i], folder, shelf)?)?;
     }
     Ok(answers)
 }
@@ -75,24 +152,25 @@ impl Status {
     }
 }
 
-/// Judges the logs in each of some folders, and prints what comes of them in the order of the folders. All are judged
-/// before anything is printed.
-pub(crate) fn judge_each<'a, A, F, W>(
-    global: Global,
+/// Judges the logs in each of some folders, several at a time, and prints what comes of them in the order of the folders. All
+/// are judged before anything is printed.
+pub(crate) fn judge_each<'a, R, A, F, W>(
+    rt: &R,
     alloc: A,
     asked: &EachRequest<'a>,
     shelf: &F,
     out: &mut W,
 ) -> Result<Status, ProgramFault<'a>>
 where
-    A: Allocator + Clone,
-    F: Shelf,
+    R: AllocGlobal + Threads + Sync,
+    A: Allocator + Clone + Send + Sync,
+    F: Shelf + Sync,
     W: Sink,
     ensures { JudgesEach F.reads asked.now shelf.now (W.state out.old) (W.state out.new) result }
 {
-    let answers = folder_answers(&alloc, &asked.folders, shelf)?;
-    let text = folder_texts(alloc, global, asked.is_json, &asked.folders, &answers)?;
-    let unread = unread(global, &answers)?;
+    let answers = folder_answers(rt, &alloc, &asked.folders, shelf)?;
+    let text = folder_texts(alloc, rt.alloc(), asked.is_json, &asked.folders, &answers)?;
+    let unread = unread(rt.alloc(), &answers)?;
     match write_bytes(text.bytes(), out) {
         Ok(()) if unread.is_empty() => Ok(Status::of_answers(&answers)),
         Ok(()) => Err(ProgramFault::CannotReadSome(unread)),

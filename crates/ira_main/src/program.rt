@@ -128,7 +128,7 @@ where
     match request {
         Request::OneLog => Progress::Ended(judge_input(alloc, input, out)),
         Request::Logs(logs) => Progress::Ended(judge_files(rt, alloc, &logs, shelf, out)),
-        Request::Each(each) => Progress::Ended(judge_each(rt.alloc(), alloc, &each, shelf, out)),
+        Request::Each(each) => Progress::Ended(judge_each(rt, alloc, &each, shelf, out)),
         Request::Explain(ExplainRequest { answer, is_json }) => match answer {
             ExplainedAnswer::OneLog => {
                 Progress::Ended(explain_input(rt.alloc(), alloc, is_json, input, out))
@@ -231,7 +231,7 @@ where
 /// With `--json` answers, what is found for a question, what is shown, and a file that can't be read are printed as JSON
 /// Lines.
 ///
-/// Logs are read on threads, `check` judges a section on some, and a run without `--alone` has a thread for each node;
+/// Logs are read on threads, those of several folders are judged on some, `check` judges a section on some, and a run without `--alone` has a thread for each node;
 /// all of them are waited for.
 pub fn serve<R, A, I, F, W, V>(
     rt: &R,

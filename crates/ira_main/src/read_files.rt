@@ -136,7 +136,7 @@ fn chunk_from<'n, 'a>(names: &'n [FileName<'a>], start: usize, size: usize) -> &
 }
 
 /// How many threads the machine runs at a time, or 1 where that isn't known.
-fn thread_count(rt: &impl Threads) -> usize
+pub(crate) fn thread_count(rt: &impl Threads) -> usize
     ensures { 0 < result }
 {
     thread::available_parallelism(rt).map_or(1, NonZeroUsize::get)
