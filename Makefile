@@ -41,6 +41,7 @@ help:
 	@echo '    completions commands and options of the completions, those of the help'
 	@echo '    version     the logic that the version, README.md and the toolchain name'
 	@echo '    pictures    pictures of the examples and of recorded rings, read back and held against the logs'
+	@echo '    page        pages to move in, opened in a headless Chromium, in the same way; and how fast a large one moves'
 	@echo '    json        lines of JSON, in the same way'
 	@echo '    plain       plain pages of show and explain, in the same way'
 	@echo '    refusals    the first growths of memory and each start of a thread refused in turn, of a few command lines'

@@ -9,7 +9,7 @@ ira=$(realpath "$1") || exit 2
 [ -x "$ira" ] || { echo "checks: no program at $1"; exit 2; }
 cd "$(dirname "$0")" || exit 2
 shift
-all='definitions names examples limits pages completions version pictures json plain refusals recorders sweep'
+all='definitions names examples limits pages completions version pictures page json plain refusals recorders sweep'
 said=$(mktemp) || exit 2
 trap 'rm -f "$said"' EXIT
 
@@ -23,9 +23,10 @@ done
 # What a check needs and isn't there.
 lacks() {
     case $1 in
-    pictures | json | plain | refusals | sweep) command -v python3 > /dev/null || { echo 'no python3'; return; } ;;
+    pictures | page | json | plain | refusals | sweep) command -v python3 > /dev/null || { echo 'no python3'; return; } ;;
     esac
     case $1 in
+    page) command -v chromium > /dev/null && command -v chromedriver > /dev/null || echo 'no chromium and chromedriver' ;;
     refusals | sweep)
         [ -f "$ira.o" ] || ldd "$ira" > /dev/null 2>&1 || { echo 'a static program, without the object file that make ira leaves'; return; }
         command -v rt > /dev/null || echo 'no Rattle kit'
@@ -43,6 +44,7 @@ check() {
     definitions | names) sh "$1.sh" ;;
     examples | limits | pages | completions | version | recorders) sh "$1.sh" "$ira" ;;
     pictures) python3 -B pictures.py "$ira" ;;
+    page) python3 -B page.py "$ira" ;;
     json) python3 -B json_lines.py "$ira" ;;
     plain) python3 -B plain_pages.py "$ira" ;;
     refusals) python3 -B sweep.py --short "$(of_ira)" ;;

@@ -4,6 +4,7 @@ pub mod ExplainedFindings
 pub mod ExplainedValue
 pub mod FolderValue
 pub mod Line
+pub mod LogValue
 pub mod Members
 pub mod Object
 pub mod ShownAnswer

@@ -5,6 +5,7 @@ ghost use Rattle.ira_order.specs.Run.{AreLocalRuns};
 ghost use Rattle.ira_json.specs.Line.{WroteLines};
 
 use crate::line_block::LineBlock;
+use crate::log_lines::start_of;
 use crate::object::Object;
 use crate::values::places_value;
 use ira_event::{Event, Logs, NodeLog, OutOfMemory, Sink};
@@ -33,15 +34,10 @@ fn node_value<A: Allocator>(
     file: &str,
     node: NodeProgress,
 ) -> Result<Value, OutOfMemory> {
-    let start = if log.initiator() {
-        "initiator"
-    } else {
-        "passive"
-    };
     let mut object = Object::of(alloc, "node");
     object.number("node", log.place() as u64);
     object.words("file", file);
-    object.words("start", start);
+    object.words("start", start_of(log));
     object.number("events", node.events as u64);
     object.number("of", log.len() as u64);
     object.number("draws", node.draws as u64);

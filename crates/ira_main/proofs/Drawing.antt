@@ -13,10 +13,9 @@ use Rattle.ira_files.specs.Shelf.{Writing}
 use Rattle.ira_picture.specs.DrawFault.{HasTooManyEvents}
 use Rattle.ira_picture.specs.declared.draw_fault.DrawFault.{DrawFault}
 use Rattle.ira_picture.specs.declared.draw_fault.DrawFault.TheVariants as draw
-use Rattle.ira_view_page.specs.Printable.{IsPrintable}
 use Rattle.ira_views.specs.ShownRing.{ShownRing}
 use Rattle.ira_words.specs.declared.draw_request.DrawRequest.{DrawRequest}
-use Rattle.ira_main.specs.Draw.{PrintsDrawn, TellsDrawn}
+use Rattle.ira_main.specs.Draw.{IsDrawn, PrintsDrawn, TellsDrawn}
 use Rattle.ira_main.specs.Draw.TellsDrawn.{good as drawn, refused, too_many}
 use Rattle.ira_main.specs.Outcome.{Outcome}
 use Rattle.ira_main.specs.ProgramFault.{draw_fault}
@@ -40,25 +39,25 @@ module _ {S : Type 0} (writes : Writing S) (texts : List (List ℕ)) (request : 
 
   -- good logs
   pub good_drawn : (logs : List Log) (ring : ShownRing) (r : Result (List ℕ) DrawFault) → AreGoodLogs texts logs
-      → IsAskedRing logs request.moment question ring → IfOk r IsPrintable
+      → IsAskedRing logs request.moment question ring → IfOk r (IsDrawn request.picture.now)
       → ((events : ℕ) → r ≡ Err (draw.TooManyEvents events)
       → HasTooManyEvents logs request.from request.to events)
       → MatchResult r (λ page. PrintsDrawn writes Yes page request.picture shelf shelf' out out' outcome)
       (λ f. (shelf' ≡ shelf) × (out' ≡ out) × (outcome ≡ Err (draw_fault f)))
       → TellsDrawn writes texts request question shelf shelf' out out' outcome ⊎ NoMemory
-  good_drawn logs ring (Ok page) are asked printable many told = inl (drawn logs ring page are asked printable told)
-  good_drawn logs ring (Err f) are asked printable many told =
-      undrawn logs f are.texts_are are.are_good.ring (λ events is. many events (ap (λ x. Err x) is)) told
+  good_drawn logs ring (Ok page) are asked is many told = inl (drawn logs ring page are asked is told)
+  good_drawn logs ring (Err f) are asked is many told =
+      undrawn logs f are.texts_are are.are_good.ring (λ events e. many events (ap (λ x. Err x) e)) told
 
   -- refused ones
   pub refused_drawn : (logs : RefusedLogs) (r : Result (List ℕ) DrawFault) → AreLogTexts texts logs.logs
-      → AreRefused logs → IfOk r IsPrintable
+      → AreRefused logs → IfOk r (IsDrawn request.picture.now)
       → ((events : ℕ) → r ≡ Err (draw.TooManyEvents events)
       → HasTooManyEvents logs.logs request.from request.to events)
       → MatchResult r (λ page. PrintsDrawn writes (No logs.reason) page request.picture shelf shelf' out out' outcome)
       (λ f. (shelf' ≡ shelf) × (out' ≡ out) × (outcome ≡ Err (draw_fault f)))
       → TellsDrawn writes texts request question shelf shelf' out out' outcome ⊎ NoMemory
-  refused_drawn logs (Ok page) are h printable many told =
-      inl (refused logs.logs logs.reason page are h.ring (refused_reason texts logs are h) printable told)
-  refused_drawn logs (Err f) are h printable many told =
-      undrawn logs.logs f are h.ring (λ events is. many events (ap (λ x. Err x) is)) told
+  refused_drawn logs (Ok page) are h is many told =
+      inl (refused logs.logs logs.reason page are h.ring (refused_reason texts logs are h) is told)
+  refused_drawn logs (Err f) are h is many told =
+      undrawn logs.logs f are h.ring (λ events e. many events (ap (λ x. Err x) e)) told

@@ -1,6 +1,7 @@
 -- What the program does that is asked to draw a ring.
-use Rattle.std.specs.Prelude.{◌≡◌, ◌⊎◌, ℕ, List, ◌++◌, Some, Ok, Err}
+use Rattle.std.specs.Prelude.{◌≡◌, ◌⊎◌, ℕ, Bool, List, ◌++◌, Some, Ok, Err, codes, nat_eq, true}
 use Rattle.std.specs.Borrow.{Bor}
+use Rattle.std.specs.List.{ends_with}
 use Rattle.ira_event.specs.Log.{Log}
 use Rattle.ira_event.specs.Logs.{AreLogs}
 use Rattle.ira_event.specs.Sink.{SinkState, StopsIn, Takes}
@@ -14,6 +15,7 @@ use Rattle.ira_audit.specs.declared.reason.Reason.{Reason}
 use Rattle.ira_view_page.specs.Printable.{IsPrintable}
 use Rattle.ira_moment.specs.declared.cut_fault.CutFault.{CutFault}
 use Rattle.ira_picture.specs.DrawFault.{HasTooManyEvents}
+use Rattle.ira_html.specs.HtmlPage.{IsHtmlPage}
 use Rattle.ira_views.specs.ShownRing.{ShownRing}
 use Rattle.ira_words.specs.declared.draw_request.DrawRequest.{DrawRequest}
 use Rattle.ira_files.specs.Shelf.{Reading, Writing}
@@ -28,6 +30,14 @@ use Rattle.ira_main.specs.SourceNames.{OfSource}
 use Rattle.ira_main.specs.Status.{answer_status}
 use Rattle.ira_main.specs.declared.program_fault.ProgramFault.{ProgramFault}
 use Rattle.ira_main.specs.declared.program_fault.ProgramFault.TheVariants.{CannotWriteAnswer, NoMoment, TooManyEvents}
+
+-- the name is that of a page: it ends with `.html`
+abbrev pub names_page : List ℕ → Bool
+names_page name = ends_with nat_eq name (codes ".html")
+
+-- the text is what is kept under this name: a picture, or a page with a picture in it where the name is that of a page
+abbrev pub IsDrawn : List ℕ → List ℕ → Type 0
+IsDrawn name text = IsPrintable text × (names_page name ≡ true → IsHtmlPage text)
 
 -- what comes of a picture on a shelf: it is written to a new file of this name, and the status is that of the answer; or
 -- a fault of that is the outcome
@@ -54,11 +64,11 @@ PrintsDrawn writes answer picture name shelf shelf' out out' outcome =
 pub data TellsDrawn {S : Type 0} (writes : Writing S) (texts : List (List ℕ)) (draw : DrawRequest) (question : List ℕ)
     (shelf shelf' : S) (out out' : SinkState) (outcome : Outcome) : Type 0 where
   good : (logs : List Log) (ring : ShownRing) (page : List ℕ) → AreGoodLogs texts logs
-      → IsAskedRing logs draw.moment question ring → IsPrintable page
+      → IsAskedRing logs draw.moment question ring → IsDrawn draw.picture.now page
       → PrintsDrawn writes Yes page draw.picture shelf shelf' out out' outcome
       → TellsDrawn writes texts draw question shelf shelf' out out' outcome
   refused : (logs : List Log) (r : Reason) (page : List ℕ) → AreLogTexts texts logs → AreLogs logs
-      → IsLogsReason texts r → IsPrintable page
+      → IsLogsReason texts r → IsDrawn draw.picture.now page
       → PrintsDrawn writes (No r) page draw.picture shelf shelf' out out' outcome
       → TellsDrawn writes texts draw question shelf shelf' out out' outcome
   no_question : (logs : List Log) (r : Reason) → AreGoodLogs texts logs → IsReasonAgainst texts draw.moment question r

@@ -1,9 +1,9 @@
-ghost use Rattle.std.specs.Prelude.{◌≡◌, ◌++◌, ◌⊎◌, ℕ, Err, List, MatchResult};
+ghost use Rattle.std.specs.Prelude.{◌≡◌, ◌++◌, ◌⊎◌, ℕ, Err, List, MatchResult, length};
 ghost use Rattle.ira_audit.specs.GoodLogs.{AreGoodLogs};
 ghost use Rattle.ira_audit.specs.Judged.{IsJudged};
 ghost use Rattle.ira_audit.specs.Report.{IsReportable};
 ghost use Rattle.ira_files.specs.Shelf.{WritesFile};
-ghost use Rattle.ira_files.specs.declared.file_name.FileName.{FileName};
+ghost use Rattle.ira_files.specs.declared.file_name.FileName.{FileName as Name};
 ghost use Rattle.ira_main.specs.Draw.{DrawsLogs, KeepsPicture, PrintsDrawn, TellsDrawn};
 ghost use Rattle.ira_main.specs.FilesRead.{names_of};
 ghost use Rattle.ira_main.specs.ProgramFault.{draw_fault};
@@ -11,42 +11,32 @@ ghost use Rattle.ira_main.specs.Overwriting.{input_names};
 ghost use Rattle.ira_main.specs.Show.{moment_names};
 ghost use Rattle.ira_main.specs.declared.program_fault.ProgramFault.TheVariants.{OutOfMemory};
 
+use crate::drawn_text::{refused_text, ring_text};
 use crate::overwriting::keep_inputs;
 use crate::program_fault::ProgramFault;
-use crate::read_files::read_logs;
+use crate::read_to_draw::{ToDraw, read_to_draw};
 use crate::report::report;
 use crate::show_files::{read_asked, ring_at};
 use crate::source_names::source_names;
 use crate::status::Status;
 use crate::text_file::write_text;
 use ira_audit::{Answer, GoodLogs, Judged, write_report};
-use ira_draw::draw_refused;
 use ira_event::{Sink, WriteFault};
-use ira_files::Shelf;
-use ira_picture::{ColumnRange, DrawFault};
+use ira_files::{FileName, Shelf};
+use ira_picture::DrawFault;
 use ira_view_page::PageText;
 use ira_views::RingFault;
 use ira_words::{AskedMoment, DrawRequest};
-use std::alloc::Allocator;
+use std::alloc::{Allocator, Global};
 use std::thread::Threads;
 
 // The file of the question whose first moment is asked for, if one is.
 fn asked_name<'a>(moment: &AskedMoment<'a>) -> Option<&'a str>
-    ensures { (logs : List FileName) → input_names result logs ≡ moment_names moment.now ++ names_of logs }
+    ensures { (logs : List Name) → input_names result logs ≡ moment_names moment.now ++ names_of logs }
 {
     match moment {
         AskedMoment::OfQuestion(asked) => Some(asked.question),
         AskedMoment::AtEnd | AskedMoment::AtCut(_) => None,
-    }
-}
-
-// The columns that are asked for.
-fn columns_of(draw: &DrawRequest<'_>) -> ColumnRange
-    ensures { (result.from ≡ draw.now.from) × (result.to ≡ draw.now.to) }
-{
-    ColumnRange {
-        from: draw.from,
-        to: draw.to,
     }
 }
 
@@ -104,15 +94,19 @@ fn tell_drawn<'a, A: Allocator, F: Shelf, W: Sink>(
     }
 }
 
-// Draws good logs at the moment that is asked for; where a question isn't one of their ring, its line is printed alone.
+// Draws good logs, in the files of these names, at the moment that is asked for; where a question isn't one of their ring, its
+// line is printed alone.
 fn draw_good<'a, A: Allocator + Clone, F: Shelf, W: Sink>(
+    text: Global,
     alloc: A,
     logs: GoodLogs<A>,
     draw: &DrawRequest<'a>,
     question: &[u8],
+    names: &[FileName<'a>],
     shelf: &mut F,
     out: &mut W,
 ) -> Result<Status, ProgramFault<'a>>
+    requires { length names.now ≡ length logs }
     ensures { (texts : List (List ℕ)) → AreGoodLogs texts logs
         → TellsDrawn (WritesFile F.creates F.closes F.Out.state) texts draw.now question.now shelf.old shelf.new
         (W.state out.old) (W.state out.new) result
@@ -120,8 +114,8 @@ fn draw_good<'a, A: Allocator + Clone, F: Shelf, W: Sink>(
 {
     match ring_at(alloc.clone()?, logs, &draw.moment, question) {
         Ok(ring) => {
-            let picture = ring.picture(alloc, columns_of(draw));
-            tell_drawn(&Answer::Yes, picture, draw.picture, shelf, out)
+            let kept = ring_text(text, alloc, &ring, names, draw);
+            tell_drawn(&Answer::Yes, kept, draw.picture, shelf, out)
         }
         Err(RingFault::No(reason)) => report(&Answer::No(reason), out),
         Err(RingFault::Cut(fault)) => Err(ProgramFault::NoMoment(fault)),
@@ -129,35 +123,39 @@ fn draw_good<'a, A: Allocator + Clone, F: Shelf, W: Sink>(
     }
 }
 
-// Draws what was judged; where the texts aren't those of the logs of one ring, the line of the reason is printed alone.
+// Draws what was read from the files of these names; where the texts aren't those of the logs of one ring, the line of the
+// reason is printed alone.
 fn draw_judged<'a, A: Allocator + Clone, F: Shelf, W: Sink>(
+    text: Global,
     alloc: A,
-    judged: Judged<A>,
+    read: ToDraw<A>,
     draw: &DrawRequest<'a>,
     question: &[u8],
+    names: &[FileName<'a>],
     shelf: &mut F,
     out: &mut W,
 ) -> Result<Status, ProgramFault<'a>>
-    requires { (texts : List (List ℕ)) × IsJudged texts judged }
-    ensures { (texts : List (List ℕ)) → IsJudged texts judged
+    requires { (texts : List (List ℕ)) × IsJudged texts read.judged × (length names.now ≡ length texts) }
+    ensures { (texts : List (List ℕ)) → IsJudged texts read.judged
         → TellsDrawn (WritesFile F.creates F.closes F.Out.state) texts draw.now question.now shelf.old shelf.new
         (W.state out.old) (W.state out.new) result
         ⊎ ((shelf.new ≡ shelf.old) × (W.state out.new ≡ W.state out.old) × (result ≡ Err OutOfMemory)) }
 {
+    let ToDraw { judged, told } = read;
     match judged {
-        Judged::Good(logs) => draw_good(alloc, logs, draw, question, shelf, out),
+        Judged::Good(logs) => draw_good(text, alloc, logs, draw, question, names, shelf, out),
         Judged::Refused(refused) => {
-            let picture = draw_refused(alloc, &refused, columns_of(draw));
+            let kept = refused_text(alloc, &refused, told.as_bytes(), draw);
             let answer = Answer::No(refused.reason());
-            tell_drawn(&answer, picture, draw.picture, shelf, out)
+            tell_drawn(&answer, kept, draw.picture, shelf, out)
         }
         Judged::NoRing(reason) => report(&Answer::No(reason), out),
     }
 }
 
 /// Judges the logs of this source together, prints the line of their answer, and keeps a picture of them in the file
-/// that is named, which is none of those that are read. The text of a question is read first, and all of them are
-/// before anything is judged.
+/// that is named, which is none of those that are read; or a page with the picture, where the name is that of a page. The
+/// text of a question is read first, and all of them are before anything is judged.
 pub(crate) fn draw_files<'a, R, A, F, W>(
     rt: &R,
     alloc: A,
@@ -166,7 +164,7 @@ pub(crate) fn draw_files<'a, R, A, F, W>(
     out: &mut W,
 ) -> Result<Status, ProgramFault<'a>>
 where
-    R: Threads + Sync,
+    R: AllocGlobal + Threads + Sync,
     A: Allocator + Clone + Send + Sync,
     F: Shelf + Sync,
     W: Sink,
@@ -176,7 +174,15 @@ where
     let names = source_names(&alloc, &draw.logs, shelf)?;
     keep_inputs(&alloc, Some(draw.picture), asked_name(&draw.moment), &names)?;
     let question = read_asked(&alloc, &draw.moment, shelf)?;
-    let audit = read_logs(rt, alloc.clone()?, &names, shelf)?;
-    let judged = audit.judge_on_threads(rt)?;
-    draw_judged(alloc, judged, draw, question.bytes(), shelf, out)
+    let read = read_to_draw(rt, alloc.clone()?, draw, &names, shelf)?;
+    draw_judged(
+        rt.alloc(),
+        alloc,
+        read,
+        draw,
+        question.bytes(),
+        &names,
+        shelf,
+        out,
+    )
 }

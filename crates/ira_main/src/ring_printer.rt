@@ -56,8 +56,8 @@ fn print_events<'a, A: Allocator + Clone, W: Sink>(
     }
 }
 
-// The names, whole.
-fn paths<A: Allocator + Clone>(
+/// The names, whole.
+pub(crate) fn paths<A: Allocator + Clone>(
     alloc: &A,
     names: &[FileName<'_>],
 ) -> Result<Vec<String<A>, A>, AllocError>

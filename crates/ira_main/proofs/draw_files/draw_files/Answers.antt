@@ -1,4 +1,7 @@
-use Rattle.std.proofs.Common.{inl, inr, refl, rules}
+use Rattle.std.proofs.Common.{◌∙◌, Ok, inl, inr, refl, rules, sym}
+use Rattle.std.proofs.lemmas.List.{length-map}
+use Rattle.ira_audit.proofs.Zipped.{zipped_length}
+use Rattle.ira_files.specs.FileName.{file_name}
 use Rattle.ira_main.proofs.FilesRead.{of_back, of_front, reads_both}
 use Rattle.ira_main.specs.FilesRead.{names_of}
 use Rattle.ira_main.specs.Show.{moment_names, moment_texts}
@@ -40,11 +43,11 @@ returns-in_err-question g c =
 pub returns-in_err-clone : goal.returns-in_err-clone
 returns-in_err-clone g c = inl (_, c.in_ok-names.ensures, inr (refl, (OutOfMemory, inr (inr refl), refl, search rules)))
 
-pub returns-in_err-audit : goal.returns-in_err-audit
-returns-in_err-audit g c =
+pub returns-in_err-read : goal.returns-in_err-read
+returns-in_err-read g c =
     let logs = names_of c.in_ok-names.names.items in
     let asked = moment_names c.args.draw.now.moment in
-    let fault = rw c.deref-2.ensures.value at c.in_err-audit.ensures in
+    let fault = rw c.deref-2.ensures.value at c.in_err-read.ensures in
     inl (
       _,
       c.in_ok-names.ensures,
@@ -59,25 +62,25 @@ returns-in_err-audit g c =
       ),
     )
 
-pub returns-in_err-judged : goal.returns-in_err-judged
-returns-in_err-judged g c =
-    inl (_, c.in_ok-names.ensures, inr (refl, (OutOfMemory, inr (inr refl), refl, search rules)))
-
 pub draw_judged-requires : goal.draw_judged-requires
 draw_judged-requires g c =
-    let taken = c.in_ok-audit.ensures in
-    (taken.0, c.in_ok-judged.ensures taken.0 taken.1)
+    let names = c.in_ok-names.names.items in
+    let read = rw c.deref-2.ensures.value at c.in_ok-read.ensures in
+    let many = sym (length-map names file_name)
+    ∙ sym (zipped_length (λ name text. g.F.TextSource.reads c.args.shelf.now name (Ok text)) (names_of names) read.0
+    read.1) in
+    (read.0, read.2, rw c.deref-3.ensures.value many)
 
 pub returns : goal.returns
 returns g c =
     let draw = c.args.draw.now in
     let logs = names_of c.in_ok-names.names.items in
-    let taken = rw c.deref-2.ensures.value at c.in_ok-audit.ensures in
+    let read = rw c.deref-2.ensures.value at c.in_ok-read.ensures in
     let kept = rw (
       c.deref.ensures.value,
       c.asked_name.ensures c.in_ok-names.names.items,
     ) at c.in_ok-keep_inputs.ensures in
-    elim (c.draw_judged.ensures taken.0 (c.in_ok-judged.ensures taken.0 taken.1)) [
+    elim (c.draw_judged.ensures read.0 read.2) [
       | inl told ↦
           inl (
             _,
@@ -85,9 +88,9 @@ returns g c =
             inl (record {
               kept = kept;
               question = c.in_ok-question.question;
-              texts = taken.0;
+              texts = read.0;
               given = reads_both g.F.TextSource.reads (moment_names draw.moment) logs _
-                  (moment_texts draw.moment c.in_ok-question.question) _ c.in_ok-question.ensures taken.2;
+                  (moment_texts draw.moment c.in_ok-question.question) _ c.in_ok-question.ensures read.1;
               told = rw c.bytes.ensures at told;
             }),
           )

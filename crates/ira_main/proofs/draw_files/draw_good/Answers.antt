@@ -1,15 +1,20 @@
-use Rattle.std.proofs.Common.{inl, refl}
+use Rattle.std.proofs.Common.{◌∙◌, ap, inl, length, refl, sym}
 use Rattle.ira_main.proofs.Drawing.{good_drawn}
 use Rattle.ira_main.proofs.Showing.{against, no_cut, reportable, ring_of}
 use Rattle.ira_main.specs.Draw.TellsDrawn.{no_moment, no_question}
 use Rattle.ira_main.proofs.draw_files.draw_good.Goals as goal
 
+pub ring_text-requires : goal.ring_text-requires
+ring_text-requires g c =
+    let same = ring_of c.args.logs c.args.draw.now.moment c.args.question.now _ c.in-Ok.ensures in
+    c.requires ∙ sym (ap length same)
+
 pub returns-in-Ok : goal.returns-in-Ok
 returns-in-Ok g c = λ texts good.
     let same = ring_of c.args.logs c.args.draw.now.moment c.args.question.now c.in-Ok.ring c.in-Ok.ensures in
-    good_drawn _ texts c.args.draw.now c.args.question.now _ _ _ _ _ c.args.logs c.in-Ok.ring c.picture-picture.result
-    good c.in-Ok.ensures c.picture-picture.ensures.printable
-    (λ events is. rw (same, c.columns_of.ensures.0, c.columns_of.ensures.1) at c.picture-picture.ensures.events events is)
+    good_drawn _ texts c.args.draw.now c.args.question.now _ _ _ _ _ c.args.logs c.in-Ok.ring c.ring_text-kept.result
+    good c.in-Ok.ensures c.ring_text-kept.ensures.drawn
+    (λ events is. rw same at c.ring_text-kept.ensures.events events is)
     c.tell_drawn.ensures
 
 pub report-requires : goal.report-requires

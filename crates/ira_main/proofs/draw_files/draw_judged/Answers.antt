@@ -1,8 +1,15 @@
-use Rattle.std.proofs.Common.{inl, refl}
+use Rattle.std.proofs.Common.{◌∙◌, inl, refl, sym}
 use Rattle.ira_audit.proofs.Judging.{refused_reason}
+use Rattle.ira_audit.proofs.Zipped.{zipped_length}
+use Rattle.ira_event.specs.LogText.{IsLogText}
 use Rattle.ira_main.proofs.Drawing.{refused_drawn}
 use Rattle.ira_main.specs.Draw.TellsDrawn.{no_ring}
 use Rattle.ira_main.proofs.draw_files.draw_judged.Goals as goal
+
+pub draw_good-requires : goal.draw_good-requires
+draw_good-requires g c =
+    let good = rw c.in-Good.is at c.requires.1 in
+    c.requires.2 ∙ sym (zipped_length IsLogText c.requires.0 _ good.texts_are)
 
 pub returns-in-Good : goal.returns-in-Good
 returns-in-Good g c = λ texts judged. c.draw_good.ensures texts (rw c.in-Good.is at judged)
@@ -16,8 +23,7 @@ pub returns-in-Refused : goal.returns-in-Refused
 returns-in-Refused g c = λ texts judged.
     let is = rw c.in-Refused.is at judged in
     refused_drawn _ texts c.args.draw.now c.args.question.now _ _ _ _ _ c.in-Refused.refused
-    c.draw_refused-picture.result is.0 is.1 c.draw_refused-picture.ensures.printable
-    (λ events e. rw (c.columns_of.ensures.0, c.columns_of.ensures.1) at c.draw_refused-picture.ensures.events events e)
+    c.refused_text-kept.result is.0 is.1 c.refused_text-kept.ensures.drawn c.refused_text-kept.ensures.events
     (rw c.reason.ensures.value at c.tell_drawn.ensures)
 
 pub report-requires : goal.report-requires

@@ -1,0 +1,302 @@
+"""Opens pages of `ira draw --out NAME.html` in a headless Chromium, driven over loopback by its driver: selects events,
+reads what the page says of them, and holds states, what is owed, pasts and futures, moments, who leads and what is on its way
+against the logs, which are read and stepped here anew. Says how many frames a second a large ring moves with.
+
+    python3 checks/page.py PROGRAM      PROGRAM makes the pages; chromium and chromedriver are on the PATH
+"""
+import json
+import os
+import re
+import subprocess
+import sys
+import tempfile
+import time
+import urllib.request
+
+from pictures import HERE, Ring, load, logs_in, words
+
+LARGEST = 30 * 1024
+READS = '''
+const read = list => Object.fromEntries([...list.querySelectorAll('dt')].map(term => [term.textContent, term.nextSibling.textContent]));
+const cells = table => [...table.rows].slice(1).map(row => [...row.cells].map(cell => cell.textContent));
+const part = id => document.getElementById(id);
+showPanel();
+const [about, moment] = [part('event').querySelector('dl'), part('moment').querySelector('dl')];
+return {
+  heading: part('heading').textContent, why: part('why').textContent, title: part('event').textContent.match(/node \\d+ event \\d+/)?.[0],
+  about: about && read(about), moment: moment && read(moment), states: moment && cells(part('moment').querySelector('table')),
+  way: [...part('moment').querySelectorAll('li')].map(item => item.textContent), asked: part('moment').querySelector('h2')?.textContent,
+  link: location.hash, focus: document.activeElement.id, elements: document.querySelectorAll('body *').length,
+};'''
+FRAMES = '''
+const [move, done] = arguments, moves = new Function('k', move), times = [];
+requestAnimationFrame(function tick(now) {
+  times.push(now);
+  if (times.length > 60) return done(1000 * (times.length - 1) / (times.at(-1) - times[0]));
+  moves(times.length);
+  requestAnimationFrame(tick);
+});'''
+
+
+class Browser:
+    """A session of the WebDriver protocol."""
+
+    def __init__(self):
+        self.driver = subprocess.Popen(['chromedriver', '--port=0'], stdout=subprocess.PIPE, stderr=subprocess.DEVNULL, text=True)
+        for line in self.driver.stdout:
+            port = re.search(r'successfully on port (\d+)', line)
+            if port:
+                break
+        self.at = f'http://127.0.0.1:{port[1]}/session'
+        self.opener = urllib.request.build_opener(urllib.request.ProxyHandler({}))
+        options = {'args': ['--headless=new', '--no-sandbox', '--disable-gpu', '--window-size=1400,860']}
+        wanted = {'browserName': 'chrome', 'goog:chromeOptions': options, 'goog:loggingPrefs': {'browser': 'ALL'}}
+        self.at += '/' + self.call('POST', '', {'capabilities': {'alwaysMatch': wanted}})['sessionId']
+        self.call('POST', '/timeouts', {'script': 120_000})
+
+    def call(self, method, path, body=None):
+        request = urllib.request.Request(self.at + path, method=method, headers={'Content-Type': 'application/json'},
+                                         data=None if body is None else json.dumps(body).encode())
+        with self.opener.open(request, timeout=180) as answer:
+            return json.load(answer)['value']
+
+    def open(self, page, link=''):
+        self.call('POST', '/url', {'url': 'about:blank'})
+        self.call('POST', '/url', {'url': 'file://' + urllib.request.quote(page) + link})
+
+    def run(self, script, *arguments):
+        return self.call('POST', '/execute/sync', {'script': script, 'args': list(arguments)})
+
+    def frames(self, move):
+        return self.call('POST', '/execute/async', {'script': FRAMES, 'args': [move]})
+
+    def type(self, *keys):
+        """Types keys into the picture."""
+        self.run("document.getElementById('view').focus()")
+        strokes = [{'type': kind, 'value': key} for key in keys for kind in ('keyDown', 'keyUp')]
+        self.call('POST', '/actions', {'actions': [{'type': 'key', 'id': 'keys', 'actions': strokes}]})
+
+    def faults(self):
+        return [entry for entry in self.call('POST', '/se/log', {'type': 'browser'}) if entry['level'] == 'SEVERE']
+
+    def close(self):
+        self.call('DELETE', '')
+        self.driver.terminate()
+        self.driver.wait()
+
+
+KEYS = {'left': '\ue012', 'up': '\ue013', 'right': '\ue014', 'down': '\ue015', 'escape': '\ue00c'}
+
+
+# ---- what a page is to say ------------------------------------------------------------------------
+def state(ring, i, p):
+    states = ring.states[i]
+    return words(states[p]) if p < len(states) else 'no step' if p == len(states) else 'no state'
+
+
+def future(ring, i, p):
+    """How many events happened after event p of node i."""
+    return sum(1 for (j, q) in ring.column if (j, q) != (i, p) and ring.past(j, q)[i] >= p)
+
+
+def on_the_way(ring, cut):
+    way = []
+    for i in range(ring.n):
+        j = (i + 1) % ring.n
+        sent = [load(ring.events[i][s - 1]) for s in ring.sent[i] if s <= cut[i]]
+        left = sent[sum(1 for g in ring.got[i] if g <= cut[j]):]
+        if left:
+            way.append(f'from node {i} to node {j}: ' + ', '.join(' '.join(one) for one in left))
+    return way
+
+
+def holds_moment(seen, ring, cut):
+    assert seen['moment']['cut'] == ','.join(map(str, cut)), (seen['moment'], cut)
+    states = [state(ring, i, p) for i, p in enumerate(cut)]
+    assert seen['states'] == [[str(i), str(p), states[i]] for i, p in enumerate(cut)], (seen['states'], states)
+    assert seen['moment']['leads'] == (', '.join(f'node {i}' for i, s in enumerate(states) if s.startswith('leader')) or 'nobody')
+    assert seen['way'] == on_the_way(ring, cut), (seen['way'], on_the_way(ring, cut))
+
+
+def holds_event(seen, ring, names, i, p):
+    """Holds what is said of an event."""
+    about, record = seen['about'], ' '.join(ring.events[i][p - 1])
+    assert seen['title'] == f'node {i} event {p}' and seen['link'] == f'#node{i}.{p}'
+    assert about['record'] == record and about['column'] == str(ring.column[i, p])
+    assert about['after'] == state(ring, i, p)
+    assert about['before'] == state(ring, i, p - 1) and about['in'] == f'{names[i]}:{p + 4}', about
+    assert about['owes'] == (about['after'].split(', owes ')[1] if ', owes ' in about['after'] else 'nothing')
+    past = ring.past(i, p)
+    assert about['happened before'] == f'{sum(past) - 1} events', (about, past)
+    if ring.mismatch() is None:
+        assert about['after it'] == f'{future(ring, i, p)} events', about
+    holds_moment(seen, ring, past)
+
+
+def beside(ring, i, p):
+    """The other end of an event's message."""
+    if ring.events[i][p - 1][0] == 'recv':
+        return ring.sending(i, p)
+    if ring.events[i][p - 1][0] == 'send':
+        j, k = (i + 1) % ring.n, ring.sent[i].index(p)
+        return (j, ring.got[i][k]) if k < len(ring.got[i]) else None
+    return None
+
+
+def recorded(folder, records):
+    """Logs of initiators in a new folder."""
+    os.mkdir(folder)
+    for place, events in enumerate(records):
+        events = events.split(', ')
+        with open(os.path.join(folder, f'{place}.log'), 'w') as log:
+            log.write('\n'.join(['irlog 1', f'nodes {len(records)}', f'place {place}', 'start initiator', *events, f'end {len(events)}', '']))
+    return logs_in(folder)
+
+
+# ---- what is looked at ----------------------------------------------------------------------------
+class Check:
+    def __init__(self, program, browser, temp):
+        self.program, self.browser, self.page = program, browser, os.path.join(temp, 'page.html')
+        self.read = 0
+
+    def draw(self, names, *options):
+        told = subprocess.run([self.program, 'draw', *options, '--out', self.page, *names], check=False, capture_output=True, text=True)
+        with open(self.page, encoding='ascii') as page:
+            text = page.read()
+        assert all(c == '\n' or c.isprintable() for c in text)
+        return told.stdout.rstrip('\n'), text
+
+    def look(self):
+        self.read += 1
+        return self.browser.run(READS)
+
+    def events(self, names, number):
+        """A ring of good logs: some of its events, by links and by keys."""
+        ring = Ring(names)
+        answer, _ = self.draw(names)
+        assert answer == 'yes'
+        self.browser.open(self.page)
+        assert self.look()['about'] is None
+        order = sorted(ring.column, key=lambda e: (ring.column[e], e))
+        for i, p in order[::max(1, len(order) // number)]:
+            self.browser.run(f"location.hash = '#node{i}.{p}'; onhashchange();")
+            holds_event(self.look(), ring, names, i, p)
+            other = beside(ring, i, p)
+            if other:
+                self.browser.type(KEYS['down'] if ring.events[i][p - 1][0] == 'send' else KEYS['up'])
+                holds_event(self.look(), ring, names, *other)
+                i, p = other
+            if p > 1:
+                self.browser.type(KEYS['left'])
+                holds_event(self.look(), ring, names, i, p - 1)
+        # a moment, by steps through the order and along the columns
+        self.browser.type(KEYS['escape'], ']', ']', ']')
+        cut = [int(p) for p in self.look()['moment']['cut'].split(',')]
+        assert sum(cut) == 3
+        holds_moment(self.look(), ring, cut)
+        column = ring.last() // 2
+        cut = [sum(1 for (j, _), c in ring.column.items() if j == i and c <= column) for i in range(ring.n)]
+        self.browser.run('wholeWidth(); momentAt(X(stands[arguments[0]]) + .4 * view.wide)', column)
+        holds_moment(self.look(), ring, cut)
+        assert not self.browser.faults()
+
+    def refused(self, names, named, told):
+        """Refused logs: the page opens at the event that the answer names, with these words."""
+        ring = Ring(names)
+        answer, _ = self.draw(names)
+        self.browser.open(self.page)
+        seen = self.look()
+        assert seen['heading'] == answer and answer.startswith('no: ')
+        holds_event(seen, ring, names, *named)
+        for part in told:
+            assert part in seen['why'], (part, seen['why'])
+        assert not self.browser.faults()
+
+    def asked(self, names, question, cut, told):
+        """A question: the page opens at the first moment that meets a case of it."""
+        self.draw(names, '--question', question)
+        self.browser.open(self.page)
+        seen = self.look()
+        holds_moment(seen, Ring(names), cut)
+        assert seen['asked'] == told, seen['asked']
+
+    def hostile(self, temp, example):
+        """Names that would end a script or begin a tag, or aren't ASCII: the page has the elements that any has, and tells them."""
+        wanted = None
+        for name in ('plain', 'a</script><script>document.title=0</script>', '"\'&amp;<!--', 'h\u00f6he \u2028\u4e2d', 'line\nfeed\t'):
+            folder = os.path.join(temp, *name.split('/'))
+            os.makedirs(folder)
+            names = []
+            for log in logs_in(example):
+                names.append(os.path.join(folder, os.path.basename(log)))
+                with open(log) as old, open(names[-1], 'w') as new:
+                    new.write(old.read())
+            _, text = self.draw(names)
+            assert text.count('<script') == text.count('</script') == 2
+            self.browser.open(self.page, '#node1.2')
+            seen = self.look()
+            wanted = wanted or seen['elements']
+            assert seen['elements'] == wanted and seen['about']['in'] == f'{names[1]}:6', seen['about']
+            assert not self.browser.faults()
+
+    def moves(self, temp):
+        """The frames a second with which a ring of 64 nodes and 20,000 events moves, against those of an empty page."""
+        folder = os.path.join(temp, 'large')
+        os.mkdir(folder)
+        said = subprocess.run([self.program, 'run', '--nodes', '64', '--seed', '5', '--terms', '21', '--out', folder], check=True,
+                              capture_output=True, text=True).stdout
+        events = sum(int(line.split()[-2]) for line in said.splitlines())
+        assert 19_000 < events <= 20_000, events
+        _, text = self.draw(logs_in(folder))
+        written = re.search('<style>.*?</style>', text, re.S)[0] + text[text.rindex('<script>'):]
+        assert len(written) <= LARGEST, len(written)
+        self.browser.open('/dev/null')
+        free = self.browser.frames('')
+        self.browser.open(self.page)
+        rates = {}
+        for name, begin, move in (('along', 'allLanes()', 'pan(-25, 0)'), ('zoom', 'wholeWidth()', 'zoom(k < 30 ? 1.1 : 1 / 1.1)'),
+                                  ('whole', 'wholeWidth(); zoom(1.3)', 'pan(k % 40 < 20 ? -3 : 3, 0)')):
+            self.browser.run(begin)
+            time.sleep(1)
+            rates[name] = max(self.browser.frames(move) for _ in range(3))
+        print(f'{events} events of 64 nodes move with', ', '.join(f'{name} {rate:.0f}' for name, rate in rates.items()),
+              f'frames a second; an empty page has {free:.0f}')
+        assert min(rates.values()) >= 30 or free < 50, 'too slow'
+        assert not self.browser.faults()
+
+
+def main():
+    program = sys.argv[1]
+    examples = {name: logs_in(os.path.join(HERE, '..', 'examples', name)) for name in (
+        'two_node_election', 'tie_then_win', 'second_term', 'recorded_ring', 'receipts_exchanged', 'lost_record', 'circle_of_two')}
+    browser = Browser()
+    try:
+        with tempfile.TemporaryDirectory() as temp:
+            check = Check(program, browser, temp)
+            for name in ('two_node_election', 'tie_then_win', 'second_term', 'recorded_ring'):
+                check.events(examples[name], 8)
+            folder = os.path.join(temp, 'recorded')
+            os.mkdir(folder)
+            subprocess.run([program, 'run', '--nodes', '8', '--seed', '2', '--out', folder], check=True, stdout=subprocess.DEVNULL)
+            check.events(logs_in(folder), 20)
+            check.refused(examples['receipts_exchanged'], (0, 3), ['the link changed their order', '1 2 2 clean', 'differs'])
+            check.refused(examples['lost_record'], (0, 4), ['owes exactly this message: its sending is not recorded', 'recv 1 2 2 clean'])
+            check.refused(examples['circle_of_two'], (0, 1), ['two threads write one log', 'recv 1 1 2 clean'])
+            # a hop raised twice by node 2, which node 0 finds out
+            names = recorded(os.path.join(temp, 'raised'), (
+                'draw 4, send 1 4 1 clean, recv 1 3 1 clean, recv 1 4 5 clean',
+                'draw 1, send 1 1 1 clean, recv 1 4 1 clean, send 1 4 2 clean',
+                'draw 2, send 1 2 1 clean, recv 1 1 1 clean, recv 1 4 2 clean, send 1 4 4 clean',
+                'draw 3, send 1 3 1 clean, recv 1 2 1 clean, recv 1 4 4 clean, send 1 4 5 clean'))
+            check.refused(names, (0, 4), ['recv 1 4 5 clean', 'send 1 4 4 clean', 'not owed', 'active in round 1 with ID 4'])
+            question = os.path.join(HERE, '..', 'examples', 'two_node_election', 'active_beside_passive.ask')
+            check.asked(examples['two_node_election'], question, [2, 3], 'case 0 is met here: node 0 active, node 1 passive')
+            check.hostile(temp, os.path.join(HERE, '..', 'examples', 'two_node_election'))
+            check.moves(temp)
+            print(f'{check.read} readings of pages are what their logs say')
+    finally:
+        browser.close()
+
+
+if __name__ == '__main__':
+    main()

@@ -1,0 +1,130 @@
+ghost use Rattle.std.specs.Prelude.{◌≡◌, ℕ, Err, IfOk, length};
+ghost use Rattle.ira_html.specs.HtmlPage.{IsHtmlPage};
+ghost use Rattle.ira_picture.specs.DrawFault.{HasTooManyEvents};
+ghost use Rattle.ira_view_page.specs.Printable.{IsPrintable};
+ghost use Rattle.ira_main.specs.Draw.{IsDrawn, names_page};
+
+use crate::ring_printer::paths;
+use crate::status::Status;
+use ira_audit::{Answer, RefusedLogs};
+use ira_draw::draw_refused;
+use ira_event::{MemorySink, OutOfMemory};
+use ira_files::FileName;
+use ira_html::html_page;
+use ira_json::ShownAnswer;
+use ira_picture::{ColumnRange, DrawFault};
+use ira_view_page::PageText;
+use ira_views::ShownRing;
+use ira_words::DrawRequest;
+use std::alloc::{Allocator, Global};
+
+/// Whether a name is that of a page.
+pub(crate) fn is_page(name: &str) -> bool
+    ensures { result ≡ names_page name.now }
+{
+    name.as_bytes().ends_with(b".html")
+}
+
+/// The columns that are asked for.
+fn columns_of(draw: &DrawRequest<'_>) -> ColumnRange
+    ensures { (result.from ≡ draw.now.from) × (result.to ≡ draw.now.to) }
+{
+    ColumnRange {
+        from: draw.from,
+        to: draw.to,
+    }
+}
+
+/// Adds what is told of a ring, of its moment or of all events, as lines of JSON.
+fn add_told<A: Allocator + Clone>(
+    text: Global,
+    alloc: A,
+    ring: &ShownRing<A>,
+    files: &[String<A>],
+    has_events: bool,
+    lines: &mut MemorySink<A>,
+) -> Result<(), OutOfMemory>
+    requires { length files.now ≡ length ring.now.logs }
+{
+    let answer = ShownAnswer {
+        status: Status::of_answer(&Answer::Yes).number(),
+        named: None,
+    };
+    match ring.write_json(text, alloc, files, answer, has_events, lines) {
+        Ok(()) => Ok(()),
+        Err(_) => Err(OutOfMemory),
+    }
+}
+
+/// What is told of a ring, whose logs are in the files of these names: of its moment, and then of all events.
+fn told_lines<A: Allocator + Clone>(
+    text: Global,
+    alloc: A,
+    ring: &ShownRing<A>,
+    names: &[FileName<'_>],
+) -> Result<MemorySink<A>, OutOfMemory>
+    requires { length names.now ≡ length ring.now.logs }
+{
+    let files = paths(&alloc, names)?;
+    let mut lines = MemorySink::new(alloc.clone()?);
+    add_told(text, alloc.clone()?, ring, &files, false, &mut lines)?;
+    add_told(text, alloc, ring, &files, true, &mut lines)?;
+    Ok(lines)
+}
+
+/// The page of a picture, if there is one.
+fn page_of<A: Allocator>(
+    alloc: A,
+    picture: Result<PageText<A>, DrawFault>,
+    json: &[u8],
+) -> Result<PageText<A>, DrawFault>
+    ensures page { IfOk result (λ text. IsPrintable text × IsHtmlPage text) }
+    ensures events { (events : ℕ) → result ≡ Err (DrawFault.TooManyEvents events)
+        → picture ≡ Err (DrawFault.TooManyEvents events) }
+{
+    match picture {
+        Ok(picture) => Ok(html_page(alloc, &picture, json)?),
+        Err(fault) => Err(fault),
+    }
+}
+
+/// What is kept of a ring, whose logs are in the files of these names: a picture, or a page.
+pub(crate) fn ring_text<A: Allocator + Clone>(
+    text: Global,
+    alloc: A,
+    ring: &ShownRing<A>,
+    names: &[FileName<'_>],
+    draw: &DrawRequest<'_>,
+) -> Result<PageText<A>, DrawFault>
+    requires { length names.now ≡ length ring.now.logs }
+    ensures drawn { IfOk result (IsDrawn draw.now.picture.now) }
+    ensures events { (events : ℕ) → result ≡ Err (DrawFault.TooManyEvents events)
+        → HasTooManyEvents ring.now.logs draw.now.from draw.now.to events }
+{
+    let picture = ring.picture(alloc.clone()?, columns_of(draw));
+    if is_page(draw.picture) {
+        let told = told_lines(text, alloc.clone()?, ring, names)?;
+        page_of(alloc, picture, told.bytes())
+    } else {
+        picture
+    }
+}
+
+/// What is kept of refused logs, of which this is told: a picture, or a page.
+pub(crate) fn refused_text<A: Allocator + Clone>(
+    alloc: A,
+    refused: &RefusedLogs<A>,
+    told: &[u8],
+    draw: &DrawRequest<'_>,
+) -> Result<PageText<A>, DrawFault>
+    ensures drawn { IfOk result (IsDrawn draw.now.picture.now) }
+    ensures events { (events : ℕ) → result ≡ Err (DrawFault.TooManyEvents events)
+        → HasTooManyEvents refused.now.logs draw.now.from draw.now.to events }
+{
+    let picture = draw_refused(alloc.clone()?, refused, columns_of(draw));
+    if is_page(draw.picture) {
+        page_of(alloc, picture, told)
+    } else {
+        picture
+    }
+}

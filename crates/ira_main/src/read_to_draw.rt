@@ -1,0 +1,92 @@
+ghost use Rattle.std.specs.Prelude.{ℕ, List, MatchResult};
+ghost use Rattle.ira_audit.specs.Judged.{IsJudged};
+ghost use Rattle.ira_views.specs.Texts.{texts_of};
+ghost use Rattle.ira_main.specs.FilesRead.{IsFilesFault, ReadsFiles, names_of};
+
+use crate::drawn_text::is_page;
+use crate::named_file::{named_texts, read_named};
+use crate::program_fault::ProgramFault;
+use crate::read_files::read_logs;
+use crate::status::Status;
+use ira_audit::Judged;
+use ira_event::{Logs, OutOfMemory};
+use ira_files::{FileName, TextSource};
+use ira_json::{explained_line, log_line};
+use ira_view_page::NamedText;
+use ira_views::{explain_texts, judge_texts};
+use ira_words::DrawRequest;
+use std::alloc::{Allocator, Global};
+use std::thread::Threads;
+
+/// Logs that were judged to be drawn, and what is told of a no.
+#[derive(Drop)]
+pub(crate) struct ToDraw<A: Allocator> {
+    pub(crate) judged: Judged<A>,
+    /// Why the answer is a no, and the files of the logs, as lines of JSON; nothing after a yes, and where no page is wanted.
+    pub(crate) told: String<Global>,
+}
+
+/// Adds the lines of refused logs, in the files of these names.
+fn add_logs<A: Allocator>(
+    text: Global,
+    told: &mut String<Global>,
+    logs: &Logs<A>,
+    texts: &[NamedText<'_>],
+) -> Result<(), OutOfMemory> {
+    for place in 0..logs.size().get() {
+        if let Some(file) = texts.get(usize::from(place)) {
+            told.push_str(log_line(text, logs.log(place), file.name)?.as_str())?;
+        }
+    }
+    Ok(())
+}
+
+/// Why the answer is a no, and a line for each log of the ring; nothing after a yes.
+fn told_no<A: Allocator + Clone>(
+    text: Global,
+    alloc: A,
+    texts: &[NamedText<'_>],
+    judged: &Judged<A>,
+) -> Result<String<Global>, OutOfMemory>
+    requires { IsJudged (texts_of texts.now) judged.now }
+{
+    if let Judged::Good(_) = judged {
+        return Ok(String::new(text));
+    }
+    let view = explain_texts(alloc, texts, judged)?;
+    let status = Status::of_answer(&view.answer);
+    let mut told = explained_line(text, &view.answer, status.number(), &view.explanation)?;
+    if let Judged::Refused(refused) = judged {
+        add_logs(text, &mut told, refused.logs(), texts)?;
+    }
+    Ok(told)
+}
+
+/// Reads and judges the logs in the files of these names. Their texts are kept meanwhile where a page is wanted, since it
+/// tells of a no with its lines.
+pub(crate) fn read_to_draw<'a, R, A, F>(
+    rt: &R,
+    alloc: A,
+    draw: &DrawRequest<'a>,
+    names: &[FileName<'a>],
+    shelf: &F,
+) -> Result<ToDraw<A>, ProgramFault<'a>>
+where
+    R: AllocGlobal + Threads + Sync,
+    A: Allocator + Clone + Send + Sync,
+    F: TextSource + Sync,
+    ensures { MatchResult result
+        (λ read. (texts : List (List ℕ)) × ReadsFiles F.reads (names_of names.now) shelf.now texts × IsJudged texts read.judged)
+        (IsFilesFault F.reads (names_of names.now) shelf.now) }
+{
+    if is_page(draw.picture) {
+        let files = read_named(&alloc, names, shelf)?;
+        let texts = named_texts(alloc.clone()?, &files)?;
+        let judged = judge_texts(rt, alloc.clone()?, &texts)?;
+        let told = told_no(rt.alloc(), alloc, &texts, &judged)?;
+        return Ok(ToDraw { judged, told });
+    }
+    let judged = read_logs(rt, alloc, names, shelf)?.judge_on_threads(rt)?;
+    let told = String::new(rt.alloc());
+    Ok(ToDraw { judged, told })
+}
