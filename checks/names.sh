@@ -56,7 +56,7 @@ done > "$made/files"
 
 sed -n 's/^\([a-z0-9_]*\):\(.*\)/\1 \2/p' crates.txt | awk '
     { crate[NR] = $1; for (i = 2; i <= NF; i++) used[$i] = 1 }
-    END { for (n = 1; n <= NR; n++) if (!(crate[n] in used) && crate[n] !~ /^(ira|gate|.*_tests)$/) print crate[n] }' |
+    END { for (n = 1; n <= NR; n++) if (!(crate[n] in used) && crate[n] !~ /^(ira|test_.*)$/) print crate[n] }' |
     sed 's/$/: no crate rests on it/' > "$made/crates"
 
 sed -n 's/^\([a-z0-9_]*\):\(.*\)/\1 \2/p' crates.txt | while read -r crate below; do

@@ -9,9 +9,9 @@ use Rattle.std.proofs.lemmas.List.FromFn.{get_or-map-range_with_len, length-map-
 use Rattle.std.proofs.lemmas.Option.{slice_get-map, slice_get_cases, get_or_from_slice_get}
 use Rattle.ira_ring.specs.Draws.{draws}
 use Rattle.ira_ring.specs.SeededRun.{seeded}
-use Rattle.ira_words.specs.declared.run_request.RunRequest.{RunRequest}
-use Rattle.ira_run.specs.declared.run_fault.RunFault.{RunFault}
-use Rattle.ira_run.specs.declared.run_fault.RunFault.TheVariants as variants
+use Rattle.ira_main_cli.specs.declared.run_request.RunRequest.{RunRequest}
+use Rattle.ira_ring_setup.specs.declared.run_fault.RunFault.{RunFault}
+use Rattle.ira_ring_setup.specs.declared.run_fault.RunFault.TheVariants as variants
 use Rattle.ira_ring.specs.Recording.{IsRecording, HasOwnEnd}
 use Rattle.ira_ring.specs.Run.{Run}
 use Rattle.ira_ring.specs.Setup.{Setup, KeepsRules}

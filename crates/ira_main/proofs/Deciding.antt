@@ -8,8 +8,8 @@ use Rattle.ira_audit.specs.declared.answer.Answer.TheVariants as answer
 use Rattle.ira_audit.specs.declared.findings.Findings.{Findings}
 use Rattle.ira_audit.specs.declared.findings.Findings.TheVariants.{Refused}
 use Rattle.ira_audit.specs.declared.reason.Reason.{Reason}
-use Rattle.ira_files.specs.Shelf.{Writing}
-use Rattle.ira_json.proofs.LineTexts.{one_line}
+use Rattle.ira_main_files.specs.Shelf.{Writing}
+use Rattle.ira_view_json.proofs.LineTexts.{one_line}
 use Rattle.ira_main.specs.Decide.{PrintsFindings}
 use Rattle.ira_main.specs.Decide.KeepsFindings.{refuted}
 use Rattle.ira_main.specs.Outcome.{Outcome, ReportsAs}

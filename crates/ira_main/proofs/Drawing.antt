@@ -9,12 +9,12 @@ use Rattle.ira_audit.specs.declared.answer.Answer.TheVariants.{Yes, No}
 use Rattle.ira_event.specs.Log.{Log}
 use Rattle.ira_event.specs.Logs.{AreLogs}
 use Rattle.ira_event.specs.Sink.{SinkState}
-use Rattle.ira_files.specs.Shelf.{Writing}
-use Rattle.ira_picture.specs.DrawFault.{HasTooManyEvents}
-use Rattle.ira_picture.specs.declared.draw_fault.DrawFault.{DrawFault}
-use Rattle.ira_picture.specs.declared.draw_fault.DrawFault.TheVariants as draw
-use Rattle.ira_views.specs.ShownRing.{ShownRing}
-use Rattle.ira_words.specs.declared.draw_request.DrawRequest.{DrawRequest}
+use Rattle.ira_main_files.specs.Shelf.{Writing}
+use Rattle.ira_view_picture.specs.DrawFault.{HasTooManyEvents}
+use Rattle.ira_view_picture.specs.declared.draw_fault.DrawFault.{DrawFault}
+use Rattle.ira_view_picture.specs.declared.draw_fault.DrawFault.TheVariants as draw
+use Rattle.ira_view.specs.ShownRing.{ShownRing}
+use Rattle.ira_main_cli.specs.declared.draw_request.DrawRequest.{DrawRequest}
 use Rattle.ira_main.specs.Draw.{IsDrawn, PrintsDrawn, TellsDrawn}
 use Rattle.ira_main.specs.Draw.TellsDrawn.{good as drawn, refused, too_many}
 use Rattle.ira_main.specs.Outcome.{Outcome}

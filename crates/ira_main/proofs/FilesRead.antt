@@ -3,10 +3,10 @@ use Rattle.std.proofs.Common.{◌≡◌, ◌∙◌, ℕ, zero, suc, ◌+◌, ◌
 use Rattle.std.proofs.Common.{arith, drop, inl, inr, length, refl, slice_get, subst, sym, take}
 use Rattle.std.specs.Prelude.{IfErr, IfOk, MatchResult, Result, slice_index_or}
 use Rattle.ira_audit.specs.RingAudit.{HasTaken, RingAudit}
-use Rattle.ira_files.specs.FileName.{file_name}
-use Rattle.ira_files.specs.Shelf.{Reading}
-use Rattle.ira_files.specs.declared.file_name.FileName.{FileName}
-use Rattle.ira_files.specs.declared.shelf_fault.ShelfFault.{ShelfFault}
+use Rattle.ira_main_files.specs.FileName.{file_name}
+use Rattle.ira_main_files.specs.Shelf.{Reading}
+use Rattle.ira_main_files.specs.declared.file_name.FileName.{FileName}
+use Rattle.ira_main_files.specs.declared.shelf_fault.ShelfFault.{ShelfFault}
 use Rattle.ira_main.proofs.PartsAt.{parts_at, take_next}
 use Rattle.ira_main.specs.FilesRead.{HasTakenFiles, IsFilesFault, ReadsFiles, names_of}
 use Rattle.ira_main.specs.ProgramFault.{read_fault}

@@ -6,7 +6,7 @@ use Rattle.std.specs.Borrow.{Bor}
 use Rattle.std.specs.List.{AllZip}
 use Rattle.std.specs.Prelude.{slice_get, slice_index_or}
 use Rattle.ira_audit.proofs.Zipped.{zipped_more}
-use Rattle.ira_files.specs.Shelf.{Reading}
+use Rattle.ira_main_files.specs.Shelf.{Reading}
 use Rattle.ira_main.specs.Each.{AreFolderTexts, AreTellable, IsFolderAnswer, IsFolderText, IsTellable}
 use Rattle.ira_main.specs.declared.folder_answer.FolderAnswer.{FolderAnswer}
 use Rattle.ira_main.specs.declared.folder_answer.FolderAnswer.TheVariants.{Judged, Unread}

@@ -2,7 +2,7 @@
 use Rattle.std.proofs.Common.{◌≡◌, ℕ, ◌+◌, ◌≤◌, true, false, List, length, cond, ap, arith, length-append}
 use Rattle.std.specs.Io.KnownBytes.{Consumes, IsAtEnd}
 use Rattle.ira_event.specs.Limits.{MAX_TEXT}
-use Rattle.ira_files.specs.CountingReader.{Reads}
+use Rattle.ira_main_files.specs.CountingReader.{Reads}
 use Rattle.ira_main.specs.InputAudit.{InputAudit, HasReadText, bytes_read}
 
 -- a text that was read is as long as the audit says

@@ -3,8 +3,8 @@ use Rattle.std.proofs.Common.{◌≡◌, ℕ, ◌+◌, List, [], ◌∷◌, ◌+
 use Rattle.std.specs.Prelude.{slice_get}
 use Rattle.ira_event.specs.Log.{Log}
 use Rattle.ira_event.specs.LogText.{log_text}
-use Rattle.ira_files.specs.FileName.{log_name}
-use Rattle.ira_files.specs.Shelf.{Writing}
+use Rattle.ira_main_files.specs.FileName.{log_name}
+use Rattle.ira_main_files.specs.Shelf.{Writing}
 use Rattle.ira_main.proofs.PartsAt.{take_next}
 use Rattle.ira_main.specs.LogFiles.{WritesLogs}
 

@@ -4,9 +4,9 @@ use Rattle.ira_audit.specs.declared.answer.Answer.{Answer}
 use Rattle.ira_audit.specs.declared.findings.Findings.{Findings}
 use Rattle.ira_event.specs.Sink.{SinkState, Wrote, Takes, StopsIn}
 use Rattle.ira_view_page.specs.declared.explanation.Explanation.{Explanation}
-use Rattle.ira_json.specs.AnswerValue.{findings_values}
-use Rattle.ira_json.specs.ExplainedFindings.{explained_findings}
-use Rattle.ira_json.specs.Line.{AreLinesOf}
+use Rattle.ira_view_json.specs.AnswerValue.{findings_values}
+use Rattle.ira_view_json.specs.ExplainedFindings.{explained_findings}
+use Rattle.ira_view_json.specs.Line.{AreLinesOf}
 use Rattle.ira_main.specs.Decide.{IsExplainedText, IsFindingsText}
 use Rattle.ira_main.specs.Outcome.{Outcome, Prints, ReportsText}
 use Rattle.ira_main.specs.Status.{IsFindingsStatus, answer_status, status_number}

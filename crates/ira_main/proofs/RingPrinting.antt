@@ -9,9 +9,9 @@ use Rattle.ira_audit.specs.declared.answer.Answer.TheVariants as audit
 use Rattle.ira_event.proofs.Writing.{StopsIn-append, Takes-StopsIn, Takes-append}
 use Rattle.ira_event.specs.Sink.{SinkState, StopsIn, Takes, Wrote}
 use Rattle.ira_view_page.specs.Printable.{IsPrintable, is_graphic}
-use Rattle.ira_json.specs.ShownAnswer.{IsRingText, OfRingText}
-use Rattle.ira_show.specs.Showed.{OfPrintable}
-use Rattle.ira_views.specs.ShownRing.{IsPageOf, ShownRing}
+use Rattle.ira_view_json.specs.ShownAnswer.{IsRingText, OfRingText}
+use Rattle.ira_view_show.specs.Showed.{OfPrintable}
+use Rattle.ira_view.specs.ShownRing.{IsPageOf, ShownRing}
 use Rattle.ira_main.specs.Outcome.{Outcome}
 use Rattle.ira_main.specs.Show.{PrintsRing, PrintsRingLines, ring_text}
 use Rattle.ira_main.specs.Show.PrintsRing.{no_memory, printed, stopped}

@@ -5,16 +5,16 @@ use Rattle.std.proofs.Common.{append-nil, append_assoc, arith, drop, get_or, len
 use Rattle.std.proofs.Math.Nat.{suc-mul}
 use Rattle.std.proofs.lemmas.List.{drop-drop, length-drop, map-append, take-append-drop}
 use Rattle.ira_audit.specs.RingAudit.{HasTaken, RingAudit}
-use Rattle.ira_files.specs.FileName.{file_name}
-use Rattle.ira_files.specs.Shelf.{Reading}
-use Rattle.ira_files.specs.declared.file_name.FileName.{FileName}
+use Rattle.ira_main_files.specs.FileName.{file_name}
+use Rattle.ira_main_files.specs.Shelf.{Reading}
+use Rattle.ira_main_files.specs.declared.file_name.FileName.{FileName}
 use Rattle.ira_main.proofs.FilesRead.{of_back, of_front, reads_both}
 use Rattle.ira_main.specs.FilesRead.{HasRead, HasTakenFiles, IsFilesFault, names_of}
-use Rattle.ira_main.specs.declared.read_files.Share.{Share}
+use Rattle.ira_main.specs.declared.read_files.FilesShare.{FilesShare}
 use Rattle.ira_main.specs.declared.program_fault.ProgramFault.{ProgramFault}
 
 -- of the share of these names some files were read
-abbrev pub IsShare : {S A E : Type 0} → Reading S → S → List (List ℕ) → Result (Share A) E → Type 0
+abbrev pub IsShare : {S A E : Type 0} → Reading S → S → List (List ℕ) → Result (FilesShare A) E → Type 0
 IsShare reads shelf names share = IfOk share (λ share. HasRead reads names shelf share.read share.audit)
 
 -- what stands after a chunk is what stands after as many names as it has

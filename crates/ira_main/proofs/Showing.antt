@@ -8,14 +8,14 @@ use Rattle.ira_audit.specs.Report.{IsReportableReason}
 use Rattle.ira_audit.specs.declared.reason.Reason.{Reason}
 use Rattle.ira_event.specs.Log.{Log}
 use Rattle.ira_event.specs.Sink.{SinkState}
-use Rattle.ira_files.specs.Shelf.{Reading}
-use Rattle.ira_files.specs.declared.file_name.FileName.{FileName}
-use Rattle.ira_moment.specs.declared.cut_fault.CutFault.{CutFault}
-use Rattle.ira_views.specs.ShownRing.{ShownRing}
-use Rattle.ira_views.specs.declared.ring_fault.RingFault.TheVariants.{Cut, No}
-use Rattle.ira_words.specs.declared.asked_moment.AskedMoment.{AskedMoment}
-use Rattle.ira_words.specs.declared.asked_moment.AskedMoment.TheVariants.{AtEnd, AtCut, OfQuestion}
-use Rattle.ira_words.specs.declared.show_request.ShowRequest.{ShowRequest}
+use Rattle.ira_main_files.specs.Shelf.{Reading}
+use Rattle.ira_main_files.specs.declared.file_name.FileName.{FileName}
+use Rattle.ira_view_moment.specs.declared.cut_fault.CutFault.{CutFault}
+use Rattle.ira_view.specs.ShownRing.{ShownRing}
+use Rattle.ira_view.specs.declared.ring_fault.RingFault.TheVariants.{Cut, No}
+use Rattle.ira_main_cli.specs.declared.asked_moment.AskedMoment.{AskedMoment}
+use Rattle.ira_main_cli.specs.declared.asked_moment.AskedMoment.TheVariants.{AtEnd, AtCut, OfQuestion}
+use Rattle.ira_main_cli.specs.declared.show_request.ShowRequest.{ShowRequest}
 use Rattle.ira_main.proofs.FilesRead.{reads_both}
 use Rattle.ira_main.specs.FilesRead.{IsFilesFault, ReadsFiles, names_of}
 use Rattle.ira_main.specs.Outcome.{Outcome}

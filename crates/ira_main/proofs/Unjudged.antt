@@ -2,11 +2,11 @@
 use Rattle.std.proofs.Common.{◌≡◌, ◌≢◌, Err, ap, refl, true}
 use Rattle.std.specs.Prelude.{codes}
 use Rattle.ira_event.specs.Sink.{SinkState}
-use Rattle.ira_files.specs.CountingReader.{Reads}
-use Rattle.ira_files.specs.FileName.{file_name}
-use Rattle.ira_files.specs.declared.file_name.FileName.{FileName}
-use Rattle.ira_files.specs.declared.shelf_fault.ShelfFault.{ShelfFault}
-use Rattle.ira_files.specs.declared.shelf_fault.ShelfFault.TheVariants.{Device, NotFound, OutOfMemory}
+use Rattle.ira_main_files.specs.CountingReader.{Reads}
+use Rattle.ira_main_files.specs.FileName.{file_name}
+use Rattle.ira_main_files.specs.declared.file_name.FileName.{FileName}
+use Rattle.ira_main_files.specs.declared.shelf_fault.ShelfFault.{ShelfFault}
+use Rattle.ira_main_files.specs.declared.shelf_fault.ShelfFault.TheVariants.{Device, NotFound, OutOfMemory}
 use Rattle.ira_main.specs.Outcome.{Telling}
 use Rattle.ira_main.specs.ProgramFault.{read_fault}
 use Rattle.ira_main.specs.Serve.{OneLogOutcome}

@@ -5,9 +5,9 @@ use Rattle.ira_ring.specs.Recording.{IsRecording, HasOwnEnd}
 use Rattle.ira_ring.specs.Run.{Run}
 use Rattle.ira_ring.specs.Setup.{Setup, KeepsRules, IsForEachNode, is_initiator, node_draws}
 use Rattle.ira_ring.specs.ShownEnd.{IsLoneRun}
-use Rattle.ira_run.specs.declared.run_fault.RunFault.{RunFault}
-use Rattle.ira_run.specs.declared.run_fault.RunFault.TheVariants as run
-use Rattle.ira_words.specs.declared.run_request.RunRequest.{RunRequest}
+use Rattle.ira_ring_setup.specs.declared.run_fault.RunFault.{RunFault}
+use Rattle.ira_ring_setup.specs.declared.run_fault.RunFault.TheVariants as run
+use Rattle.ira_main_cli.specs.declared.run_request.RunRequest.{RunRequest}
 
 -- the setup that a request names
 pub record IsAskedSetup (request : RunRequest) (s : Setup) : Type 0 where

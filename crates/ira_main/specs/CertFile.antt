@@ -3,8 +3,8 @@ use Rattle.std.specs.Prelude.{◌≡◌, ℕ, List, MatchOption, Option, Ok, Err
 use Rattle.std.specs.Borrow.{Bor}
 use Rattle.ira_cert_text.specs.Certificate.{Certificate}
 use Rattle.ira_cert_text.specs.CertText.{IsCertText, cert_text}
-use Rattle.ira_files.specs.Shelf.{Writing}
-use Rattle.ira_files.specs.declared.shelf_fault.ShelfFault.{ShelfFault}
+use Rattle.ira_main_files.specs.Shelf.{Writing}
+use Rattle.ira_main_files.specs.declared.shelf_fault.ShelfFault.{ShelfFault}
 use Rattle.ira_main.specs.Outcome.{Outcome}
 use Rattle.ira_main.specs.ProgramFault.{write_fault}
 use Rattle.ira_main.specs.declared.program_fault.ProgramFault.TheVariants.{CertificatePastLimits}

@@ -8,12 +8,12 @@ use Rattle.ira_audit.specs.FindingsText.{findings_text}
 use Rattle.ira_audit.specs.declared.findings.Findings.{Findings}
 use Rattle.ira_view_page.specs.Printable.{IsPrintable}
 use Rattle.ira_view_page.specs.declared.explanation.Explanation.{Explanation}
-use Rattle.ira_json.specs.AnswerValue.{findings_values}
-use Rattle.ira_json.specs.ExplainedFindings.{explained_findings}
-use Rattle.ira_json.specs.Line.{AreLinesOf}
-use Rattle.ira_words.specs.declared.decide_request.DecideRequest.{DecideRequest}
-use Rattle.ira_files.specs.Shelf.{Reading, Writing}
-use Rattle.ira_files.specs.declared.file_name.FileName.{FileName}
+use Rattle.ira_view_json.specs.AnswerValue.{findings_values}
+use Rattle.ira_view_json.specs.ExplainedFindings.{explained_findings}
+use Rattle.ira_view_json.specs.Line.{AreLinesOf}
+use Rattle.ira_main_cli.specs.declared.decide_request.DecideRequest.{DecideRequest}
+use Rattle.ira_main_files.specs.Shelf.{Reading, Writing}
+use Rattle.ira_main_files.specs.declared.file_name.FileName.{FileName}
 use Rattle.ira_main.specs.CertFile.{KeepsCertificate}
 use Rattle.ira_main.specs.FilesRead.{IsFilesFault, ReadsFiles, names_of}
 use Rattle.ira_main.specs.Outcome.{Outcome, Prints}

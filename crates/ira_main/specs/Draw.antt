@@ -13,14 +13,14 @@ use Rattle.ira_audit.specs.declared.answer.Answer.{Answer}
 use Rattle.ira_audit.specs.declared.answer.Answer.TheVariants.{Yes, No}
 use Rattle.ira_audit.specs.declared.reason.Reason.{Reason}
 use Rattle.ira_view_page.specs.Printable.{IsPrintable}
-use Rattle.ira_moment.specs.declared.cut_fault.CutFault.{CutFault}
-use Rattle.ira_picture.specs.DrawFault.{HasTooManyEvents}
-use Rattle.ira_html.specs.HtmlPage.{IsHtmlPage}
-use Rattle.ira_views.specs.ShownRing.{ShownRing}
-use Rattle.ira_words.specs.declared.draw_request.DrawRequest.{DrawRequest}
-use Rattle.ira_files.specs.Shelf.{Reading, Writing}
-use Rattle.ira_files.specs.declared.file_name.FileName.{FileName}
-use Rattle.ira_files.specs.declared.shelf_fault.ShelfFault.{ShelfFault}
+use Rattle.ira_view_moment.specs.declared.cut_fault.CutFault.{CutFault}
+use Rattle.ira_view_picture.specs.DrawFault.{HasTooManyEvents}
+use Rattle.ira_view_html.specs.HtmlPage.{IsHtmlPage}
+use Rattle.ira_view.specs.ShownRing.{ShownRing}
+use Rattle.ira_main_cli.specs.declared.draw_request.DrawRequest.{DrawRequest}
+use Rattle.ira_main_files.specs.Shelf.{Reading, Writing}
+use Rattle.ira_main_files.specs.declared.file_name.FileName.{FileName}
+use Rattle.ira_main_files.specs.declared.shelf_fault.ShelfFault.{ShelfFault}
 use Rattle.ira_main.specs.FilesRead.{IsFilesFault, ReadsFiles, names_of}
 use Rattle.ira_main.specs.Outcome.{GivesNoAnswer, Outcome, Reports}
 use Rattle.ira_main.specs.Overwriting.{IsReplacing, KeepsFiles}

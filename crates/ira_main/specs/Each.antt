@@ -10,13 +10,13 @@ use Rattle.ira_audit.specs.RingAudit.{RingAudit}
 use Rattle.ira_audit.specs.TextRuns.{AreTextsOfRuns}
 use Rattle.ira_audit.specs.declared.answer.Answer.{Answer}
 use Rattle.ira_audit.specs.declared.answer.Answer.TheVariants as audit
-use Rattle.ira_json.specs.FolderValue.{folder_answer_value, unread_value}
-use Rattle.ira_json.specs.Line.{IsLineOf}
-use Rattle.ira_words.specs.declared.each_request.EachRequest.{EachRequest}
-use Rattle.ira_words.specs.declared.log_source.LogSource.TheVariants.{Folder}
-use Rattle.ira_files.specs.FileName.{file_name}
-use Rattle.ira_files.specs.Shelf.{Reading}
-use Rattle.ira_files.specs.declared.file_name.FileName.{FileName}
+use Rattle.ira_view_json.specs.FolderValue.{folder_answer_value, unread_value}
+use Rattle.ira_view_json.specs.Line.{IsLineOf}
+use Rattle.ira_main_cli.specs.declared.each_request.EachRequest.{EachRequest}
+use Rattle.ira_main_cli.specs.declared.log_source.LogSource.TheVariants.{Folder}
+use Rattle.ira_main_files.specs.FileName.{file_name}
+use Rattle.ira_main_files.specs.Shelf.{Reading}
+use Rattle.ira_main_files.specs.declared.file_name.FileName.{FileName}
 use Rattle.ira_main.specs.FilesRead.{HasTakenFiles, IsFilesFault, ReadsFiles, names_of}
 use Rattle.ira_main.specs.Outcome.{Outcome}
 use Rattle.ira_main.specs.SourceNames.{HasNames, IsNamesFault}

@@ -2,10 +2,10 @@
 use Rattle.std.specs.Prelude.{◌≡◌, ◌⊎◌, ℕ, ◌≤◌, List, ◌∷◌, ◌++◌, Result, Ok, Err, MatchResult, length, map, take}
 use Rattle.std.specs.List.{AllZip}
 use Rattle.ira_audit.specs.RingAudit.{HasTaken, RingAudit}
-use Rattle.ira_files.specs.FileName.{file_name}
-use Rattle.ira_files.specs.Shelf.{Reading}
-use Rattle.ira_files.specs.declared.file_name.FileName.{FileName}
-use Rattle.ira_files.specs.declared.shelf_fault.ShelfFault.{ShelfFault}
+use Rattle.ira_main_files.specs.FileName.{file_name}
+use Rattle.ira_main_files.specs.Shelf.{Reading}
+use Rattle.ira_main_files.specs.declared.file_name.FileName.{FileName}
+use Rattle.ira_main_files.specs.declared.shelf_fault.ShelfFault.{ShelfFault}
 use Rattle.ira_main.specs.ProgramFault.{read_fault}
 use Rattle.ira_main.specs.declared.program_fault.ProgramFault.{ProgramFault}
 use Rattle.ira_main.specs.declared.program_fault.ProgramFault.TheVariants.{OutOfMemory}

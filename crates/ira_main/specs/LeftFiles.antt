@@ -6,13 +6,13 @@ use Rattle.ira_event.specs.Limits.{MAX_NODES}
 use Rattle.ira_event.specs.Log.{Log}
 use Rattle.ira_mend.specs.RecordedLogs.{HasRecorded, RecordsLog}
 use Rattle.ira_mend.specs.declared.recorded_log.RecordedLog.{RecordedLog}
-use Rattle.ira_words.specs.declared.log_source.LogSource.{LogSource}
-use Rattle.ira_words.specs.declared.log_source.LogSource.TheVariants as source
-use Rattle.ira_files.specs.FileName.{log_name}
-use Rattle.ira_files.specs.Shelf.{Reading}
-use Rattle.ira_files.specs.declared.file_name.FileName.{FileName}
-use Rattle.ira_files.specs.declared.file_name.FileName.TheVariants.{Given, Log as InFolder}
-use Rattle.ira_files.specs.declared.shelf_fault.ShelfFault.TheVariants.{NotFound}
+use Rattle.ira_main_cli.specs.declared.log_source.LogSource.{LogSource}
+use Rattle.ira_main_cli.specs.declared.log_source.LogSource.TheVariants as source
+use Rattle.ira_main_files.specs.FileName.{log_name}
+use Rattle.ira_main_files.specs.Shelf.{Reading}
+use Rattle.ira_main_files.specs.declared.file_name.FileName.{FileName}
+use Rattle.ira_main_files.specs.declared.file_name.FileName.TheVariants.{Given, Log as InFolder}
+use Rattle.ira_main_files.specs.declared.shelf_fault.ShelfFault.TheVariants.{NotFound}
 use Rattle.ira_main.specs.FilesRead.{IsFilesFault, ReadsFiles}
 use Rattle.ira_main.specs.SourceNames.{SaysLogs}
 use Rattle.ira_main.specs.declared.program_fault.ProgramFault.{ProgramFault}

@@ -3,10 +3,10 @@ use Rattle.std.specs.Prelude.{◌≡◌, ◌⊎◌, ℕ, List, [], ◌∷◌, �
 use Rattle.std.specs.Borrow.{Bor}
 use Rattle.ira_event.specs.Log.{Log}
 use Rattle.ira_event.specs.LogText.{log_text}
-use Rattle.ira_files.specs.FileName.{log_name}
-use Rattle.ira_files.specs.Shelf.{Writing}
-use Rattle.ira_files.specs.declared.shelf_fault.ShelfFault.{ShelfFault}
-use Rattle.ira_files.specs.declared.shelf_fault.ShelfFault.TheVariants.{OutOfMemory}
+use Rattle.ira_main_files.specs.FileName.{log_name}
+use Rattle.ira_main_files.specs.Shelf.{Writing}
+use Rattle.ira_main_files.specs.declared.shelf_fault.ShelfFault.{ShelfFault}
+use Rattle.ira_main_files.specs.declared.shelf_fault.ShelfFault.TheVariants.{OutOfMemory}
 use Rattle.ira_main.specs.ProgramFault.{write_log_fault}
 use Rattle.ira_main.specs.declared.program_fault.ProgramFault.{ProgramFault}
 

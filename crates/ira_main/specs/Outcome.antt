@@ -5,9 +5,9 @@ use Rattle.ira_audit.specs.Report.{report_line}
 use Rattle.ira_audit.specs.declared.answer.Answer.{Answer}
 use Rattle.ira_view_page.specs.Printable.{IsPrintable}
 use Rattle.ira_view_page.specs.declared.explanation.Explanation.{Explanation}
-use Rattle.ira_json.specs.AnswerValue.{answer_value}
-use Rattle.ira_json.specs.ExplainedValue.{explained_value}
-use Rattle.ira_json.specs.Line.{IsLineOf}
+use Rattle.ira_view_json.specs.AnswerValue.{answer_value}
+use Rattle.ira_view_json.specs.ExplainedValue.{explained_value}
+use Rattle.ira_view_json.specs.Line.{IsLineOf}
 use Rattle.ira_main.specs.ProgramFault.{program_fault_text}
 use Rattle.ira_main.specs.Status.{answer_status, program_fault_status, status_number}
 use Rattle.ira_main.specs.declared.program_fault.ProgramFault.{ProgramFault}

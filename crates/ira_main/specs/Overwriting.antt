@@ -4,8 +4,8 @@ use Rattle.std.specs.Borrow.{Bor}
 use Rattle.std.specs.Path.{IsAbsolute, path_cmp}
 use Rattle.std.specs.declared.cmp.Ordering.TheVariants.{Equal}
 use Rattle.ira_event.specs.Limits.{MAX_NODES}
-use Rattle.ira_files.specs.FileName.{file_name, log_name}
-use Rattle.ira_files.specs.declared.file_name.FileName.{FileName}
+use Rattle.ira_main_files.specs.FileName.{file_name, log_name}
+use Rattle.ira_main_files.specs.declared.file_name.FileName.{FileName}
 use Rattle.ira_main.specs.FilesRead.{names_of}
 use Rattle.ira_main.specs.declared.program_fault.ProgramFault.{ProgramFault}
 use Rattle.ira_main.specs.declared.program_fault.ProgramFault.TheVariants.{WouldOverwrite}

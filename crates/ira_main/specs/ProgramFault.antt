@@ -4,19 +4,19 @@ use Rattle.std.specs.Borrow.{Bor}
 use Rattle.std.specs.List.{flat_map}
 use Rattle.std.specs.String.{string_bytes}
 use Rattle.ira_order.specs.declared.event_at.EventAt.{EventAt}
-use Rattle.ira_moment.specs.declared.cut_fault.CutFault.{CutFault}
-use Rattle.ira_moment.specs.declared.cut_fault.CutFault.TheVariants as cut
-use Rattle.ira_picture.specs.declared.draw_fault.DrawFault.{DrawFault}
-use Rattle.ira_picture.specs.declared.draw_fault.DrawFault.TheVariants as draw
-use Rattle.ira_run.specs.RunFault.{run_fault_number}
-use Rattle.ira_run.specs.declared.run_fault.RunFault.{RunFault}
-use Rattle.ira_run.specs.declared.run_fault.RunFault.TheVariants as run
-use Rattle.ira_words.specs.declared.words_fault.WordsFault.{WordsFault}
-use Rattle.ira_words.specs.declared.words_fault.WordsFault.TheVariants as words
-use Rattle.ira_files.specs.FileName.{file_name, log_name}
-use Rattle.ira_files.specs.declared.file_name.FileName.{FileName}
-use Rattle.ira_files.specs.declared.shelf_fault.ShelfFault.{ShelfFault}
-use Rattle.ira_files.specs.declared.shelf_fault.ShelfFault.TheVariants as shelf
+use Rattle.ira_view_moment.specs.declared.cut_fault.CutFault.{CutFault}
+use Rattle.ira_view_moment.specs.declared.cut_fault.CutFault.TheVariants as cut
+use Rattle.ira_view_picture.specs.declared.draw_fault.DrawFault.{DrawFault}
+use Rattle.ira_view_picture.specs.declared.draw_fault.DrawFault.TheVariants as draw
+use Rattle.ira_ring_setup.specs.RunFault.{run_fault_number}
+use Rattle.ira_ring_setup.specs.declared.run_fault.RunFault.{RunFault}
+use Rattle.ira_ring_setup.specs.declared.run_fault.RunFault.TheVariants as run
+use Rattle.ira_main_cli.specs.declared.words_fault.WordsFault.{WordsFault}
+use Rattle.ira_main_cli.specs.declared.words_fault.WordsFault.TheVariants as words
+use Rattle.ira_main_files.specs.FileName.{file_name, log_name}
+use Rattle.ira_main_files.specs.declared.file_name.FileName.{FileName}
+use Rattle.ira_main_files.specs.declared.shelf_fault.ShelfFault.{ShelfFault}
+use Rattle.ira_main_files.specs.declared.shelf_fault.ShelfFault.TheVariants as shelf
 use Rattle.ira_main.specs.declared.program_fault.ProgramFault.{ProgramFault}
 use Rattle.ira_main.specs.declared.program_fault.ProgramFault.TheVariants.{CannotRead, CannotReadSome, CannotWrite, CannotWriteAnswer}
 use Rattle.ira_main.specs.declared.program_fault.ProgramFault.TheVariants.{CannotWriteLog, CertificatePastLimits}

@@ -1,11 +1,11 @@
 -- What the program does without waiting.
 use Rattle.std.specs.Prelude.{◌≡◌, ℕ, false, List}
 use Rattle.ira_event.specs.Sink.{SinkState}
-use Rattle.ira_words.specs.Request.{IsCheckLine, IsExplainLine, IsRunLine}
-use Rattle.ira_words.specs.declared.explain_request.ExplainRequest.{ExplainRequest}
-use Rattle.ira_words.specs.declared.explained_answer.ExplainedAnswer.TheVariants.{Certificate}
-use Rattle.ira_files.specs.CountingReader.{Reads}
-use Rattle.ira_files.specs.Shelf.{Reading, Writing}
+use Rattle.ira_main_cli.specs.Request.{IsCheckLine, IsExplainLine, IsRunLine}
+use Rattle.ira_main_cli.specs.declared.explain_request.ExplainRequest.{ExplainRequest}
+use Rattle.ira_main_cli.specs.declared.explained_answer.ExplainedAnswer.TheVariants.{Certificate}
+use Rattle.ira_main_files.specs.CountingReader.{Reads}
+use Rattle.ira_main_files.specs.Shelf.{Reading, Writing}
 use Rattle.ira_main.specs.Serve.{Serves}
 use Rattle.ira_main.specs.declared.progress.Progress.{Progress}
 use Rattle.ira_main.specs.declared.progress.Progress.TheVariants.{Ended, Check, ExplainCheck, Run}

@@ -15,28 +15,28 @@ use Rattle.ira_audit.specs.declared.answer.Answer.{Answer}
 use Rattle.ira_audit.specs.declared.answer.Answer.TheVariants as audit
 use Rattle.ira_ring.specs.EndsWriter.{ends_text}
 use Rattle.ira_ring.specs.Run.{Run}
-use Rattle.ira_run.specs.declared.run_fault.RunFault.{RunFault}
-use Rattle.ira_words.specs.Request.{IsCheckLine, IsDecideLine, IsDrawLine, IsEachLine, IsExplainLine, IsLogsLine, IsMendLine}
-use Rattle.ira_words.specs.Request.{IsPairsLine, IsRunLine, IsShowLine, IsUpgradeLine, IsVersionLine, MayBeRefused}
-use Rattle.ira_words.specs.declared.check_request.CheckRequest.{CheckRequest}
-use Rattle.ira_words.specs.declared.decide_request.DecideRequest.{DecideRequest}
-use Rattle.ira_words.specs.declared.draw_request.DrawRequest.{DrawRequest}
-use Rattle.ira_words.specs.declared.each_request.EachRequest.{EachRequest}
-use Rattle.ira_words.specs.declared.explain_request.ExplainRequest.{ExplainRequest}
-use Rattle.ira_words.specs.declared.explained_answer.ExplainedAnswer.{ExplainedAnswer}
-use Rattle.ira_words.specs.declared.explained_answer.ExplainedAnswer.TheVariants.{OneLog, Logs, Findings, Certificate}
-use Rattle.ira_words.specs.declared.log_source.LogSource.{LogSource}
-use Rattle.ira_words.specs.declared.logs_request.LogsRequest.{LogsRequest}
-use Rattle.ira_words.specs.declared.mend_request.MendRequest.{MendRequest}
-use Rattle.ira_words.specs.declared.rewrite_request.RewriteRequest.{RewriteRequest}
-use Rattle.ira_words.specs.declared.run_request.RunRequest.{RunRequest}
-use Rattle.ira_words.specs.declared.show_request.ShowRequest.{ShowRequest}
-use Rattle.ira_words.specs.declared.words_fault.WordsFault.{WordsFault}
-use Rattle.ira_files.specs.CountingReader.{Reads}
-use Rattle.ira_files.specs.FileName.{file_name}
-use Rattle.ira_files.specs.ReadText.{IsReadTo}
-use Rattle.ira_files.specs.Shelf.{Reading, Writing}
-use Rattle.ira_files.specs.declared.file_name.FileName.{FileName}
+use Rattle.ira_ring_setup.specs.declared.run_fault.RunFault.{RunFault}
+use Rattle.ira_main_cli.specs.Request.{IsCheckLine, IsDecideLine, IsDrawLine, IsEachLine, IsExplainLine, IsLogsLine, IsMendLine}
+use Rattle.ira_main_cli.specs.Request.{IsPairsLine, IsRunLine, IsShowLine, IsUpgradeLine, IsVersionLine, MayBeRefused}
+use Rattle.ira_main_cli.specs.declared.check_request.CheckRequest.{CheckRequest}
+use Rattle.ira_main_cli.specs.declared.decide_request.DecideRequest.{DecideRequest}
+use Rattle.ira_main_cli.specs.declared.draw_request.DrawRequest.{DrawRequest}
+use Rattle.ira_main_cli.specs.declared.each_request.EachRequest.{EachRequest}
+use Rattle.ira_main_cli.specs.declared.explain_request.ExplainRequest.{ExplainRequest}
+use Rattle.ira_main_cli.specs.declared.explained_answer.ExplainedAnswer.{ExplainedAnswer}
+use Rattle.ira_main_cli.specs.declared.explained_answer.ExplainedAnswer.TheVariants.{OneLog, Logs, Findings, Certificate}
+use Rattle.ira_main_cli.specs.declared.log_source.LogSource.{LogSource}
+use Rattle.ira_main_cli.specs.declared.logs_request.LogsRequest.{LogsRequest}
+use Rattle.ira_main_cli.specs.declared.mend_request.MendRequest.{MendRequest}
+use Rattle.ira_main_cli.specs.declared.rewrite_request.RewriteRequest.{RewriteRequest}
+use Rattle.ira_main_cli.specs.declared.run_request.RunRequest.{RunRequest}
+use Rattle.ira_main_cli.specs.declared.show_request.ShowRequest.{ShowRequest}
+use Rattle.ira_main_cli.specs.declared.words_fault.WordsFault.{WordsFault}
+use Rattle.ira_main_files.specs.CountingReader.{Reads}
+use Rattle.ira_main_files.specs.FileName.{file_name}
+use Rattle.ira_main_files.specs.ReadText.{IsReadTo}
+use Rattle.ira_main_files.specs.Shelf.{Reading, Writing}
+use Rattle.ira_main_files.specs.declared.file_name.FileName.{FileName}
 use Rattle.ira_main.specs.AskedRun.{IsAskedRun, IsAskedRunFault}
 use Rattle.ira_main.specs.Decide.{Decides, DecidesTogether, ExplainsFindings, IsUndecided}
 use Rattle.ira_main.specs.Draw.{DrawsLogs}

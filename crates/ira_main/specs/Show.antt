@@ -9,20 +9,20 @@ use Rattle.ira_audit.specs.RingAnswer.{IsRingAnswer}
 use Rattle.ira_audit.specs.declared.answer.Answer.TheVariants as audit
 use Rattle.ira_audit.specs.declared.reason.Reason.{Reason}
 use Rattle.ira_view_page.specs.Printable.{IsPrintable}
-use Rattle.ira_json.specs.ShownAnswer.{IsRingText}
-use Rattle.ira_moment.specs.CutFault.{IsCutFault}
-use Rattle.ira_moment.specs.Moment.{whole_cut}
-use Rattle.ira_moment.specs.declared.cut_fault.CutFault.{CutFault}
-use Rattle.ira_views.specs.Differences.{AreDifferences, ArePlaces, TellsOfLeader}
-use Rattle.ira_views.specs.ShownRing.{IsAtCut, IsNoCut, IsNoQuestion, IsOfQuestion, IsPageOf, ShownRing}
-use Rattle.ira_views.specs.declared.ring_fault.RingFault.{RingFault}
-use Rattle.ira_words.specs.declared.asked_leaders.AskedLeaders.{AskedLeaders}
-use Rattle.ira_words.specs.declared.asked_leaders.AskedLeaders.TheVariants.{Any, Places}
-use Rattle.ira_words.specs.declared.asked_moment.AskedMoment.{AskedMoment}
-use Rattle.ira_words.specs.declared.asked_moment.AskedMoment.TheVariants.{AtEnd, AtCut, OfQuestion}
-use Rattle.ira_words.specs.declared.show_request.ShowRequest.{ShowRequest}
-use Rattle.ira_files.specs.Shelf.{Reading}
-use Rattle.ira_files.specs.declared.file_name.FileName.{FileName}
+use Rattle.ira_view_json.specs.ShownAnswer.{IsRingText}
+use Rattle.ira_view_moment.specs.CutFault.{IsCutFault}
+use Rattle.ira_view_moment.specs.Moment.{whole_cut}
+use Rattle.ira_view_moment.specs.declared.cut_fault.CutFault.{CutFault}
+use Rattle.ira_view.specs.Differences.{AreDifferences, ArePlaces, TellsOfLeader}
+use Rattle.ira_view.specs.ShownRing.{IsAtCut, IsNoCut, IsNoQuestion, IsOfQuestion, IsPageOf, ShownRing}
+use Rattle.ira_view.specs.declared.ring_fault.RingFault.{RingFault}
+use Rattle.ira_main_cli.specs.declared.asked_leaders.AskedLeaders.{AskedLeaders}
+use Rattle.ira_main_cli.specs.declared.asked_leaders.AskedLeaders.TheVariants.{Any, Places}
+use Rattle.ira_main_cli.specs.declared.asked_moment.AskedMoment.{AskedMoment}
+use Rattle.ira_main_cli.specs.declared.asked_moment.AskedMoment.TheVariants.{AtEnd, AtCut, OfQuestion}
+use Rattle.ira_main_cli.specs.declared.show_request.ShowRequest.{ShowRequest}
+use Rattle.ira_main_files.specs.Shelf.{Reading}
+use Rattle.ira_main_files.specs.declared.file_name.FileName.{FileName}
 use Rattle.ira_main.specs.FilesRead.{IsFilesFault, ReadsFiles, names_of}
 use Rattle.ira_main.specs.Outcome.{GivesNoAnswer, Outcome, ReportsAs}
 use Rattle.ira_main.specs.SourceNames.{OfSource}

@@ -5,12 +5,12 @@ use Rattle.ira_event.specs.Limits.{MAX_TEXT}
 use Rattle.ira_event.specs.LogTextFault.{BeginsWithHead, BeginsWithNoHead}
 use Rattle.ira_event.specs.Sink.{SinkState}
 use Rattle.ira_event.specs.declared.log_head.LogHead.{LogHead}
-use Rattle.ira_words.specs.declared.log_source.LogSource.{LogSource}
-use Rattle.ira_words.specs.declared.log_source.LogSource.TheVariants.{Files, Folder}
-use Rattle.ira_files.specs.FileName.{log_name}
-use Rattle.ira_files.specs.Shelf.{Reading}
-use Rattle.ira_files.specs.declared.file_name.FileName.{FileName}
-use Rattle.ira_files.specs.declared.file_name.FileName.TheVariants.{Given, Log}
+use Rattle.ira_main_cli.specs.declared.log_source.LogSource.{LogSource}
+use Rattle.ira_main_cli.specs.declared.log_source.LogSource.TheVariants.{Files, Folder}
+use Rattle.ira_main_files.specs.FileName.{log_name}
+use Rattle.ira_main_files.specs.Shelf.{Reading}
+use Rattle.ira_main_files.specs.declared.file_name.FileName.{FileName}
+use Rattle.ira_main_files.specs.declared.file_name.FileName.TheVariants.{Given, Log}
 use Rattle.ira_main.specs.FilesRead.{IsFilesFault}
 use Rattle.ira_main.specs.Outcome.{GivesNoAnswer, Outcome}
 use Rattle.ira_main.specs.declared.program_fault.ProgramFault.{ProgramFault}

@@ -4,8 +4,8 @@ use Rattle.ira_audit.specs.Findings.{MakeNoCertificate}
 use Rattle.ira_audit.specs.declared.answer.Answer.{Answer}
 use Rattle.ira_audit.specs.declared.answer.Answer.TheVariants as answer
 use Rattle.ira_audit.specs.declared.findings.Findings.{Findings}
-use Rattle.ira_run.specs.declared.node_end.NodeEnd.{NodeEnd}
-use Rattle.ira_run.specs.declared.node_end.NodeEnd.TheVariants.{Leader}
+use Rattle.ira_ring_setup.specs.declared.node_end.NodeEnd.{NodeEnd}
+use Rattle.ira_ring_setup.specs.declared.node_end.NodeEnd.TheVariants.{Leader}
 use Rattle.ira_main.specs.declared.program_fault.ProgramFault.{ProgramFault}
 use Rattle.ira_main.specs.declared.program_fault.ProgramFault.TheVariants as program
 use Rattle.ira_main.specs.declared.status.Status.{Status}

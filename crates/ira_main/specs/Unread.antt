@@ -2,9 +2,9 @@
 use Rattle.std.specs.Prelude.{◌≡◌, ◌⊎◌, ◌&&◌, ◌||◌, ℕ, Bool, true, false, not, List, [], ◌∷◌, None, Err, codes}
 use Rattle.std.specs.Str.{bytes_eq}
 use Rattle.ira_event.specs.Sink.{SinkState, StopsIn, Takes}
-use Rattle.ira_files.specs.FileName.{file_name}
-use Rattle.ira_json.specs.FolderValue.{unread_value}
-use Rattle.ira_json.specs.Line.{IsLineOf}
+use Rattle.ira_main_files.specs.FileName.{file_name}
+use Rattle.ira_view_json.specs.FolderValue.{unread_value}
+use Rattle.ira_view_json.specs.Line.{IsLineOf}
 use Rattle.ira_main.specs.Outcome.{Outcome}
 use Rattle.ira_main.specs.declared.program_fault.ProgramFault.TheVariants.{CannotRead}
 

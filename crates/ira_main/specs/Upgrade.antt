@@ -10,8 +10,8 @@ use Rattle.ira_audit.specs.RingAnswer.{IsRingAnswer}
 use Rattle.ira_audit.specs.Refusal.{IsTextOrHeadsReason}
 use Rattle.ira_audit.specs.declared.answer.Answer.TheVariants.{No}
 use Rattle.ira_audit.specs.declared.reason.Reason.{Reason}
-use Rattle.ira_words.specs.declared.rewrite_request.RewriteRequest.{RewriteRequest}
-use Rattle.ira_files.specs.Shelf.{Reading, Writing}
+use Rattle.ira_main_cli.specs.declared.rewrite_request.RewriteRequest.{RewriteRequest}
+use Rattle.ira_main_files.specs.Shelf.{Reading, Writing}
 use Rattle.ira_main.specs.FilesRead.{IsFilesFault, ReadsFiles}
 use Rattle.ira_main.specs.LogFiles.{StopsInLogs, WritesLogs}
 use Rattle.ira_main.specs.Outcome.{GivesNoAnswer, Outcome, Prints, Reports}

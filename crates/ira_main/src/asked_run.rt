@@ -4,8 +4,8 @@ ghost use Rattle.ira_main.specs.AskedRun.{IsAskedSetup, IsAskedRun, IsAskedRunFa
 
 use ira_event::{OutOfMemory, RingSize};
 use ira_links::OpenGate;
+use ira_main_cli::RunRequest;
 use ira_ring::{Run, RunFault, Setup, draw_lists, run_alone_seeded, run_ring};
-use ira_words::RunRequest;
 use std::alloc::{AllocError, Allocator};
 use std::sync::Wait;
 use std::thread::Threads;

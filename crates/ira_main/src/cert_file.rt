@@ -1,7 +1,7 @@
 ghost use Rattle.std.specs.Prelude.{◌≡◌};
 ghost use Rattle.ira_cert_text.specs.Certificate as certificate;
 ghost use Rattle.ira_cert_text.specs.CertText.{cert_text};
-ghost use Rattle.ira_files.specs.Shelf.{WritesFile};
+ghost use Rattle.ira_main_files.specs.Shelf.{WritesFile};
 ghost use Rattle.ira_main.specs.CertFile.{IsTextToKeep, KeepsCertificate};
 ghost use Rattle.ira_main.specs.Outcome.{Outcome, ReportsOutcome, outcome_number};
 
@@ -10,7 +10,7 @@ use crate::status::Status;
 use crate::text_file::write_text;
 use ira_cert_text::{Certificate, write_cert};
 use ira_event::Sink;
-use ira_files::{Shelf, ShelfFault};
+use ira_main_files::{Shelf, ShelfFault};
 use std::alloc::Allocator;
 
 /// What comes of keeping the text of a certificate in a new file of this name. There is none where it is past the

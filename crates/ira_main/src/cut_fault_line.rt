@@ -3,8 +3,8 @@ ghost use Rattle.ira_event.specs.Sink.{Wrote};
 ghost use Rattle.ira_main.specs.ProgramFault.{cut_fault_text, held_text, lacking_text};
 
 use ira_event::{Line, Sink, WriteFault, write_bytes};
-use ira_moment::CutFault;
 use ira_order::EventAt;
+use ira_view_moment::CutFault;
 
 // The line of a receipt that is in the numbers, up to its sending.
 fn held_line(receipt: EventAt) -> Line

@@ -2,8 +2,8 @@ ghost use Rattle.std.specs.Prelude.{◌≡◌, ◌++◌, ◌⊎◌, ℕ, Err, Li
 ghost use Rattle.ira_audit.specs.GoodLogs.{AreGoodLogs};
 ghost use Rattle.ira_audit.specs.Judged.{IsJudged};
 ghost use Rattle.ira_audit.specs.Report.{IsReportable};
-ghost use Rattle.ira_files.specs.Shelf.{WritesFile};
-ghost use Rattle.ira_files.specs.declared.file_name.FileName.{FileName as Name};
+ghost use Rattle.ira_main_files.specs.Shelf.{WritesFile};
+ghost use Rattle.ira_main_files.specs.declared.file_name.FileName.{FileName as Name};
 ghost use Rattle.ira_main.specs.Draw.{DrawsLogs, KeepsPicture, PrintsDrawn, TellsDrawn};
 ghost use Rattle.ira_main.specs.FilesRead.{names_of};
 ghost use Rattle.ira_main.specs.ProgramFault.{draw_fault};
@@ -22,11 +22,11 @@ use crate::status::Status;
 use crate::text_file::write_text;
 use ira_audit::{Answer, GoodLogs, Judged, write_report};
 use ira_event::{Sink, WriteFault};
-use ira_files::{FileName, Shelf};
-use ira_picture::DrawFault;
+use ira_main_cli::{AskedMoment, DrawRequest};
+use ira_main_files::{FileName, Shelf};
+use ira_view::RingFault;
 use ira_view_page::PageText;
-use ira_views::RingFault;
-use ira_words::{AskedMoment, DrawRequest};
+use ira_view_picture::DrawFault;
 use std::alloc::{Allocator, Global};
 use std::thread::Threads;
 

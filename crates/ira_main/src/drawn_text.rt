@@ -1,21 +1,21 @@
 ghost use Rattle.std.specs.Prelude.{◌≡◌, ℕ, Err, IfOk, length};
-ghost use Rattle.ira_html.specs.HtmlPage.{IsHtmlPage};
-ghost use Rattle.ira_picture.specs.DrawFault.{HasTooManyEvents};
+ghost use Rattle.ira_view_html.specs.HtmlPage.{IsHtmlPage};
+ghost use Rattle.ira_view_picture.specs.DrawFault.{HasTooManyEvents};
 ghost use Rattle.ira_view_page.specs.Printable.{IsPrintable};
 ghost use Rattle.ira_main.specs.Draw.{IsDrawn, names_page};
 
 use crate::ring_printer::paths;
 use crate::status::Status;
 use ira_audit::{Answer, RefusedLogs};
-use ira_draw::draw_refused;
 use ira_event::{MemorySink, OutOfMemory};
-use ira_files::FileName;
-use ira_html::html_page;
-use ira_json::ShownAnswer;
-use ira_picture::{ColumnRange, DrawFault};
+use ira_main_cli::DrawRequest;
+use ira_main_files::FileName;
+use ira_view::ShownRing;
+use ira_view_draw::draw_refused;
+use ira_view_html::html_page;
+use ira_view_json::ShownAnswer;
 use ira_view_page::PageText;
-use ira_views::ShownRing;
-use ira_words::DrawRequest;
+use ira_view_picture::{ColumnRange, DrawFault};
 use std::alloc::{Allocator, Global};
 
 /// Whether a name is that of a page.

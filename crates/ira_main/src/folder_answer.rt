@@ -8,9 +8,9 @@ use crate::source_names::source_names;
 use crate::status::Status;
 use ira_audit::{Answer, RingAudit, write_report};
 use ira_event::{MemorySink, OutOfMemory, Sink, WriteFault, write_bytes};
-use ira_files::{FileName, TextSource};
-use ira_json::{folder_answer_line, unread_line};
-use ira_words::LogSource;
+use ira_main_cli::LogSource;
+use ira_main_files::{FileName, TextSource};
+use ira_view_json::{folder_answer_line, unread_line};
 use std::alloc::{Allocator, Global};
 
 /// What comes of the logs in a folder.

@@ -1,11 +1,11 @@
 ghost use Rattle.std.specs.Prelude.{◌≡◌, ◌≢◌, ◌+◌, ◌≤◌, ◌<◌, ◌++◌, true, false, [], List, ℕ, IfOk, IfErr, OnOk, length};
 ghost use Rattle.ira_audit.specs.LogTextAnswer.{IsLogTextAnswer};
 ghost use Rattle.ira_audit.specs.Report.{IsReportable};
-ghost use Rattle.ira_files.specs.ReadText.{IsReadOnce, IsReadTo};
+ghost use Rattle.ira_main_files.specs.ReadText.{IsReadOnce, IsReadTo};
 
 use ira_audit::{Answer, LogAudit};
 use ira_event::MAX_TEXT;
-use ira_files::{CountingReader, ShelfFault, read_after};
+use ira_main_files::{CountingReader, ShelfFault, read_after};
 use std::alloc::Allocator;
 use std::io::Read;
 use std::marker::Model;

@@ -9,8 +9,8 @@ use crate::read_files::thread_count;
 use crate::status::Status;
 use ira_audit::Answer;
 use ira_event::{MemorySink, OutOfMemory, Sink, WriteFault, write_bytes};
-use ira_files::{FileName, Shelf, TextSource};
-use ira_words::EachRequest;
+use ira_main_cli::EachRequest;
+use ira_main_files::{FileName, Shelf, TextSource};
 use std::alloc::{AllocError, Allocator, Global};
 use std::thread::{self, Threads};
 

@@ -1,5 +1,5 @@
 ghost use Rattle.std.specs.Prelude.{◌∷◌, [], IfErr, IfOk, MatchResult, Ok};
-ghost use Rattle.ira_files.specs.FileName.{file_name};
+ghost use Rattle.ira_main_files.specs.FileName.{file_name};
 ghost use Rattle.ira_main.specs.FilesRead.{IsFilesFault, names_of};
 ghost use Rattle.ira_main.specs.LeftFiles.{HasLeftFiles, HasLeftNames, IsFolderFault, IsLeftFault, IsLeftNamesFault, SaysLeft, left_by};
 
@@ -7,9 +7,9 @@ use crate::program_fault::ProgramFault;
 use crate::read_files::read_in_turn;
 use crate::source_names::{given_names, names_in_folder, number_of_logs};
 use ira_event::MAX_NODES;
-use ira_files::{FileName, ShelfFault, TextBuffer, TextSource};
+use ira_main_cli::LogSource;
+use ira_main_files::{FileName, ShelfFault, TextBuffer, TextSource};
 use ira_mend::RecordedLogs;
-use ira_words::LogSource;
 use std::alloc::Allocator;
 
 /// Reads the text of the file of this name; no bytes where there is no such file.

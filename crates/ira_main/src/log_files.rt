@@ -1,12 +1,12 @@
 ghost use Rattle.std.specs.Prelude.{◌≡◌, ◌⊎◌, Err, MatchResult};
 ghost use Rattle.ira_event.specs.LogText.{log_text};
-ghost use Rattle.ira_files.specs.FileName.{log_name};
-ghost use Rattle.ira_files.specs.Shelf.{WritesFile};
+ghost use Rattle.ira_main_files.specs.FileName.{log_name};
+ghost use Rattle.ira_main_files.specs.Shelf.{WritesFile};
 ghost use Rattle.ira_main.specs.LogFiles.{StopsInLogs, WritesLogs};
 
 use crate::program_fault::ProgramFault;
 use ira_event::{Logs, NodeLog, write_log};
-use ira_files::{FileName, Shelf, ShelfFault};
+use ira_main_files::{FileName, Shelf, ShelfFault};
 use std::alloc::Allocator;
 
 // Writes a log to the file of its place.

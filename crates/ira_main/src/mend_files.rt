@@ -1,5 +1,5 @@
 ghost use Rattle.std.specs.Prelude.{◌≡◌, length};
-ghost use Rattle.ira_files.specs.Shelf.{WritesFile};
+ghost use Rattle.ira_main_files.specs.Shelf.{WritesFile};
 ghost use Rattle.ira_main.specs.Mend.{KeepsMended, MendsLogs};
 
 use crate::left_files::{left_names, read_left};
@@ -11,9 +11,9 @@ use crate::report::report;
 use crate::status::Status;
 use ira_audit::{Answer, Reason, Refusal};
 use ira_event::{Logs, MemorySink, Sink, WriteFault, write_bytes};
-use ira_files::Shelf;
+use ira_main_cli::MendRequest;
+use ira_main_files::Shelf;
 use ira_mend::{MendFault, mend};
-use ira_words::MendRequest;
 use std::alloc::Allocator;
 
 // Writes what is kept of each log, and then how many events these are. The lines are put together before a file is made,

@@ -1,11 +1,11 @@
 ghost use Rattle.std.specs.Prelude.{◌≡◌, ◌∷◌, [], IfErr, IfOk, MatchResult, Ok};
-ghost use Rattle.ira_files.specs.FileName.{file_name};
+ghost use Rattle.ira_main_files.specs.FileName.{file_name};
 ghost use Rattle.ira_main.specs.FilesRead.{IsFilesFault, ReadsFiles, names_of};
-ghost use Rattle.ira_views.specs.Texts.{texts_of};
+ghost use Rattle.ira_view.specs.Texts.{texts_of};
 
 use crate::program_fault::ProgramFault;
 use crate::read_files::read_into;
-use ira_files::{FileName, TextBuffer, TextSource};
+use ira_main_files::{FileName, TextBuffer, TextSource};
 use ira_view_page::NamedText;
 use std::alloc::{AllocError, Allocator};
 use std::marker::Model;

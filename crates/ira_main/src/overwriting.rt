@@ -1,12 +1,12 @@
 ghost use Rattle.std.specs.Prelude.{◌≡◌, ◌⊎◌, ◌↔◌, IfOk, IsTrue, MatchOption, MatchResult, string_bytes};
-ghost use Rattle.ira_files.specs.FileName.{file_name};
+ghost use Rattle.ira_main_files.specs.FileName.{file_name};
 ghost use Rattle.ira_main.specs.FilesRead.{names_of};
 ghost use Rattle.ira_main.specs.Overwriting.{IsPathOf, IsReplacing, IsSamePath, KeepsFiles, KeepsInput, Overwrites, Replaces, ReplacesNone, input_names};
 ghost use Rattle.ira_main.specs.declared.program_fault.ProgramFault.TheVariants.{OutOfMemory};
 
 use crate::program_fault::ProgramFault;
 use ira_event::MAX_NODES;
-use ira_files::FileName;
+use ira_main_files::FileName;
 use std::alloc::{AllocError, Allocator};
 use std::path::Path;
 

@@ -1,6 +1,6 @@
 ghost use Rattle.std.specs.Prelude.{◌≡◌, ◌≤◌, ◌+◌, map};
 ghost use Rattle.ira_event.specs.Sink.{SinkState};
-ghost use Rattle.ira_files.specs.Shelf.{WritesFile};
+ghost use Rattle.ira_main_files.specs.Shelf.{WritesFile};
 ghost use Rattle.ira_main.specs.Outcome.{Outcome, Reports, ReportsAs, ReportsOutcome, outcome_number};
 ghost use Rattle.ira_main.specs.Progress.{ServesOrLeaves};
 ghost use Rattle.ira_main.specs.Unread.{TellsUnread, wants_json};
@@ -26,9 +26,11 @@ use crate::tell_unread::tell_unread;
 use crate::upgrade_files::upgrade_files;
 use crate::version::print_version;
 use ira_event::{MAX_TEXT, Sink};
-use ira_files::{CountingReader, FileName, Shelf};
 use ira_links::OpenGate;
-use ira_words::{CheckRequest, ExplainRequest, ExplainedAnswer, LogsRequest, Request, read_words};
+use ira_main_cli::{
+    CheckRequest, ExplainRequest, ExplainedAnswer, LogsRequest, Request, read_words,
+};
+use ira_main_files::{CountingReader, FileName, Shelf};
 use std::alloc::Allocator;
 use std::io::Read;
 use std::sync::Wait;

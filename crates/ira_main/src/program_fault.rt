@@ -1,8 +1,8 @@
 ghost use Rattle.std.specs.Prelude.{◌≡◌, ◌++◌, codes, decimal};
 ghost use Rattle.std.specs.List.{flat_map};
 ghost use Rattle.ira_event.specs.Sink.{Wrote};
-ghost use Rattle.ira_run.specs.RunFault.{run_fault_number};
-ghost use Rattle.ira_files.specs.FileName.{file_name, slash_after};
+ghost use Rattle.ira_ring_setup.specs.RunFault.{run_fault_number};
+ghost use Rattle.ira_main_files.specs.FileName.{file_name, slash_after};
 ghost use Rattle.ira_main.specs.ProgramFault.{draw_fault, program_fault_text, unread_text, read_fault, write_fault, write_log_fault};
 ghost use Rattle.ira_main.specs.Outcome.{ReportsOutcome, outcome_number};
 ghost use Rattle.ira_main.specs.Status.{program_fault_status};
@@ -10,11 +10,11 @@ ghost use Rattle.ira_main.specs.Status.{program_fault_status};
 use crate::cut_fault_line::write_cut_fault;
 use crate::status::Status;
 use ira_event::{Line, OutOfMemory, Sink, WriteFault, write_bytes};
-use ira_files::{FileName, ShelfFault, slash_after};
-use ira_moment::CutFault;
-use ira_picture::DrawFault;
+use ira_main_cli::WordsFault;
+use ira_main_files::{FileName, ShelfFault, slash_after};
 use ira_ring::RunFault;
-use ira_words::WordsFault;
+use ira_view_moment::CutFault;
+use ira_view_picture::DrawFault;
 use std::alloc::{AllocError, AllocFailed};
 
 /// Why the program ends with neither yes nor no.

@@ -1,11 +1,11 @@
 ghost use Rattle.std.specs.Prelude.{◌≡◌, ◌<◌, ◌≤◌, [], ◌∷◌, Ok, OnOk, IfErr, IfOk, drop, length, take};
-ghost use Rattle.ira_files.specs.FileName.{file_name};
+ghost use Rattle.ira_main_files.specs.FileName.{file_name};
 ghost use Rattle.ira_main.specs.FilesRead.{HasRead, HasTakenFiles, IsFilesAudit, IsFilesFault, names_of};
 
 use crate::program_fault::ProgramFault;
 use ira_audit::RingAudit;
 use ira_event::{MAX_NODES, OutOfMemory};
-use ira_files::{FileName, TextBuffer, TextSource};
+use ira_main_files::{FileName, TextBuffer, TextSource};
 use std::alloc::Allocator;
 use std::num::NonZeroUsize;
 use std::thread::{self, Threads};
@@ -43,7 +43,7 @@ pub(crate) fn read_file<'a, A: Allocator + Clone, F: TextSource>(
 
 /// The logs of a share of the files, as far as these were read.
 #[derive(Drop)]
-struct Share<A: Allocator> {
+struct FilesShare<A: Allocator> {
     audit: RingAudit<A>,
     /// The room of the texts. It is kept until all threads are joined, since to unmap it interrupts each one that runs.
     text: TextBuffer<A>,
@@ -51,7 +51,7 @@ struct Share<A: Allocator> {
     read: usize,
 }
 
-impl<A: Allocator + Clone> Share<A> {
+impl<A: Allocator + Clone> FilesShare<A> {
     /// Reads those of the files of these names that weren't read yet, in turn, up to the first that can't be.
     fn read_on<'a, F: TextSource>(
         &mut self,
@@ -78,10 +78,10 @@ fn read_share<A: Allocator + Clone, F: TextSource>(
     alloc: &A,
     names: &[FileName<'_>],
     shelf: &F,
-) -> Result<Share<A>, OutOfMemory>
+) -> Result<FilesShare<A>, OutOfMemory>
     ensures { IfOk result (λ share. HasRead F.reads (names_of names.now) shelf.now share.read share.audit) }
 {
-    let mut share = Share {
+    let mut share = FilesShare {
         audit: RingAudit::new(alloc.clone()?),
         text: TextBuffer::new(alloc.clone()?),
         read: 0,
@@ -94,7 +94,7 @@ fn read_share<A: Allocator + Clone, F: TextSource>(
 /// The logs in the files of a share, of which those that weren't read yet are read.
 fn finish_share<'a, A: Allocator + Clone, F: TextSource>(
     alloc: &A,
-    mut share: Share<A>,
+    mut share: FilesShare<A>,
     names: &[FileName<'a>],
     shelf: &F,
 ) -> Result<RingAudit<A>, ProgramFault<'a>>
@@ -102,7 +102,7 @@ fn finish_share<'a, A: Allocator + Clone, F: TextSource>(
     ensures { IsFilesAudit F.reads (names_of names.now) shelf.now result }
 {
     share.read_on(alloc, names, shelf)?;
-    let Share {
+    let FilesShare {
         audit,
         text: _,
         read: _,
@@ -118,7 +118,7 @@ pub(crate) fn read_in_turn<'a, A: Allocator + Clone, F: TextSource>(
 ) -> Result<RingAudit<A>, ProgramFault<'a>>
     ensures { IsFilesAudit F.reads (names_of names.now) shelf.now result }
 {
-    let share = Share {
+    let share = FilesShare {
         audit: RingAudit::new(alloc.clone()?),
         text: TextBuffer::new(alloc.clone()?),
         read: 0,
@@ -173,7 +173,7 @@ where
         alloc.clone()?,
         names,
         size,
-        &|_, some: &[FileName<'_>]| -> Result<Share<A>, OutOfMemory>
+        &|_, some: &[FileName<'_>]| -> Result<FilesShare<A>, OutOfMemory>
             ensures { IfOk result (λ share. HasRead F.reads (names_of some.now) shelf.entry.now share.read share.audit) }
         { read_share(&alloc, some, shelf) },
     )?;

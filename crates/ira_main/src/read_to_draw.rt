@@ -1,6 +1,6 @@
 ghost use Rattle.std.specs.Prelude.{ℕ, List, MatchResult};
 ghost use Rattle.ira_audit.specs.Judged.{IsJudged};
-ghost use Rattle.ira_views.specs.Texts.{texts_of};
+ghost use Rattle.ira_view.specs.Texts.{texts_of};
 ghost use Rattle.ira_main.specs.FilesRead.{IsFilesFault, ReadsFiles, names_of};
 
 use crate::drawn_text::is_page;
@@ -10,11 +10,11 @@ use crate::read_files::read_logs;
 use crate::status::Status;
 use ira_audit::Judged;
 use ira_event::{Logs, OutOfMemory};
-use ira_files::{FileName, TextSource};
-use ira_json::{explained_line, log_line};
+use ira_main_cli::DrawRequest;
+use ira_main_files::{FileName, TextSource};
+use ira_view::{explain_texts, judge_texts};
+use ira_view_json::{explained_line, log_line};
 use ira_view_page::NamedText;
-use ira_views::{explain_texts, judge_texts};
-use ira_words::DrawRequest;
 use std::alloc::{Allocator, Global};
 use std::thread::Threads;
 

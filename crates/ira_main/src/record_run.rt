@@ -1,5 +1,5 @@
 ghost use Rattle.std.specs.Prelude.{◌≡◌, false, true};
-ghost use Rattle.ira_files.specs.Shelf.{WritesFile};
+ghost use Rattle.ira_main_files.specs.Shelf.{WritesFile};
 ghost use Rattle.ira_main.specs.AskedRun.{IsAskedRun};
 ghost use Rattle.ira_main.specs.Serve.{RunOutcome};
 
@@ -9,9 +9,9 @@ use crate::program_fault::ProgramFault;
 use crate::ring_size::ring_size;
 use crate::status::Status;
 use ira_event::{MemorySink, Sink, WriteFault, write_bytes};
-use ira_files::Shelf;
+use ira_main_cli::RunRequest;
+use ira_main_files::Shelf;
 use ira_ring::{Run, write_ends};
-use ira_words::RunRequest;
 use std::alloc::Allocator;
 use std::sync::Wait;
 use std::thread::Threads;

@@ -7,7 +7,7 @@ use crate::program_fault::ProgramFault;
 use crate::status::Status;
 use ira_audit::{Answer, write_report};
 use ira_event::{Sink, WriteFault, write_bytes};
-use ira_json::answer_line;
+use ira_view_json::answer_line;
 use std::alloc::Global;
 
 /// Writes a text that was put together before, and gives this status.

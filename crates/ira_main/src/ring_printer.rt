@@ -8,11 +8,11 @@ use crate::status::Status;
 use crate::view_printer::write_view;
 use ira_audit::Answer;
 use ira_event::{Sink, WriteFault};
-use ira_files::FileName;
-use ira_json::ShownAnswer;
+use ira_main_cli::ShowRequest;
+use ira_main_files::FileName;
+use ira_view::ShownRing;
+use ira_view_json::ShownAnswer;
 use ira_view_page::{PageText, ShowFault};
-use ira_views::ShownRing;
-use ira_words::ShowRequest;
 use std::alloc::{AllocError, Allocator, Global};
 
 // The status of a ring of which the tables were printed. They are put together before anything is printed.

@@ -13,10 +13,10 @@ use crate::source_names::source_names;
 use crate::status::Status;
 use ira_audit::{Answer, GoodLogs};
 use ira_event::Sink;
-use ira_files::{FileName, TextBuffer, TextSource};
+use ira_main_cli::{AskedLeaders, AskedMoment, ShowRequest};
+use ira_main_files::{FileName, TextBuffer, TextSource};
+use ira_view::{RingFault, ShownRing, differences, missing_leader};
 use ira_view_page::{Page, PageText};
-use ira_views::{RingFault, ShownRing, differences, missing_leader};
-use ira_words::{AskedLeaders, AskedMoment, ShowRequest};
 use std::alloc::{Allocator, Global};
 use std::thread::Threads;
 

@@ -1,13 +1,13 @@
 ghost use Rattle.std.specs.Prelude.{◌≡◌, IfOk, MatchResult, map};
 ghost use Rattle.std.specs.List.{range_with_len};
-ghost use Rattle.ira_files.specs.declared.file_name.FileName.TheVariants.{Given, Log};
+ghost use Rattle.ira_main_files.specs.declared.file_name.FileName.TheVariants.{Given, Log};
 ghost use Rattle.ira_main.specs.SourceNames.{HasNames, IsNamesFault, SaysLogs};
 
 use crate::program_fault::ProgramFault;
 use crate::read_files::read_file;
 use ira_event::open_log;
-use ira_files::{FileName, TextSource};
-use ira_words::LogSource;
+use ira_main_cli::LogSource;
+use ira_main_files::{FileName, TextSource};
 use std::alloc::{AllocError, Allocator};
 
 /// How many logs there are, by the text of one; one where it has no head.

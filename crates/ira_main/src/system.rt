@@ -4,7 +4,7 @@ ghost use Rattle.std.specs.Process.{exit_status};
 use crate::program::serve;
 use crate::program_fault::{ProgramFault, report_outcome};
 use ira_event::{Sink, ToWriter};
-use ira_files::{CountingReader, FileShelf};
+use ira_main_files::{CountingReader, FileShelf};
 use std::alloc::{AllocError, Global};
 use std::io::{ErrorKind, Read, Write};
 use std::process::ExitCode;

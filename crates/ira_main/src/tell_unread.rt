@@ -1,14 +1,14 @@
 ghost use Rattle.std.specs.Prelude.{◌≡◌, IfOk, None, map, string_bytes};
-ghost use Rattle.ira_files.specs.FileName.{file_name};
-ghost use Rattle.ira_json.specs.FolderValue.{unread_value};
-ghost use Rattle.ira_json.specs.Line.{IsLineOf};
+ghost use Rattle.ira_main_files.specs.FileName.{file_name};
+ghost use Rattle.ira_view_json.specs.FolderValue.{unread_value};
+ghost use Rattle.ira_view_json.specs.Line.{IsLineOf};
 ghost use Rattle.ira_main.specs.Unread.{TellsUnread, wants_json};
 
 use crate::program_fault::ProgramFault;
 use crate::status::Status;
 use ira_event::{OutOfMemory, Sink, write_bytes};
-use ira_files::FileName;
-use ira_json::unread_line;
+use ira_main_files::FileName;
+use ira_view_json::unread_line;
 use std::alloc::Global;
 
 /// Whether the words ask for JSON: after `--` they are names.

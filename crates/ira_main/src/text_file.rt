@@ -1,7 +1,7 @@
-ghost use Rattle.ira_files.specs.Shelf.{WritesFile};
+ghost use Rattle.ira_main_files.specs.Shelf.{WritesFile};
 
 use ira_event::write_bytes;
-use ira_files::{Shelf, ShelfFault};
+use ira_main_files::{Shelf, ShelfFault};
 
 /// Writes the text to a new file of this name.
 pub(crate) fn write_text<F: Shelf>(text: &[u8], name: &str, shelf: &mut F) -> Result<(), ShelfFault>

@@ -1,5 +1,5 @@
 ghost use Rattle.std.specs.Prelude.{◌≡◌};
-ghost use Rattle.ira_files.specs.Shelf.{WritesFile};
+ghost use Rattle.ira_main_files.specs.Shelf.{WritesFile};
 ghost use Rattle.ira_main.specs.FilesRead.{names_of};
 ghost use Rattle.ira_main.specs.SourceNames.{OfSource};
 ghost use Rattle.ira_main.specs.Upgrade.{KeepsUpgrades, Upgrades, upgraded_line};
@@ -12,8 +12,8 @@ use crate::source_names::source_names;
 use crate::status::Status;
 use ira_audit::{Answer, Refusal};
 use ira_event::{Line, Logs, RingSize, Sink, WriteFault};
-use ira_files::Shelf;
-use ira_words::RewriteRequest;
+use ira_main_cli::RewriteRequest;
+use ira_main_files::Shelf;
 use std::alloc::Allocator;
 use std::thread::Threads;
 

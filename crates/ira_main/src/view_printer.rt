@@ -13,8 +13,8 @@ use crate::report::print_text;
 use crate::status::Status;
 use ira_audit::{Answer, write_findings, write_report};
 use ira_event::{MemorySink, Sink, WriteFault, write_bytes};
-use ira_json::{explained_findings_lines, explained_line};
-use ira_views::{FindingsView, View};
+use ira_view::{FindingsView, View};
+use ira_view_json::{explained_findings_lines, explained_line};
 use std::alloc::{Allocator, Global};
 
 /// Writes the line of an answer, and the page after it.

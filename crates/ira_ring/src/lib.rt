@@ -3,10 +3,10 @@
 //! stands in a crate of its own, so that the parts are proved side by side.
 #![tactic(auto)]
 
-pub use ira_lone::{run_alone, run_alone_seeded, setups_have_full_runs};
-pub use ira_run::{
+pub use ira_ring_alone::{run_alone, run_alone_seeded, setups_have_full_runs};
+pub use ira_ring_setup::{
     Collector, NodeEnd, NodePart, Run, RunFault, Setup, draw_lists, full_runs_are_runs,
     full_runs_have_the_same_logs, full_runs_show_ends, logs_show_one_end, recordings_agree,
     write_ends,
 };
-pub use ira_threads::{NodeWork, node_body, run_ring};
+pub use ira_ring_threads::{NodeWork, node_body, run_ring};

@@ -1,7 +1,7 @@
 -- What a page holds, and what is added to it.
 use Rattle.std.specs.Prelude.{◌≡◌, ℕ, List, ◌++◌, Option, Some, None, Bool, true, false, codes, max, replicate}
-use Rattle.ira_view_page.specs.declared.page.Mark.{Mark}
-use Rattle.ira_view_page.specs.declared.page.Mark.TheVariants.{Plain, Named}
+use Rattle.ira_view_page.specs.declared.page.Emphasis.{Emphasis}
+use Rattle.ira_view_page.specs.declared.page.Emphasis.TheVariants.{Plain, Named}
 
 -- what something holds that is whole; nothing of one that a growth was refused to
 abbrev pub kept : {X : Type 0} → Bool → List X → Option (List X)
@@ -24,7 +24,7 @@ abbrev pub AddedSome : {X : Type 0} → Option (List X) → Option (List X) → 
 AddedSome {X} old new = (more : List X) × Added old more new
 
 -- what a line begins with
-abbrev pub mark_text : Mark → List ℕ
+abbrev pub mark_text : Emphasis → List ℕ
 mark_text Plain = codes "  "
 mark_text Named = codes "> "
 

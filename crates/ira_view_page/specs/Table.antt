@@ -3,7 +3,7 @@ use Rattle.std.specs.Prelude.{ℕ, ◌+◌, ◌-◌, List, [], ◌∷◌, ◌++�
 use Rattle.std.specs.Prelude.{if◌then◌else◌, nat_eq}
 use Rattle.std.specs.List.{list_all, flat_map}
 use Rattle.ira_view_page.specs.Page.{mark_text, spaces}
-use Rattle.ira_view_page.specs.declared.page.Mark.{Mark}
+use Rattle.ira_view_page.specs.declared.page.Emphasis.{Emphasis}
 use Rattle.ira_view_page.specs.declared.side.Side.{Side}
 use Rattle.ira_view_page.specs.declared.side.Side.TheVariants.{Left, Right}
 
@@ -14,7 +14,7 @@ pub record TableCell : Type 0 where
 
 -- a row: its mark, and its cells from the left
 pub record TableRow : Type 0 where
-  pub mark : Mark
+  pub mark : Emphasis
   pub cells : List TableCell
 
 abbrev pub cell_of : Side → List ℕ → TableCell
@@ -26,7 +26,7 @@ left_cell text = cell_of Left text
 abbrev pub right_cell : List ℕ → TableCell
 right_cell text = cell_of Right text
 
-abbrev pub table_row : Mark → List TableCell → TableRow
+abbrev pub table_row : Emphasis → List TableCell → TableRow
 table_row mark cells = record { mark = mark; cells = cells }
 
 -- how wide a cell is, if there is one

@@ -13,7 +13,7 @@ use crate::explanation::Explanation;
 use crate::front::Front;
 use crate::head_row::HeadRow;
 use crate::named_text::NamedText;
-use crate::page::{Mark, Page};
+use crate::page::{Emphasis, Page};
 use crate::quote::quoted_column;
 use crate::quoted_line::{Carets, QuotedLine};
 use crate::record_at::RecordAt;
@@ -144,7 +144,7 @@ impl<A: Allocator + Clone> ExplanationDraft<A> {
     {
         let line = file.line(number);
         let page = &mut self.page;
-        page.begin(Mark::Named);
+        page.begin(Emphasis::Named);
         page.place(file.name, number);
         page.words(":");
         let column = page.column().saturating_add(1);
@@ -167,7 +167,7 @@ impl<A: Allocator + Clone> ExplanationDraft<A> {
     }
 
     /// Adds `FILE:LINE: TEXT`.
-    pub fn quote(&mut self, mark: Mark, file: &NamedText<'_>, number: usize)
+    pub fn quote(&mut self, mark: Emphasis, file: &NamedText<'_>, number: usize)
         ensures page { AddedSome self.old.page self.new.page }
         ensures evidence { AddedSome (evidence_of self.old) (evidence_of self.new) }
     {
@@ -193,7 +193,7 @@ impl<A: Allocator + Clone> ExplanationDraft<A> {
         ensures page { AddedSome self.old.page self.new.page }
         ensures evidence { AddedOf file.now.name.now Text (evidence_of self.old) (evidence_of self.new) }
     {
-        self.page.begin(Mark::Plain);
+        self.page.begin(Emphasis::Plain);
         self.page.show(file.name.as_bytes());
         self.page.words(": ");
         self.page.grouped(file.text.len() as u64);

@@ -1,6 +1,6 @@
 ghost use Rattle.ira_view_page.specs.Page.{AddedSome};
 
-use crate::page::{Mark, Page};
+use crate::page::{Emphasis, Page};
 use crate::width::shown_width;
 use std::alloc::Allocator;
 
@@ -12,7 +12,7 @@ impl<A: Allocator> Page<A> {
     pub fn paragraph(&mut self, words: &str)
         ensures { AddedSome self.old self.new }
     {
-        self.begin(Mark::Plain);
+        self.begin(Emphasis::Plain);
         self.fill(2, words);
         self.end();
     }
@@ -31,7 +31,7 @@ impl<A: Allocator> Page<A> {
     pub fn hint(&mut self, words: &str)
         ensures { AddedSome self.old self.new }
     {
-        self.begin(Mark::Plain);
+        self.begin(Emphasis::Plain);
         self.words("hint: ");
         self.fill(8, words);
         self.end();

@@ -35,7 +35,7 @@ pub use first_line::split_line;
 pub use front::Front;
 pub use head_row::HeadRow;
 pub use named_text::NamedText;
-pub use page::{Mark, Page};
+pub use page::{Emphasis, Page};
 pub use page_text::PageText;
 pub use places::{event_at, event_of, file_of, line_of, log_at};
 pub use quoted_line::{Carets, QuotedLine};

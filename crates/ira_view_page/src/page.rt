@@ -11,7 +11,7 @@ use std::marker::Model;
 
 /// Whether a line is the one that the answer speaks of.
 #[derive(Clone, Copy, Debug, PartialEq, Eq)]
-pub enum Mark {
+pub enum Emphasis {
     Plain,
     Named,
 }
@@ -105,7 +105,7 @@ impl<A: Allocator> Page<A> {
     }
 
     /// Adds a line of these words.
-    pub fn line(&mut self, mark: Mark, words: &str)
+    pub fn line(&mut self, mark: Emphasis, words: &str)
         requires { IsPrintable words.now }
         ensures { Added self.old (mark_text mark ++ words.now ++ codes "\n") self.new }
     {
@@ -115,12 +115,12 @@ impl<A: Allocator> Page<A> {
     }
 
     /// Begins a line: with `> ` or two spaces.
-    pub fn begin(&mut self, mark: Mark)
+    pub fn begin(&mut self, mark: Emphasis)
         ensures { Added self.old (mark_text mark) self.new }
     {
         match mark {
-            Mark::Plain => self.push(b"  "),
-            Mark::Named => self.push(b"> "),
+            Emphasis::Plain => self.push(b"  "),
+            Emphasis::Named => self.push(b"> "),
         }
     }
 

@@ -4,7 +4,7 @@ ghost use Rattle.ira_view_page.specs.Page.{Added, AddedBy};
 ghost use Rattle.ira_view_page.specs.Table.{cell_of, cell_text, cells_text, column_width, gap_text, is_empty};
 ghost use Rattle.ira_view_page.specs.Table.{left_cell, right_cell, row_text, table_row, table_text, width_of};
 
-use crate::page::{Mark, Page};
+use crate::page::{Emphasis, Page};
 use crate::page_text::PageText;
 use crate::side::Side;
 use std::alloc::Allocator;
@@ -82,12 +82,12 @@ impl<A: Allocator> Row<A> {
 
 /// A row of a table with its mark.
 #[derive(Drop)]
-struct Line<A: Allocator> {
-    mark: Mark,
+struct MarkedRow<A: Allocator> {
+    mark: Emphasis,
     cells: Vec<Cell<A>, A>,
 }
 
-impl<A: Allocator> Model for Line<A> {
+impl<A: Allocator> Model for MarkedRow<A> {
     ghost use Rattle.ira_view_page.specs.Table.{TableRow};
 
     ghost Value = { TableRow };
@@ -99,7 +99,7 @@ impl<A: Allocator> Model for Line<A> {
 /// refused, to it or to its rows.
 #[derive(Drop)]
 pub struct Table<A: Allocator> {
-    lines: Vec<Line<A>, A>,
+    lines: Vec<MarkedRow<A>, A>,
     is_whole: bool,
 }
 
@@ -125,11 +125,11 @@ impl<A: Allocator> Table<A> {
     }
 
     /// Adds a row at the end.
-    pub fn add(&mut self, mark: Mark, row: Row<A>)
+    pub fn add(&mut self, mark: Emphasis, row: Row<A>)
         ensures { AddedBy (λ cells. table_row mark cells ∷ []) self.old row self.new }
     {
         if self.is_whole {
-            let line = Line {
+            let line = MarkedRow {
                 mark,
                 cells: row.cells,
             };
@@ -138,7 +138,7 @@ impl<A: Allocator> Table<A> {
     }
 }
 
-impl<A: Allocator> Line<A> {
+impl<A: Allocator> MarkedRow<A> {
     /// How wide its cell in a column is, if it has one.
     fn width(&self, column: usize) -> usize
         ensures { result ≡ width_of (slice_get self.now.cells column) }
@@ -151,7 +151,7 @@ impl<A: Allocator> Line<A> {
 }
 
 /// How wide the widest cell of a column is.
-fn column_width<A: Allocator>(lines: &[Line<A>], column: usize) -> usize
+fn column_width<A: Allocator>(lines: &[MarkedRow<A>], column: usize) -> usize
     ensures { result ≡ column_width lines.now column }
 {
     let mut width = 0usize;
@@ -183,7 +183,7 @@ impl<A: Allocator> Page<A> {
     }
 
     /// Adds one of these lines.
-    fn row<T: Allocator>(&mut self, lines: &[Line<T>], line: &Line<T>)
+    fn row<T: Allocator>(&mut self, lines: &[MarkedRow<T>], line: &MarkedRow<T>)
         ensures { Added self.old (row_text (column_width lines.now) line.now) self.new }
     {
         self.begin(line.mark);
@@ -192,7 +192,7 @@ impl<A: Allocator> Page<A> {
     }
 
     /// Adds the cells of one of these lines.
-    fn cells<T: Allocator>(&mut self, lines: &[Line<T>], cells: &[Cell<T>])
+    fn cells<T: Allocator>(&mut self, lines: &[MarkedRow<T>], cells: &[Cell<T>])
         ensures { Added self.old (cells_text (column_width lines.now) 0 cells.now) self.new }
     {
         for column in 0..cells.len() {

@@ -1,5 +1,5 @@
 use Rattle.std.proofs.Common.{rules}
-use Rattle.ira_files.specs.Shelf.WritesFile.{unmade, stopped, closed}
+use Rattle.ira_main_files.specs.Shelf.WritesFile.{unmade, stopped, closed}
 use Rattle.ira_main.proofs.cert_file.write_new.Goals as goal
 
 pub returns-in_err-file : goal.returns-in_err-file

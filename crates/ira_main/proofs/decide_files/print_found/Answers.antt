@@ -3,8 +3,8 @@ use Rattle.std.specs.List.{enumerate_from, flat_map}
 use Rattle.ira_event.specs.Sink.{Memory}
 use Rattle.ira_audit.proofs.Counting.{lines_are}
 use Rattle.ira_audit.specs.FindingsText.{decided_line, findings_text}
-use Rattle.ira_json.proofs.CasesValues.{values_are}
-use Rattle.ira_json.specs.Line.{AreLinesOf}
+use Rattle.ira_view_json.proofs.CasesValues.{values_are}
+use Rattle.ira_view_json.specs.Line.{AreLinesOf}
 use Rattle.ira_main.proofs.Deciding.{status_is}
 use Rattle.ira_main.proofs.Reporting.{findings_json}
 use Rattle.ira_main.proofs.decide_files.print_found.Goals as goal

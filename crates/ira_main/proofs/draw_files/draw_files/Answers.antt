@@ -1,7 +1,7 @@
 use Rattle.std.proofs.Common.{◌∙◌, Ok, inl, inr, refl, rules, sym}
 use Rattle.std.proofs.lemmas.List.{length-map}
 use Rattle.ira_audit.proofs.Zipped.{zipped_length}
-use Rattle.ira_files.specs.FileName.{file_name}
+use Rattle.ira_main_files.specs.FileName.{file_name}
 use Rattle.ira_main.proofs.FilesRead.{of_back, of_front, reads_both}
 use Rattle.ira_main.specs.FilesRead.{names_of}
 use Rattle.ira_main.specs.Show.{moment_names, moment_texts}

@@ -3,7 +3,7 @@ use Rattle.std.proofs.lemmas.Result.{err_from_is_err_and}
 use Rattle.ira_audit.specs.Judged.{IsJudged}
 use Rattle.ira_audit.proofs.TextRuns.{yes_runs}
 use Rattle.ira_audit.specs.RingAnswer.{IsRingAnswer}
-use Rattle.ira_views.specs.Texts.{texts_of}
+use Rattle.ira_view.specs.Texts.{texts_of}
 use Rattle.ira_main.specs.declared.program_fault.ProgramFault.TheVariants.{OutOfMemory}
 use Rattle.ira_main.proofs.explain_files.explain_files.Goals as goal
 

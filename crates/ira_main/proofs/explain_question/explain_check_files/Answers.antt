@@ -2,7 +2,7 @@ use Rattle.std.proofs.Common.{◌≡◌, ◌∙◌, ℕ, List, [], ◌∷◌, in
 use Rattle.ira_audit.specs.Judged.{IsJudged}
 use Rattle.std.proofs.lemmas.Result.{err_from_is_err_and}
 use Rattle.ira_view_page.specs.declared.named_text.NamedText.{NamedText}
-use Rattle.ira_views.specs.Texts.{texts_of}
+use Rattle.ira_view.specs.Texts.{texts_of}
 use Rattle.ira_main.proofs.FilesRead.{of_back, of_front}
 use Rattle.ira_main.specs.FilesRead.{names_of}
 use Rattle.ira_main.specs.declared.program_fault.ProgramFault.TheVariants.{OutOfMemory}

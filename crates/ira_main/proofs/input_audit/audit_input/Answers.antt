@@ -1,6 +1,6 @@
 use Rattle.std.proofs.Common.{◌≡◌, ◌++◌, arith, ap, false, length, rules, true}
 use Rattle.std.proofs.KnownBytes.{Consumes-trans}
-use Rattle.ira_files.proofs.Reading.{reads_left}
+use Rattle.ira_main_files.proofs.Reading.{reads_left}
 use Rattle.ira_main.proofs.InputAudits.{length-read}
 use Rattle.ira_main.proofs.input_audit.audit_input.Goals as goal
 use Rattle.ira_main.proofs.input_audit.audit_input.Goals.{then-loop-audit-test+else-len-le-MAX_TEXT}

@@ -1,9 +1,9 @@
 use Rattle.std.proofs.Common.{◌≡◌, ◌≢◌, ◌∙◌, ℕ, List, Err, Ok, [], inl, inr, refl, rules, subst}
 use Rattle.std.proofs.lemmas.Result.{err_from_is_err_and}
-use Rattle.ira_files.specs.FileName.{file_name}
-use Rattle.ira_files.specs.Shelf.{Reading}
-use Rattle.ira_files.specs.declared.shelf_fault.ShelfFault.{ShelfFault}
-use Rattle.ira_files.specs.declared.shelf_fault.ShelfFault.TheVariants.{Device, NotFound, OutOfMemory}
+use Rattle.ira_main_files.specs.FileName.{file_name}
+use Rattle.ira_main_files.specs.Shelf.{Reading}
+use Rattle.ira_main_files.specs.declared.shelf_fault.ShelfFault.{ShelfFault}
+use Rattle.ira_main_files.specs.declared.shelf_fault.ShelfFault.TheVariants.{Device, NotFound, OutOfMemory}
 use Rattle.ira_main.specs.LeftFiles.{left_by}
 use Rattle.ira_main.proofs.FilesRead.{of_one}
 use Rattle.ira_main.proofs.left_files.find_into.Goals as goal

@@ -1,7 +1,7 @@
 use Rattle.std.proofs.Common.{◌≡◌, ℕ, List, [], ◌∷◌, ◌++◌, arith, inl, inr, length, subst, take}
 use Rattle.std.proofs.lemmas.List.{length-map, take_all}
 use Rattle.std.proofs.lemmas.Result.{err_from_is_err_and}
-use Rattle.ira_files.specs.FileName.{file_name}
+use Rattle.ira_main_files.specs.FileName.{file_name}
 use Rattle.ira_mend.specs.RecordedLogs.{HasRecorded}
 use Rattle.ira_main.proofs.FilesRead.{named_at, of_next, reads_next}
 use Rattle.ira_main.specs.FilesRead.{ReadsFiles, names_of}

@@ -1,6 +1,6 @@
 use Rattle.std.proofs.Common.{◌≡◌, inl, rules}
-use Rattle.ira_files.specs.FileName.{log_name}
-use Rattle.ira_files.specs.Shelf.WritesFile.{closed, stopped, unmade}
+use Rattle.ira_main_files.specs.FileName.{log_name}
+use Rattle.ira_main_files.specs.Shelf.WritesFile.{closed, stopped, unmade}
 use Rattle.ira_main.proofs.log_files.write_file.Goals as goal
 
 pub returns-in_err-file : goal.returns-in_err-file

@@ -1,6 +1,6 @@
 use Rattle.std.proofs.Common.{◌≡◌, ◌∙◌, ◌+◌, ◌≤◌, ap, arith, drop, inl, inr, length, subst, sym, take}
 use Rattle.std.proofs.lemmas.List.{take_all}
-use Rattle.ira_files.specs.Shelf.{WritesFile}
+use Rattle.ira_main_files.specs.Shelf.{WritesFile}
 use Rattle.ira_main.proofs.LogFiles.{written_next}
 use Rattle.ira_main.proofs.PartsAt.{parts_at}
 use Rattle.ira_main.specs.LogFiles.{WritesLogs}

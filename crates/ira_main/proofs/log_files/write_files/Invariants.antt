@@ -1,5 +1,5 @@
 use Rattle.std.proofs.Common.{take}
-use Rattle.ira_files.specs.Shelf.{WritesFile}
+use Rattle.ira_main_files.specs.Shelf.{WritesFile}
 use Rattle.ira_main.specs.LogFiles.{WritesLogs}
 use Rattle.ira_main.proofs.log_files.write_files.Given as goal
 

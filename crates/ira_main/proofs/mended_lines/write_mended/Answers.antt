@@ -7,7 +7,7 @@ use Rattle.std.proofs.lemmas.List.{drop_all}
 use Rattle.std.proofs.lemmas.Slice.Zip.{length-zip}
 use Rattle.ira_event.specs.Log.{Log}
 use Rattle.ira_event.proofs.Writing.{HasWritten-more, HasWritten-stops}
-use Rattle.ira_run.proofs.EndLines.{drop-zip, next-text, HasWritten-whole}
+use Rattle.ira_ring_setup.proofs.EndLines.{drop-zip, next-text, HasWritten-whole}
 use Rattle.ira_main.specs.MendedLines.{mended_line, mended_lines}
 use Rattle.ira_main.proofs.mended_lines.write_mended.Goals as goal
 

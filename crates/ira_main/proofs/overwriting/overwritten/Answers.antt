@@ -4,8 +4,8 @@ use Rattle.std.specs.Prelude.{slice_index_or}
 use Rattle.std.proofs.lemmas.Bool.{cases_eq}
 use Rattle.std.proofs.lemmas.List.{length-map}
 use Rattle.std.proofs.lemmas.Option.{slice_get_within}
-use Rattle.ira_files.specs.FileName.{file_name, log_name}
-use Rattle.ira_files.specs.declared.file_name.FileName.{FileName}
+use Rattle.ira_main_files.specs.FileName.{file_name, log_name}
+use Rattle.ira_main_files.specs.declared.file_name.FileName.{FileName}
 use Rattle.ira_main.proofs.FilesRead.{named_at}
 use Rattle.ira_main.specs.FilesRead.{names_of}
 use Rattle.ira_main.specs.Overwriting.{IsOverwritten, IsSamePath}

@@ -1,5 +1,5 @@
 use Rattle.std.proofs.Common.{◌≡◌, ◌<◌, ◌≤◌, ℕ, List, Some, length, slice_get}
-use Rattle.ira_files.specs.FileName.{file_name, log_name}
+use Rattle.ira_main_files.specs.FileName.{file_name, log_name}
 use Rattle.ira_main.specs.FilesRead.{names_of}
 use Rattle.ira_main.specs.Overwriting.{IsOverwritten, IsSamePath}
 use Rattle.ira_main.proofs.overwriting.overwritten.Given as goal

@@ -1,7 +1,7 @@
 use Rattle.std.proofs.Common.{◌≡◌, ℕ, zero, suc, List, ◌∷◌, Err, IfOk, MatchOption, None, Ok, Option, Result, Some}
 use Rattle.std.proofs.Common.{slice_get, subst}
-use Rattle.ira_files.specs.FileName.{file_name}
-use Rattle.ira_files.specs.declared.file_name.FileName.{FileName}
+use Rattle.ira_main_files.specs.FileName.{file_name}
+use Rattle.ira_main_files.specs.declared.file_name.FileName.{FileName}
 use Rattle.ira_main.specs.Overwriting.{IsSamePath, Replaces, ReplacesNone}
 use Rattle.ira_main.proofs.overwriting.replaced_input.Goals as goal
 

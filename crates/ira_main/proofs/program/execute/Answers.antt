@@ -1,9 +1,9 @@
 use Rattle.std.proofs.Common.{◌≡◌, Err, List, [], ◌∷◌, ℕ, ap, refl, ◌∙◌}
 use Rattle.std.proofs.lemmas.Result.{err_from_is_err_and}
 use Rattle.ira_event.specs.Sink.{SinkState}
-use Rattle.ira_words.specs.declared.words_fault.WordsFault.TheVariants as fault
-use Rattle.ira_files.specs.CountingReader.{Reads}
-use Rattle.ira_files.specs.Shelf.{Reading, Writing}
+use Rattle.ira_main_cli.specs.declared.words_fault.WordsFault.TheVariants as fault
+use Rattle.ira_main_files.specs.CountingReader.{Reads}
+use Rattle.ira_main_files.specs.Shelf.{Reading, Writing}
 use Rattle.ira_main.specs.Outcome.{Outcome}
 use Rattle.ira_main.specs.Serve.{Serves}
 use Rattle.ira_main.specs.Serve.CommandOutcome.{certified, explained, recorded, refused}

@@ -1,5 +1,5 @@
 use Rattle.std.proofs.Common.{◌≡◌, ◌∙◌, Err, List, [], ◌∷◌, Ok, Result, ℕ, ap, inl, inr, map, refl, subst, sym}
-use Rattle.ira_words.specs.Request.{IsMadeOf, IsVersionLine}
+use Rattle.ira_main_cli.specs.Request.{IsMadeOf, IsVersionLine}
 use Rattle.ira_main.specs.Serve.CommandOutcome.{decided, drawn, each, judged, mended, pairs, recorded, refused, shown}
 use Rattle.ira_main.specs.Serve.CommandOutcome.{upgraded, versioned}
 use Rattle.ira_main.specs.Serve.CommandOutcome.{explained as explained_of_logs}

@@ -1,6 +1,6 @@
 use Rattle.std.proofs.Common.{◌≡◌, ◌∙◌, ◌++◌, List, ℕ, ap, append_assoc, codes, decimal, subst, sym}
 use Rattle.ira_event.specs.Sink.{Wrote}
-use Rattle.ira_files.specs.FileName.{slash_after}
+use Rattle.ira_main_files.specs.FileName.{slash_after}
 use Rattle.ira_main.proofs.program_fault.write_file_named.Goals as goal
 
 -- what stands before a name of four parts and after it

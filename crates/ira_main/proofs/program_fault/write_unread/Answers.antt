@@ -3,8 +3,8 @@ use Rattle.std.specs.Prelude.{slice_index_or}
 use Rattle.std.specs.List.{flat_map}
 use Rattle.std.proofs.lemmas.Result.{err_from_is_err_and}
 use Rattle.ira_event.proofs.Writing.{HasWritten-more, HasWritten-stops}
-use Rattle.ira_files.specs.declared.file_name.FileName.{FileName}
-use Rattle.ira_run.proofs.EndLines.{next-text}
+use Rattle.ira_main_files.specs.declared.file_name.FileName.{FileName}
+use Rattle.ira_ring_setup.proofs.EndLines.{next-text}
 use Rattle.ira_main.specs.ProgramFault.{unread_text}
 use Rattle.ira_main.proofs.program_fault.write_unread.Goals as goal
 

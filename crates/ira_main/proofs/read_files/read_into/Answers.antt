@@ -1,5 +1,5 @@
 use Rattle.std.proofs.Common.{◌≡◌, rules}
-use Rattle.ira_files.specs.FileName.{file_name}
+use Rattle.ira_main_files.specs.FileName.{file_name}
 use Rattle.ira_main.proofs.FilesRead.{of_one}
 use Rattle.ira_main.proofs.read_files.read_into.Goals as goal
 

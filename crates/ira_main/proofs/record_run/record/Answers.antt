@@ -1,8 +1,8 @@
 use Rattle.std.proofs.Common.{◌≡◌, ◌∙◌, ◌++◌, ap, inl, inr, refl, rules, subst}
 use Rattle.std.proofs.lemmas.Result.{err_from_is_err_and}
 use Rattle.ira_event.specs.Sink.{Memory, StopsIn, Takes}
-use Rattle.ira_run.specs.EndsWriter.{ends_text}
-use Rattle.ira_run.specs.declared.run_fault.RunFault.TheVariants as run
+use Rattle.ira_ring_setup.specs.EndsWriter.{ends_text}
+use Rattle.ira_ring_setup.specs.declared.run_fault.RunFault.TheVariants as run
 use Rattle.ira_main.specs.Serve.RunOutcome.{not_run, recorded, unwritten}
 use Rattle.ira_main.proofs.Asking.{asked_in_no_memory}
 use Rattle.ira_main.proofs.record_run.record.Goals as goal

@@ -1,6 +1,6 @@
 use Rattle.std.proofs.Common.{inr, refl}
 use Rattle.std.proofs.lemmas.Result.{err_from_is_err_and}
-use Rattle.ira_run.specs.declared.run_fault.RunFault.TheVariants as run
+use Rattle.ira_ring_setup.specs.declared.run_fault.RunFault.TheVariants as run
 use Rattle.ira_main.specs.Serve.RunOutcome.{not_run}
 use Rattle.ira_main.proofs.Asking.{asked_in_no_memory}
 use Rattle.ira_main.proofs.record_run.record_run_on_threads.Goals as goal

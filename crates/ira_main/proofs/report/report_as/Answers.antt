@@ -1,6 +1,6 @@
 use Rattle.std.proofs.Common.{inl, string_bytes}
-use Rattle.ira_json.specs.AnswerValue.{answer_value}
-use Rattle.ira_json.specs.Line.{IsLineOf}
+use Rattle.ira_view_json.specs.AnswerValue.{answer_value}
+use Rattle.ira_view_json.specs.Line.{IsLineOf}
 use Rattle.ira_main.proofs.Reporting.{text_reported}
 use Rattle.ira_main.proofs.report.report_as.Goals as goal
 

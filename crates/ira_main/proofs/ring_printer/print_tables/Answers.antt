@@ -4,7 +4,7 @@ use Rattle.ira_view_page.specs.Printable.{IsPrintable}
 use Rattle.ira_main.proofs.RingPrinting.{printed_after, ring_front, stopped_after, stopped_before, stopped_of, taken_of}
 use Rattle.ira_main.specs.Show.{PrintsRing}
 use Rattle.ira_main.specs.declared.program_fault.ProgramFault.TheVariants.{CannotWriteAnswer}
-use Rattle.ira_show.specs.Showed.{OfPrintable}
+use Rattle.ira_view_show.specs.Showed.{OfPrintable}
 use Rattle.ira_main.proofs.ring_printer.print_tables.Goals as goal
 
 pub returns-then-is_err : goal.returns-then-is_err

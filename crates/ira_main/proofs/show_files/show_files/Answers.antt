@@ -3,7 +3,7 @@ use Rattle.std.proofs.lemmas.List.{length-map}
 use Rattle.std.proofs.lemmas.Result.{err_from_is_err_and}
 use Rattle.ira_audit.proofs.Zipped.{zipped_length}
 use Rattle.ira_event.specs.LogText.{IsLogText}
-use Rattle.ira_files.specs.FileName.{file_name}
+use Rattle.ira_main_files.specs.FileName.{file_name}
 use Rattle.ira_main.proofs.FilesRead.{of_back, of_front}
 use Rattle.ira_main.proofs.Showing.{logs_against, shows, shows_none}
 use Rattle.ira_main.specs.FilesRead.{names_of}

@@ -1,6 +1,6 @@
 use Rattle.std.proofs.Common.{inl, string_bytes}
-use Rattle.ira_json.specs.ExplainedValue.{explained_value}
-use Rattle.ira_json.specs.Line.{IsLineOf}
+use Rattle.ira_view_json.specs.ExplainedValue.{explained_value}
+use Rattle.ira_view_json.specs.Line.{IsLineOf}
 use Rattle.ira_main.proofs.Reporting.{text_reported}
 use Rattle.ira_main.proofs.view_printer.print_view.Goals as goal
 

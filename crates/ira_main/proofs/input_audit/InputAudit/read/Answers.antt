@@ -1,7 +1,7 @@
 use Rattle.std.proofs.Common.{◌++◌, ◌+◌, ◌∙◌, ap, append_assoc, arith, drop, subst, sym, take}
 use Rattle.std.proofs.Math.Seq.{take-add}
 use Rattle.std.proofs.lemmas.List.{length-take-le}
-use Rattle.ira_files.proofs.Reading.{length-taken}
+use Rattle.ira_main_files.proofs.Reading.{length-taken}
 use Rattle.ira_main.specs.InputAudit.{InputAudit, HasReadText, bytes_read}
 use Rattle.ira_main.proofs.input_audit.InputAudit.read.Goals as goal
 

@@ -1,4 +1,0 @@
-use Rattle.ira_explain_question.proofs.clause_stop.+after_clause.Given as goal
-
-abbrev pub decreases-after_clause : goal.decreases-after_clause
-decreases-after_clause l = l.depth

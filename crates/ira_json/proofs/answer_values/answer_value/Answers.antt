@@ -1,5 +1,0 @@
-use Rattle.ira_json.proofs.Putting.{given}
-use Rattle.ira_json.proofs.answer_values.answer_value.Goals as goal
-
-pub returns : goal.returns
-returns c = given c.finish.result c.answered.ensures c.finish.ensures

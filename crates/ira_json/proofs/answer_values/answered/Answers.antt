@@ -1,8 +1,0 @@
-use Rattle.std.proofs.Common.{refl}
-use Rattle.ira_json.proofs.Putting.{◌&◌, begun, known}
-use Rattle.ira_json.proofs.answer_values.answered.Goals as goal
-
-pub returns : goal.returns
-returns c =
-    begun refl
-    (c.of-object.ensures & known _ c.answer_words.ensures c.value.ensures & c.number.ensures & c.number-2.ensures)

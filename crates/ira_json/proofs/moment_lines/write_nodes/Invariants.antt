@@ -1,6 +1,0 @@
-use Rattle.ira_event.specs.Sink.{Takes}
-use Rattle.ira_json.specs.Line.{OfLines}
-use Rattle.ira_json.proofs.moment_lines.write_nodes.Given as goal
-
-abbrev pub invariant-loop-place : goal.invariant-loop-place
-invariant-loop-place g l = OfLines (λ text. Takes text (g.W.Sink.state l.fn.sink) (g.W.Sink.state l.sink))

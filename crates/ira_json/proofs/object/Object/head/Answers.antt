@@ -1,6 +1,0 @@
-use Rattle.ira_json.proofs.Putting.{◌&◌}
-use Rattle.ira_json.proofs.object.Object.head.Goals as goal
-
-pub returns : goal.returns
-returns g c =
-    c.number.ensures & c.string.ensures & c.number-2.ensures & c.number-3.ensures & c.number-4.ensures

@@ -1,5 +1,0 @@
-use Rattle.ira_json.proofs.Putting.{◌&◌}
-use Rattle.ira_json.proofs.object.Object.sections.Goals as goal
-
-pub returns : goal.returns
-returns c = c.number.ensures & c.number-2.ensures & c.words.ensures

@@ -1,5 +1,0 @@
-use Rattle.ira_json.proofs.Putting.{◌&◌}
-use Rattle.ira_json.proofs.object.Object.state.Goals as goal
-
-pub returns : goal.returns
-returns c = c.phase.ensures & c.term.ensures & c.owed.ensures

@@ -1,9 +1,0 @@
--- There are full runs.
-use Rattle.std.specs.Prelude.{List}
-use Rattle.ira_event.specs.Log.{Log}
-use Rattle.ira_run.specs.Setup.{Setup, KeepsRules}
-use Rattle.ira_run.specs.FullRun.{AreFullLogs}
-
--- a setup that keeps the rules has a full run
-abbrev pub SetupsHaveFullRuns : Type 0
-SetupsHaveFullRuns = (s : Setup) → KeepsRules s → (logs : List Log) × AreFullLogs s logs

@@ -1,0 +1,250 @@
+-- What words ask for, by the options and names that are given after a command.
+use Rattle.std.specs.Prelude.{ℕ, Bool, List, None, Option, Some, [], codes, false, is_some, map, option_map, true}
+use Rattle.std.specs.Prelude.{◌≡◌, ◌≢◌, ◌≤◌, ◌⊎◌}
+use Rattle.std.specs.Borrow.{Bor}
+use Rattle.clap.specs.Takes.{is_given}
+use Rattle.clap.specs.Walk.{Row, Text, all_of, first_of}
+use Rattle.ira_main_cli.specs.Options.{HasNumber, HasNumbers, IsLeftOut, ListsNumbers, MayHaveNumber}
+use Rattle.ira_main_cli.specs.declared.asked_leaders.AskedLeaders.{AskedLeaders}
+use Rattle.ira_main_cli.specs.declared.asked_leaders.AskedLeaders.TheVariants.{Any, Places}
+use Rattle.ira_main_cli.specs.declared.asked_moment.AskedMoment.{AskedMoment}
+use Rattle.ira_main_cli.specs.declared.asked_moment.AskedMoment.TheVariants.{AtCut, AtEnd, OfQuestion}
+use Rattle.ira_main_cli.specs.declared.case_selection.CaseSelection.{CaseSelection}
+use Rattle.ira_main_cli.specs.declared.check_request.CheckRequest.{CheckRequest}
+use Rattle.ira_main_cli.specs.declared.decide_request.DecideRequest.{DecideRequest}
+use Rattle.ira_main_cli.specs.declared.draw_request.DrawRequest.{DrawRequest}
+use Rattle.ira_main_cli.specs.declared.each_request.EachRequest.{EachRequest}
+use Rattle.ira_main_cli.specs.declared.explain_request.ExplainRequest.{ExplainRequest}
+use Rattle.ira_main_cli.specs.declared.explained_answer.ExplainedAnswer.{ExplainedAnswer}
+use Rattle.ira_main_cli.specs.declared.explained_answer.ExplainedAnswer.TheVariants as explained
+use Rattle.ira_main_cli.specs.declared.log_source.LogSource.{LogSource}
+use Rattle.ira_main_cli.specs.declared.log_source.LogSource.TheVariants.{Files, Folder}
+use Rattle.ira_main_cli.specs.declared.logs_request.LogsRequest.{LogsRequest}
+use Rattle.ira_main_cli.specs.declared.mend_request.MendRequest.{MendRequest}
+use Rattle.ira_main_cli.specs.declared.request.Request.{Request}
+use Rattle.ira_main_cli.specs.declared.request.Request.TheVariants.{Each, Logs}
+use Rattle.ira_main_cli.specs.declared.rewrite_request.RewriteRequest.{RewriteRequest}
+use Rattle.ira_main_cli.specs.declared.run_request.RunRequest.{RunRequest}
+use Rattle.ira_main_cli.specs.declared.show_request.ShowRequest.{ShowRequest}
+
+-- ---- where logs come from
+
+-- from the files of these names, of which there is at least one, or from this folder; never both are given
+abbrev pub HasLogs : List Row → LogSource → Type 0
+HasLogs rows (Files names) =
+    (all_of (codes "LOG") rows ≡ Some (map (λ name. name.now) names.items)) × (names.items ≢ [])
+    × (first_of (codes "dir") rows ≡ None)
+HasLogs rows (Folder folder) =
+    (first_of (codes "dir") rows ≡ Some folder.now) × (all_of (codes "LOG") rows ≡ None)
+
+-- or from neither, where none are given
+abbrev pub MayHaveLogs : List Row → Option LogSource → Type 0
+MayHaveLogs rows (Some source) = HasLogs rows source
+MayHaveLogs rows None = (first_of (codes "dir") rows ≡ None) × (all_of (codes "LOG") rows ≡ None)
+
+-- names or a folder are given, and not both
+abbrev pub NamesLogs : List Row → Type 0
+NamesLogs rows = is_some (first_of (codes "dir") rows) ≢ is_some (all_of (codes "LOG") rows)
+
+-- both aren't given
+abbrev pub MayNameLogs : List Row → Type 0
+MayNameLogs rows = (first_of (codes "dir") rows ≡ None) ⊎ (all_of (codes "LOG") rows ≡ None)
+
+-- the files of these names
+abbrev pub IsOfFiles : LogSource → List (List ℕ) → Type 0
+IsOfFiles (Files names) files = map (λ name. name.now) names.items ≡ files
+IsOfFiles (Folder folder) files = ⊥
+
+-- ---- a question, and perhaps a case of it
+
+-- the question and the case are the values of these options
+pub record HasQuestion (rows : List Row) (asked : CaseSelection) : Type 0 where
+  pub question : first_of (codes "question") rows ≡ Some asked.question.now
+  pub case : MayHaveNumber rows (codes "case") asked.case
+
+-- ---- a moment of the logged run
+
+-- the moment is the one that is named: by a cut, by a question, or the end, where neither is given
+abbrev pub HasMoment : List Row → AskedMoment → Type 0
+HasMoment rows AtEnd =
+    IsLeftOut (codes "at") rows × IsLeftOut (codes "question") rows × IsLeftOut (codes "case") rows
+HasMoment rows (AtCut events) =
+    HasNumbers rows (codes "at") events.items × IsLeftOut (codes "question") rows × IsLeftOut (codes "case") rows
+HasMoment rows (OfQuestion asked) = IsLeftOut (codes "at") rows × HasQuestion rows asked
+
+-- options that go together: a cut is a list of numbers, it isn't named with a question, and a case isn't named without
+-- one
+pub record NamesMoment (rows : List Row) : Type 0 where
+  pub cut : ListsNumbers (codes "at") rows
+  pub one : IsLeftOut (codes "at") rows ⊎ IsLeftOut (codes "question") rows
+  pub question : IsLeftOut (codes "question") rows → IsLeftOut (codes "case") rows
+
+-- ---- an answer to explain
+
+-- neither a question nor anything of one is named
+pub record AsksNothing (rows : List Row) : Type 0 where
+  pub question : IsLeftOut (codes "question") rows
+  pub case : IsLeftOut (codes "case") rows
+  pub certificate : IsLeftOut (codes "cert") rows
+
+-- what is named is the question, perhaps a case of it, and the logs
+pub record HasFindings (rows : List Row) (asked : CaseSelection) (logs : LogSource) : Type 0 where
+  pub asked_is : HasQuestion rows asked
+  pub certificate : IsLeftOut (codes "cert") rows
+  pub logs_are : HasLogs rows logs
+
+-- what is named is the question, the certificate and the logs
+pub record HasCertificate (rows : List Row) (question certificate : List ℕ) (logs : LogSource) : Type 0 where
+  pub question_is : first_of (codes "question") rows ≡ Some question
+  pub case : IsLeftOut (codes "case") rows
+  pub certificate_is : first_of (codes "cert") rows ≡ Some certificate
+  pub logs_are : HasLogs rows logs
+
+-- the answer is that of what is named
+abbrev pub HasAnswer : List Row → ExplainedAnswer → Type 0
+HasAnswer rows explained.OneLog = AsksNothing rows × IsLeftOut (codes "dir") rows × (all_of (codes "LOG") rows ≡ None)
+HasAnswer rows (explained.Logs source) = AsksNothing rows × HasLogs rows source
+HasAnswer rows (explained.Findings asked logs) = HasFindings rows asked logs
+HasAnswer rows (explained.Certificate question certificate logs) = HasCertificate rows question.now certificate.now logs
+
+-- options and names that go together: the logs aren't named by both, a case or a certificate, and not both, is named
+-- with a question alone, and a question with logs alone
+pub record NamesAnswer (rows : List Row) : Type 0 where
+  pub logs : MayNameLogs rows
+  pub question : IsLeftOut (codes "question") rows → IsLeftOut (codes "case") rows × IsLeftOut (codes "cert") rows
+  pub asked_of_logs : IsLeftOut (codes "question") rows ⊎ NamesLogs rows
+  pub one : IsLeftOut (codes "case") rows ⊎ IsLeftOut (codes "cert") rows
+
+-- the answer is that of what is named, and JSON is wanted exactly where `--json` is given
+pub record HasAnswerToExplain (rows : List Row) (explain : ExplainRequest) : Type 0 where
+  pub answer : HasAnswer rows explain.answer
+  pub json : explain.is_json ≡ is_given (codes "json") rows
+
+-- ---- the other requests
+
+-- the logs come from what is named, and JSON is wanted exactly where `--json` is given
+pub record HasLogsToJudge (rows : List Row) (request : LogsRequest) : Type 0 where
+  pub json : request.is_json ≡ is_given (codes "json") rows
+  pub together : is_given (codes "each") rows ≡ false
+  pub logs : HasLogs rows request.logs
+
+-- the names are those of the folders
+pub record HasFolders (rows : List Row) (folders : List (Bor Text)) : Type 0 where
+  pub names : all_of (codes "LOG") rows ≡ Some (map (λ name. name.now) folders)
+  pub folder : IsLeftOut (codes "dir") rows
+
+-- the same where `--each` is given
+pub record HasFoldersToJudge (rows : List Row) (request : EachRequest) : Type 0 where
+  pub json : request.is_json ≡ is_given (codes "json") rows
+  pub each : is_given (codes "each") rows ≡ true
+  pub folders : HasFolders rows request.folders.items
+
+-- names are given, and no folder of one ring's logs
+abbrev pub NamesFolders : List Row → Type 0
+NamesFolders rows = IsLeftOut (codes "dir") rows × (is_some (all_of (codes "LOG") rows) ≡ true)
+
+-- where each folder is to be judged folders are named, and else logs
+pub record NamesLogsToJudge (rows : List Row) : Type 0 where
+  pub logs : NamesLogs rows
+  pub folders : is_given (codes "each") rows ≡ true → NamesFolders rows
+
+-- who is to lead: some node, where the option says `any`, or else the nodes of its numbers; nothing is asked where it is
+-- left out
+abbrev pub HasLeaders : List Row → Option AskedLeaders → Type 0
+HasLeaders rows None = IsLeftOut (codes "leads") rows
+HasLeaders rows (Some Any) = first_of (codes "leads") rows ≡ Some (codes "any")
+HasLeaders rows (Some (Places places)) = HasNumbers rows (codes "leads") places.items
+
+-- the option says `any` or lists numbers, or it is left out
+abbrev pub NamesLeaders : List Row → Type 0
+NamesLeaders rows = (first_of (codes "leads") rows ≡ Some (codes "any")) ⊎ ListsNumbers (codes "leads") rows
+
+-- the request has the values of these options, and the logs that are named beside them; events and JSON are wanted
+-- exactly where `--events` and `--json` are given
+pub record HasLogsToShow (rows : List Row) (show : ShowRequest) : Type 0 where
+  pub leads : HasLeaders rows show.leads
+  pub moment : HasMoment rows show.moment
+  pub events : show.has_events ≡ is_given (codes "events") rows
+  pub json : show.is_json ≡ is_given (codes "json") rows
+  pub logs : HasLogs rows show.logs
+
+-- options and names that go together: leaders are `any` or a list of numbers, and a moment and logs are named in one way
+pub record NamesLogsToShow (rows : List Row) : Type 0 where
+  pub leads : NamesLeaders rows
+  pub moment : NamesMoment rows
+  pub logs : NamesLogs rows
+
+-- the request has the values of these options, of which those of columns may be left out, and the logs that are named
+-- beside them
+pub record HasLogsToDraw (rows : List Row) (draw : DrawRequest) : Type 0 where
+  pub picture : first_of (codes "out") rows ≡ Some draw.picture.now
+  pub moment : HasMoment rows draw.moment
+  pub from : MayHaveNumber rows (codes "from") draw.from
+  pub to : MayHaveNumber rows (codes "to") draw.to
+  pub logs : HasLogs rows draw.logs
+
+-- options and names that go together: a moment and logs are named in one way
+pub record NamesLogsToDraw (rows : List Row) : Type 0 where
+  pub moment : NamesMoment rows
+  pub logs : NamesLogs rows
+
+-- the files are the values of these options, and the logs come from what is named beside them; the depth is 0 to 4, and
+-- JSON is wanted exactly where `--json` is given
+pub record HasFiles (rows : List Row) (check : CheckRequest) : Type 0 where
+  pub question : first_of (codes "question") rows ≡ Some check.question.now
+  pub certificate : first_of (codes "cert") rows ≡ Some check.certificate.now
+  pub depth : HasNumber rows (codes "depth") check.depth
+  pub shallow : check.depth ≤ 4
+  pub json : check.is_json ≡ is_given (codes "json") rows
+  pub logs : HasLogs rows check.logs
+
+-- the files are the values of these options, of which that of the certificate may be left out, and the logs come from
+-- what is named beside them; JSON is wanted exactly where `--json` is given
+pub record HasFilesToDecide (rows : List Row) (decide : DecideRequest) : Type 0 where
+  pub question : first_of (codes "question") rows ≡ Some decide.question.now
+  pub certificate : first_of (codes "out") rows ≡ option_map (λ name. name.now) decide.certificate
+  pub json : decide.is_json ≡ is_given (codes "json") rows
+  pub logs : HasLogs rows decide.logs
+
+-- the folder is the value of this option, and the logs come from what is named beside it
+pub record HasFilesToRewrite (rows : List Row) (rewrite : RewriteRequest) : Type 0 where
+  pub folder : first_of (codes "out") rows ≡ Some rewrite.folder.now
+  pub logs : HasLogs rows rewrite.logs
+
+-- a node is taken for an initiator: the option says so or is left out; or for a passive one, where it says so
+abbrev pub SaysStart : List Row → Bool → Type 0
+SaysStart rows true = IsLeftOut (codes "start") rows ⊎ (first_of (codes "start") rows ≡ Some (codes "initiator"))
+SaysStart rows false = first_of (codes "start") rows ≡ Some (codes "passive")
+
+-- it says one of these
+abbrev pub NamesStart : List Row → Type 0
+NamesStart rows = SaysStart rows true ⊎ SaysStart rows false
+
+-- the folder and the start are the values of these options, and the logs come from what is named beside them
+pub record HasLogsToMend (rows : List Row) (mend : MendRequest) : Type 0 where
+  pub folder : first_of (codes "out") rows ≡ Some mend.folder.now
+  pub start : SaysStart rows mend.is_initiator
+  pub logs : HasLogs rows mend.logs
+
+-- options and names that go together: the start is one of two, and logs are named in one way
+pub record NamesLogsToMend (rows : List Row) : Type 0 where
+  pub start : NamesStart rows
+  pub logs : NamesLogs rows
+
+-- the ring has the values of these options, at most 100,000 draws, and one thread exactly where `--alone` is given
+pub record HasOptions (rows : List Row) (ring : RunRequest) : Type 0 where
+  pub nodes : HasNumber rows (codes "nodes") ring.nodes
+  pub seed : HasNumber rows (codes "seed") ring.seed
+  pub folder : first_of (codes "out") rows ≡ Some ring.folder.now
+  pub initiators : MayHaveNumber rows (codes "initiators") ring.initiators
+  pub draws : HasNumber rows (codes "draws") ring.draws
+  pub few : ring.draws ≤ 100000
+  pub cap : HasNumber rows (codes "cap") ring.cap
+  pub terms : HasNumber rows (codes "terms") ring.terms
+  pub alone : ring.is_alone ≡ is_given (codes "alone") rows
+
+-- logs are to be judged together, or those of each folder
+abbrev pub AsksLogs : List Row → Request → Type 0
+AsksLogs rows (Logs request) = HasLogsToJudge rows request
+AsksLogs rows (Each request) = HasFoldersToJudge rows request
+AsksLogs rows other = ⊥

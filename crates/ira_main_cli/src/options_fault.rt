@@ -1,0 +1,76 @@
+ghost use Rattle.std.specs.Prelude.{◌≡◌};
+ghost use Rattle.clap.specs.declared.error.kind.ErrorKind.TheVariants as kind;
+
+use clap::error::ErrorKind;
+use std::alloc::AllocError;
+
+/// Why options and names that the command line takes ask for nothing.
+#[derive(Clone, Copy)]
+pub enum OptionsFault {
+    /// The logs are named both by files and by a folder, or by neither.
+    Sources,
+    /// Folders are to be judged each, and none are named, or one as that of a ring's logs.
+    Folders,
+    /// A case is named, and no question.
+    CaseWithoutQuestion,
+    /// A certificate is named, and no question.
+    CertificateWithoutQuestion,
+    /// A case and a certificate are named.
+    CaseAndCertificate,
+    /// A moment is named both by a cut and by a question.
+    CutAndQuestion,
+    /// A value isn't a list of numbers with commas between them, each below 2^64.
+    NoNumbers,
+    /// A value is neither of the two kinds of start.
+    Start,
+    /// A growth was refused.
+    OutOfMemory,
+}
+
+impl OptionsFault {
+    ghost use Rattle.ira_main_cli.specs.declared.options_fault.OptionsFault.TheVariants as options;
+
+    pub fn kind(self) -> ErrorKind
+        ensures { self ≡ options.OutOfMemory → result ≡ kind.OutOfMemory }
+    {
+        match self {
+            OptionsFault::Sources
+            | OptionsFault::Folders
+            | OptionsFault::CaseAndCertificate
+            | OptionsFault::CutAndQuestion => ErrorKind::ArgumentConflict,
+            OptionsFault::CaseWithoutQuestion | OptionsFault::CertificateWithoutQuestion => {
+                ErrorKind::MissingRequiredArgument
+            }
+            OptionsFault::NoNumbers | OptionsFault::Start => ErrorKind::ValueValidation,
+            OptionsFault::OutOfMemory => ErrorKind::OutOfMemory,
+        }
+    }
+
+    pub fn text(self) -> &'static str {
+        match self {
+            OptionsFault::Sources => "the logs are named either by <LOG>... or by --dir <DIR>",
+            OptionsFault::Folders => "--each takes the names of folders alone: --each <DIR>...",
+            OptionsFault::CaseWithoutQuestion => "--case <K> needs --question <Q>",
+            OptionsFault::CertificateWithoutQuestion => "--cert <C> needs --question <Q>",
+            OptionsFault::CaseAndCertificate => "--case <K> and --cert <C> exclude one another",
+            OptionsFault::CutAndQuestion =>
+                "--at <N0,N1,..> and --question <Q> exclude one another",
+            OptionsFault::NoNumbers => {
+                "--leads <P,..> and --at <N0,N1,..> are numbers with commas between them, as 2,3; \
+                or --leads any"
+            }
+            OptionsFault::Start => "--start <S> is initiator or passive",
+            OptionsFault::OutOfMemory => "out of memory",
+        }
+    }
+}
+
+impl From<AllocError> for OptionsFault {
+    ghost use Rattle.ira_main_cli.specs.declared.options_fault.OptionsFault.TheVariants as options;
+
+    ghost from_gives = { λ _ f. f ≡ options.OutOfMemory };
+
+    fn from(_refused: AllocError) -> OptionsFault {
+        OptionsFault::OutOfMemory
+    }
+}

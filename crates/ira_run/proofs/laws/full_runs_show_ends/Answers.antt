@@ -1,5 +1,0 @@
-use Rattle.ira_run.proofs.AgreementShown.{full_logs_show}
-use Rattle.ira_run.proofs.laws.full_runs_show_ends.Goals as goal
-
-pub returns : goal.returns
-returns c = full_logs_show

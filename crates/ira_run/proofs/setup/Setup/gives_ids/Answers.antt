@@ -1,6 +1,0 @@
-use Rattle.ira_run.proofs.Setups.{seen_ids}
-use Rattle.ira_run.proofs.setup.Setup.gives_ids.Goals as goal
-
-pub returns : goal.returns
-returns g c = seen_ids (λ v. v.items) _ _ _ _ _ _ _ c.self.view_is c.requires
-    (rw c.deref.ensures.value at c.give_ids.ensures)

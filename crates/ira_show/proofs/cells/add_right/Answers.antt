@@ -1,5 +1,0 @@
-use Rattle.ira_show.proofs.Lines.{added_whole}
-use Rattle.ira_show.proofs.cells.add_right.Goals as goal
-
-pub returns : goal.returns
-returns g c = added_whole c.new-cell.ensures c.words.ensures c.right.ensures

@@ -1,0 +1,23 @@
+//! From what was judged to what a person is told: the answer and a page after its line, or a ring at a moment, as a page, as
+//! lines of JSON or as a picture.
+#![tactic(auto)]
+
+mod explain;
+mod find_moment;
+mod findings_view;
+mod leads;
+mod question;
+mod ring_fault;
+mod shown_ring;
+mod taken;
+mod view;
+
+pub use explain::{explain_text, explain_texts};
+pub use findings_view::FindingsView;
+pub use ira_view_explain_question::AskedFiles;
+pub use leads::{differences, missing_leader};
+pub use question::{explain_certified, explain_findings};
+pub use ring_fault::RingFault;
+pub use shown_ring::ShownRing;
+pub use taken::judge_texts;
+pub use view::View;

@@ -1,0 +1,142 @@
+ghost use Rattle.std.specs.Prelude.{◌≡◌, IfOk};
+ghost use Rattle.ira_audit.specs.CheckAnswer.{IsCheckAnswer};
+ghost use Rattle.ira_audit.specs.Findings.{AreFindings, AreReportable};
+ghost use Rattle.ira_audit.specs.Judged.{IsJudged};
+ghost use Rattle.ira_audit.specs.Never.{NoCaseIsMet};
+ghost use Rattle.ira_audit.specs.QuestionFitsLogs.{QuestionFitsLogs};
+ghost use Rattle.ira_audit.specs.Report.{IsReportable};
+ghost use Rattle.ira_audit.specs.declared.answer.Answer.TheVariants.{Yes};
+ghost use Rattle.ira_view.specs.Texts.{texts_of};
+
+use crate::findings_view::FindingsView;
+use crate::view::View;
+use ira_audit::{Answer, AskedQuestion, Findings, Judged, Refusal};
+use ira_event::OutOfMemory;
+use ira_links::OpenGate;
+use ira_view_explain_question::{
+    AskedFiles, explain_found, explain_no_certificate, explain_not_asked, explain_sound,
+    explain_unsound,
+};
+use ira_view_page::NamedText;
+use std::alloc::Allocator;
+use std::sync::Wait;
+use std::thread::Threads;
+use std::time::Clock;
+
+/// How often the steps of a section are halved among threads. The answer is the same at every depth.
+const DEPTH: u8 = 2;
+
+/// Decides a question of logs that were judged, and says why what is found is so: of the case of a number, counted from
+/// 0, or of the first ones.
+pub fn explain_findings<A: Allocator + Clone>(
+    alloc: A,
+    files: AskedFiles<'_>,
+    judged: &Judged<A>,
+    case: Option<u64>,
+) -> Result<FindingsView<A>, OutOfMemory>
+    requires { IsJudged (texts_of files.logs.now) judged.now }
+    ensures found { IfOk result (λ view.
+        AreFindings (texts_of files.entry.logs.now) files.entry.question.now.text.now view.findings) }
+    ensures reportable { IfOk result (λ view. AreReportable view.findings) }
+{
+    match judged.ask(files.question.text) {
+        Ok(asked) => explain_asked(alloc, files, &asked, case),
+        Err(Refusal::No(reason)) => {
+            let explanation = explain_not_asked(alloc, files, judged, reason)?;
+            let findings = Findings::Refused(reason);
+            Ok(FindingsView {
+                findings,
+                explanation,
+            })
+        }
+        Err(Refusal::OutOfMemory) => Err(OutOfMemory),
+    }
+}
+
+/// What is found for a question that is asked of good logs, and why.
+fn explain_asked<A: Allocator + Clone>(
+    alloc: A,
+    files: AskedFiles<'_>,
+    asked: &AskedQuestion<'_, A>,
+    case: Option<u64>,
+) -> Result<FindingsView<A>, OutOfMemory>
+    requires { QuestionFitsLogs (texts_of files.logs.now) files.question.now.text.now asked.now.logs asked.now.question }
+    ensures found { IfOk result (λ view.
+        AreFindings (texts_of files.entry.logs.now) files.entry.question.now.text.now view.findings) }
+    ensures reportable { IfOk result (λ view. AreReportable view.findings) }
+{
+    let findings = asked.decide()?;
+    let explanation = explain_found(alloc, files, asked, &findings, case)?;
+    Ok(FindingsView {
+        findings,
+        explanation,
+    })
+}
+
+/// Judges a certificate for a question about logs that were judged, and says why the answer is as it is.
+pub fn explain_certified<R, A>(
+    rt: &R,
+    alloc: A,
+    files: AskedFiles<'_>,
+    certificate: &NamedText<'_>,
+    judged: &Judged<A>,
+) -> Result<View<A>, OutOfMemory>
+where
+    R: Threads + Wait + Clock + Sync,
+    A: Allocator + Clone + Send + Sync,
+    requires { IsJudged (texts_of files.logs.now) judged.now }
+    ensures answer { IfOk result (λ view. IsCheckAnswer (texts_of files.entry.logs.now)
+        files.entry.question.now.text.now certificate.now.text.now view.answer) }
+    ensures reportable { IfOk result (λ view. IsReportable view.answer) }
+    ensures never { IfOk result (λ view. view.answer ≡ Yes → NoCaseIsMet (texts_of files.entry.logs.now)
+        files.entry.question.now.text.now certificate.now.text.now) }
+{
+    match judged.ask(files.question.text) {
+        Ok(asked) => explain_check(rt, alloc, files, certificate, &asked),
+        Err(Refusal::No(reason)) => Ok(View {
+            answer: Answer::No(reason),
+            explanation: explain_not_asked(alloc, files, judged, reason)?,
+        }),
+        Err(Refusal::OutOfMemory) => Err(OutOfMemory),
+    }
+}
+
+/// Whether a certificate answers a question that is asked of good logs, and why.
+fn explain_check<R, A>(
+    rt: &R,
+    alloc: A,
+    files: AskedFiles<'_>,
+    certificate: &NamedText<'_>,
+    asked: &AskedQuestion<'_, A>,
+) -> Result<View<A>, OutOfMemory>
+where
+    R: Threads + Wait + Clock + Sync,
+    A: Allocator + Clone + Send + Sync,
+    requires { QuestionFitsLogs (texts_of files.logs.now) files.question.now.text.now asked.now.logs
+        asked.now.question }
+    ensures answer { IfOk result (λ view. IsCheckAnswer (texts_of files.entry.logs.now)
+        files.entry.question.now.text.now certificate.now.text.now view.answer) }
+    ensures reportable { IfOk result (λ view. IsReportable view.answer) }
+{
+    let read = match asked.read_certificate(certificate.text) {
+        Ok(read) => read,
+        Err(Refusal::No(reason)) => {
+            return Ok(View {
+                answer: Answer::No(reason),
+                explanation: explain_no_certificate(alloc, files, asked, certificate, reason)?,
+            });
+        }
+        Err(Refusal::OutOfMemory) => return Err(OutOfMemory),
+    };
+    match asked.check(rt, &read, DEPTH, &OpenGate) {
+        Ok(()) => Ok(View {
+            answer: Answer::Yes,
+            explanation: explain_sound(alloc, asked, &read.sections)?,
+        }),
+        Err(Refusal::No(reason)) => Ok(View {
+            answer: Answer::No(reason),
+            explanation: explain_unsound(alloc, files, asked, certificate, &read.sections, reason)?,
+        }),
+        Err(Refusal::OutOfMemory) => Err(OutOfMemory),
+    }
+}

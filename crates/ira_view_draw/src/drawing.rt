@@ -1,0 +1,180 @@
+ghost use Rattle.std.specs.Prelude.{◌≡◌, ℕ, Err, IfErr, IfOk};
+ghost use Rattle.ira_view_moment.specs.ChosenMoment.{IsMomentOf};
+ghost use Rattle.ira_view_page.specs.Printable.{IsPrintable};
+ghost use Rattle.ira_view_picture.specs.DrawFault.{HasTooManyEvents, IsDrawFault};
+
+use crate::arrows::write_arrows;
+use crate::class;
+use crate::frame::{write_columns, write_head};
+use crate::grid::Grid;
+use crate::headline::{ToldReason, reason_words};
+use crate::highlight::{Cause, Highlight, highlights};
+use crate::labels::write_labels;
+use crate::lanes::write_lanes;
+use crate::legend::{legend_foot, write_legend};
+use crate::marks::write_marks;
+use crate::moment_line::{moment_words, write_moment};
+use crate::svg::Svg;
+use ira_audit::RefusedLogs;
+use ira_event::{Logs, OutOfMemory};
+use ira_order::EventAt;
+use ira_view_moment::ChosenMoment;
+use ira_view_page::PageText;
+use ira_view_picture::{ColumnRange, DrawFault, Picture};
+use std::alloc::Allocator;
+
+/// The column of an event that is drawn.
+fn column_of<A: Allocator>(picture: &Picture<A>, at: EventAt) -> Option<u32> {
+    let lane = picture.lanes.get(usize::from(at.place))?;
+    let k = lane
+        .marks
+        .binary_search_by_key(&at.position, |mark| mark.position)
+        .ok()?;
+    lane.marks.get(k).map(|mark| mark.column)
+}
+
+/// A ring round an event, and why: away from the arrows, above the lane and to the right; below it at node 1 of two.
+fn write_highlight<A: Allocator>(
+    out: &mut Svg<A>,
+    grid: &Grid,
+    highlight: &Highlight,
+    column: u32,
+) {
+    let place = usize::from(highlight.at.place);
+    let (x, y) = (grid.x(column), grid.y(place));
+    out.open("circle", class::RING);
+    out.attribute("fill", "none");
+    out.number("cx", x);
+    out.number("cy", y);
+    out.number("r", 8);
+    out.page.words("/>");
+    let beside = if grid.nodes == 2 && place == 1 {
+        y + 24
+    } else {
+        y - 14
+    };
+    if grid.nodes == 2 {
+        out.begin_text(class::CENTRED_REMARK, x, beside);
+    } else if matches!(highlight.cause, Cause::Waits) {
+        out.begin_text(class::REMARK_BEFORE, x - 10, beside);
+    } else {
+        out.begin_text(class::REMARK, x - 4, beside);
+    }
+    highlight.cause.write(&mut out.page);
+    out.page.words("</text>\n");
+}
+
+/// What the answer speaks of.
+fn write_highlights<A: Allocator>(
+    out: &mut Svg<A>,
+    picture: &Picture<A>,
+    grid: &Grid,
+    events: &[Highlight],
+) {
+    for event in events {
+        if let Some(column) = column_of(picture, event.at) {
+            write_highlight(out, grid, event, column);
+        }
+    }
+}
+
+/// Whether one of these events is drawn.
+fn is_ringed<A: Allocator>(picture: &Picture<A>, events: &[Highlight]) -> bool {
+    events
+        .iter()
+        .any(|event| column_of(picture, event.at).is_some())
+}
+
+/// Writes what all pictures have below the marks that are particular to one: the frame, the lanes and what is on them. It
+/// gives where columns and lanes stand.
+fn write_run<A: Allocator>(
+    out: &mut Svg<A>,
+    nodes: u8,
+    picture: &Picture<A>,
+    told: Option<ToldReason<'_>>,
+) -> Grid {
+    let grid = Grid::new(nodes, picture.window.first, picture.window.last);
+    let height = legend_foot(picture, &grid).saturating_add(20);
+    write_head(out, picture, &grid, told, height);
+    write_columns(out, &grid);
+    write_lanes(out, picture, &grid);
+    write_arrows(out, picture, &grid);
+    write_marks(out, picture, &grid);
+    write_labels(out, picture, &grid);
+    grid
+}
+
+/// Whether the line of a moment, which has this column, is drawn: at the columns that are, or after the last of all.
+fn has_line<A: Allocator>(picture: &Picture<A>, column: u32) -> bool {
+    let window = picture.window;
+    let is_end = column > picture.last && window.last == picture.last;
+    is_end || (window.first <= column && column <= window.last)
+}
+
+/// Writes the legend, and ends the picture.
+fn finish<A: Allocator>(
+    mut out: Svg<A>,
+    picture: &Picture<A>,
+    grid: &Grid,
+) -> Result<PageText<A>, OutOfMemory>
+    ensures { IfOk result IsPrintable }
+{
+    write_legend(&mut out, picture, grid);
+    out.page.words("</svg>\n");
+    out.page.finish()
+}
+
+/// The text of an SVG file: a space-time diagram of the logs of a run at the columns that are asked for, with a line at the
+/// moment.
+pub fn draw<A: Allocator + Clone>(
+    alloc: A,
+    logs: &Logs<A>,
+    moment: &ChosenMoment<A>,
+    columns: ColumnRange,
+) -> Result<PageText<A>, DrawFault>
+    requires { IsMomentOf logs.now moment.now }
+    ensures printable { IfOk result IsPrintable }
+    ensures fault { IfErr result IsDrawFault }
+    ensures events { (events : ℕ) → result ≡ Err (DrawFault.TooManyEvents events)
+        → HasTooManyEvents logs.now columns.from columns.to events }
+{
+    let ColumnRange { from, to } = columns;
+    let picture = Picture::of(alloc.clone()?, logs, moment.cut(), from, to)?;
+    let words = moment_words(alloc.clone()?, moment)?;
+    let mut out = Svg::new(alloc);
+    let grid = write_run(&mut out, logs.size().get(), &picture, None);
+    match picture.line {
+        Some(column) if has_line(&picture, column) => {
+            write_moment(&mut out, &grid, column, words.bytes(), moment.case());
+        }
+        _ => {}
+    }
+    Ok(finish(out, &picture, &grid)?)
+}
+
+/// The same of the logs of no run: what the reason against them speaks of is marked.
+pub fn draw_refused<A: Allocator + Clone>(
+    alloc: A,
+    refused: &RefusedLogs<A>,
+    columns: ColumnRange,
+) -> Result<PageText<A>, DrawFault>
+    ensures printable { IfOk result IsPrintable }
+    ensures fault { IfErr result IsDrawFault }
+    ensures events { (events : ℕ) → result ≡ Err (DrawFault.TooManyEvents events)
+        → HasTooManyEvents refused.now.logs columns.from columns.to events }
+{
+    let ColumnRange { from, to } = columns;
+    let logs = refused.logs();
+    let picture = Picture::of(alloc.clone()?, logs, None, from, to)?;
+    let events = highlights(alloc.clone()?, refused)?;
+    let words = reason_words(alloc.clone()?, refused.reason())?;
+    let told = ToldReason {
+        reason: refused.reason(),
+        words: words.bytes(),
+        is_ringed: is_ringed(&picture, &events),
+    };
+    let mut out = Svg::new(alloc);
+    let grid = write_run(&mut out, logs.size().get(), &picture, Some(told));
+    write_highlights(&mut out, &picture, &grid, &events);
+    Ok(finish(out, &picture, &grid)?)
+}

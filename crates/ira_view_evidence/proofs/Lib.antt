@@ -1,0 +1,14 @@
+pub mod Around
+pub mod OriginLaws
+pub mod OriginLists
+pub mod Circles
+pub mod Counted
+pub mod Eliminations
+pub mod Fronts
+pub mod LastStates
+pub mod Prefixes
+pub mod RingOrders
+pub mod Sides
+pub mod StatesAfter
+pub mod StuckNodes
+pub mod Unspents

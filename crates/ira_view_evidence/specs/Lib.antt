@@ -1,0 +1,15 @@
+pub mod Absence
+pub mod Origin
+pub mod CircleEvidence
+pub mod Elimination
+pub mod Exchange
+pub mod Laws
+pub mod LinkCause
+pub mod LinkEvidence
+pub mod LoadDifference
+pub mod LogBetween
+pub mod NodeEvidence
+pub mod RingOrder
+pub mod SectionEvidence
+pub mod LinkSide
+pub mod StuckNodes

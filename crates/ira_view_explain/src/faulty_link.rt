@@ -1,0 +1,69 @@
+ghost use Rattle.std.specs.Prelude.{◌<◌, length};
+ghost use Rattle.ira_order.specs.MatchFault.{IsMatchFault};
+
+use crate::ring_files::RingFiles;
+use ira_event::{Logs, OutOfMemory};
+use ira_order::{MatchFault, successor};
+use ira_view_evidence::{Exchange, LinkEvidence, LinkSides};
+use ira_view_page::file_of;
+use std::alloc::Allocator;
+
+/// A link with a receipt that doesn't match.
+#[derive(Drop)]
+pub(crate) struct FaultyLink<'a, 'l, A: Allocator> {
+    pub(crate) alloc: &'l A,
+    pub(crate) logs: &'a Logs<A>,
+    /// Its writer's place.
+    pub(crate) link: u8,
+    /// Its reader's place.
+    pub(crate) reader: u8,
+    pub(crate) writer_file: &'a str,
+    pub(crate) reader_file: &'a str,
+    /// The number of the receipt.
+    pub(crate) k: u32,
+    pub(crate) receipt: Exchange,
+    /// The sending of that number, where there is one.
+    pub(crate) sending: Option<Exchange>,
+    /// All that its nodes recorded of it.
+    pub(crate) sides: LinkSides<&'l A>,
+    ghost writer_is_there: { link < length logs.now },
+    ghost reader_is_there: { reader < length logs.now },
+}
+
+/// The link and the receipt that a fault names.
+fn receipt_of<A: Allocator>(logs: &Logs<A>, fault: MatchFault) -> (u8, u32)
+    requires { IsMatchFault logs.now fault }
+    ensures { result.0 < length logs.now }
+{
+    match fault {
+        MatchFault::NoSending { link, k } | MatchFault::Differs { link, k } => (link, k),
+    }
+}
+
+impl<'a, 'l, A: Allocator> FaultyLink<'a, 'l, A> {
+    /// The one that a fault of the logs names.
+    pub(crate) fn of_fault(
+        ring: &RingFiles<'a, 'l, A>,
+        fault: MatchFault,
+    ) -> Result<FaultyLink<'a, 'l, A>, OutOfMemory>
+        requires { IsMatchFault ring.now.logs.now fault }
+    {
+        let logs = ring.logs;
+        let LinkEvidence { receipt, sending } = LinkEvidence::of_fault(logs, fault);
+        let (link, k) = receipt_of(logs, fault);
+        let reader = successor(logs.size().get(), link);
+        let sides = LinkSides::of_link(ring.alloc, logs, link)?;
+        Ok(FaultyLink {
+            alloc: ring.alloc,
+            logs,
+            link,
+            reader,
+            writer_file: file_of(ring.files, link),
+            reader_file: file_of(ring.files, reader),
+            k,
+            receipt,
+            sending,
+            sides,
+        })
+    }
+}

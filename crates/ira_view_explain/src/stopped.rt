@@ -1,0 +1,409 @@
+ghost use Rattle.std.specs.Prelude.{◌≡◌, IfSome};
+ghost use Rattle.ira_node.specs.NodeStep.{NodeStep};
+ghost use Rattle.ira_node.specs.declared.node_state.NodeState.{NodeState};
+ghost use Rattle.ira_view_page.specs.Printable.{IsPrintable};
+
+use crate::numbered::numbered;
+use crate::rule::Rule;
+use ira_event::{Event, Load, Msg, NodeLog, RingSize};
+use ira_node::{NodeState, Phase, StepFault};
+use ira_view_evidence::NodeEvidence;
+use ira_view_page::{Page, event_of, line_of};
+use std::alloc::Allocator;
+
+/// An event without a step, with the state and the event before it.
+#[derive(Clone, Copy)]
+pub(crate) struct Stopped {
+    /// The ring's size.
+    nodes: u8,
+    position: u32,
+    pub(crate) event: Event,
+    pub(crate) fault: StepFault,
+    pub(crate) state: NodeState,
+    /// The event before it, and the state before that one.
+    last: Option<(NodeState, Event)>,
+    /// The event after it.
+    next: Option<Event>,
+    /// What the node would owe after that one, did it come in place of the event.
+    called: Option<Load>,
+    /// The event after it that sends what is owed.
+    sent_later: Option<u32>,
+    /// Where the log first has a sending that begins clean.
+    first_clean: Option<u32>,
+}
+
+impl Stopped {
+    /// What the evidence of a log says.
+    pub(crate) fn of<A: Allocator>(
+        log: &NodeLog<A>,
+        evidence: &NodeEvidence<A>,
+    ) -> Option<Stopped> {
+        let position = evidence.fault.position;
+        let (state, earlier) = evidence.states.as_slice().split_last()?;
+        let last = match (earlier.last(), event_of(log, position.saturating_sub(1))) {
+            (Some(before), Some(event)) => Some((*before, event)),
+            _ => None,
+        };
+        Some(Stopped {
+            nodes: log.nodes().get(),
+            position,
+            event: event_of(log, position)?,
+            fault: evidence.fault.fault,
+            state: *state,
+            last,
+            next: event_of(log, position.saturating_add(1)),
+            called: called_for(log, *state, position.saturating_add(1)),
+            sent_later: sending_after(log, position, state.owed),
+            first_clean: first_clean_start(log),
+        })
+    }
+
+    /// Adds what is due in place of the event, or why it can't be there.
+    pub(crate) fn add_due<A: Allocator>(&self, text: &mut Page<A>) {
+        match self.fault {
+            StepFault::Owes | StepFault::NotOwed => self.add_debt(text),
+            StepFault::NotChoosing => text.words("only a choosing node draws"),
+            StepFault::DrawRange => numbered(text, "an ID is 1 to ", u32::from(self.nodes)),
+            StepFault::MustDraw => text.words("`draw` is due"),
+            StepFault::Ended => text.words("it leads"),
+            StepFault::HopPast => self.add_past(text),
+            StepFault::HopLimit => text.words("the hop is to be raised"),
+            StepFault::RoundLimit => text.words("the round is to be raised"),
+            StepFault::NotLeader => text.words("only a leader yields"),
+            StepFault::WrongReset => self.add_reset(text),
+            StepFault::NotReset => self.add_due_reset(text),
+            StepFault::TermLimit => text.words("the term is to be raised"),
+        }
+    }
+
+    fn add_due_reset<A: Allocator>(&self, text: &mut Page<A>) {
+        numbered(text, "`recv reset ", u32::from(self.nodes));
+        text.words("` is due");
+    }
+
+    fn add_debt<A: Allocator>(&self, text: &mut Page<A>) {
+        match (self.state.owed, self.state.phase) {
+            (Some(load), _) => {
+                text.words("`send ");
+                text.load(load);
+                text.words("` is due");
+            }
+            (None, Phase::Choosing { .. }) => text.words("it owes nothing, `draw` is due"),
+            (None, Phase::Yielding) => {
+                text.words("it owes nothing, ");
+                self.add_due_reset(text);
+            }
+            (None, _) => text.words("it owes nothing"),
+        }
+    }
+
+    fn add_past<A: Allocator>(&self, text: &mut Page<A>) {
+        if let Event::Got(Load::Msg(message)) = self.event {
+            numbered(text, "its own pair with hop ", message.hop);
+            text.words(", and ");
+        }
+        numbered(text, "N is ", u32::from(self.nodes));
+    }
+
+    fn add_reset<A: Allocator>(&self, text: &mut Page<A>) {
+        let nodes = u32::from(self.nodes);
+        match self.state.phase {
+            Phase::Passive => numbered(
+                text,
+                "a passive node takes a reset with a hop below ",
+                nodes,
+            ),
+            Phase::Yielding => numbered(text, "its reset comes back with hop ", nodes),
+            _ => text.words("an active node takes no reset"),
+        }
+    }
+
+    /// The rules that say what is due in place of the event: one or two.
+    pub(crate) fn rules(&self) -> (Rule, Option<Rule>) {
+        match self.fault {
+            StepFault::Owes | StepFault::NotOwed => self.debt_rules(),
+            StepFault::NotChoosing => (self.draw_rule(), None),
+            StepFault::DrawRange => (Rule::Draws, None),
+            StepFault::MustDraw => self.choice_rules(),
+            StepFault::Ended => (Rule::Leads, Some(Rule::LeaderEnds)),
+            StepFault::HopPast => (Rule::OwnPastRing, None),
+            StepFault::HopLimit => (Rule::HopLimit, None),
+            StepFault::RoundLimit => (Rule::RoundLimit, None),
+            StepFault::NotLeader => (Rule::OnlyLeaderYields, None),
+            StepFault::WrongReset => (Rule::TakesReset, None),
+            StepFault::NotReset => (Rule::WaitsForReset, None),
+            StepFault::TermLimit => (Rule::TermLimit, None),
+        }
+    }
+
+    fn debt_rules(&self) -> (Rule, Option<Rule>) {
+        if self.state.owed.is_some() {
+            return (Rule::OwesNext, self.last.and_then(debt_rule));
+        }
+        let rule = match (self.state.phase, self.last) {
+            (Phase::Choosing { .. }, Some((_, Event::Got(Load::Reset(_))))) if self.sends_reset() =>
+                { Rule::ResetComesHome }
+            (Phase::Choosing { .. }, _) => Rule::Draws,
+            (Phase::Active { .. }, Some((_, Event::Got(_)))) => Rule::Drops,
+            (Phase::Yielding, _) => Rule::WaitsForReset,
+            _ => Rule::SendsDebtsAlone,
+        };
+        (rule, None)
+    }
+
+    /// Why a node that draws isn't choosing.
+    fn draw_rule(&self) -> Rule {
+        match self.state.phase {
+            Phase::Yielding => Rule::WaitsForReset,
+            _ if self.position == 1 => Rule::Begins,
+            _ => Rule::MayChooseAgain,
+        }
+    }
+
+    /// Why a node that receives has to draw.
+    fn choice_rules(&self) -> (Rule, Option<Rule>) {
+        match (self.state.phase, self.state.term) {
+            (Phase::Choosing { round: 1 }, 1) => (Rule::Draws, None),
+            (Phase::Choosing { round: 1 }, _) => (Rule::BeginsTerm, Some(Rule::Draws)),
+            _ => (Rule::ChoosesAgain, Some(Rule::Draws)),
+        }
+    }
+
+    fn sends_reset(&self) -> bool {
+        matches!(self.event, Event::Sent(Load::Reset(_)))
+    }
+
+    /// Adds a usual cause, where something that the log says points to it, and tells whether there is one.
+    pub(crate) fn add_cause<A: Allocator>(&self, text: &mut Page<A>) -> bool {
+        let nodes = u32::from(self.nodes);
+        match (self.fault, self.event, self.state.phase) {
+            (StepFault::NotOwed, Event::Sent(sent), _) => return self.add_sending_cause(text, sent),
+            (StepFault::NotChoosing, _, Phase::Yielding) => {
+                numbered(
+                    text,
+                    "its reset is not back yet: the node draws after `recv reset ",
+                    nodes,
+                );
+                text.words("`.");
+            }
+            (StepFault::NotChoosing, _, _) if self.position == 1 => {
+                text.words("a node that begins by itself has `start initiator` on line 4.");
+            }
+            (StepFault::MustDraw, _, _) if self.position == 1 => {
+                text.words("a node that a message woke has `start passive` on line 4.");
+            }
+            (StepFault::MustDraw, _, _) if self.state.term > 1 => {
+                text.words("after a reset each node draws, initiator or not.");
+            }
+            (StepFault::DrawRange, _, _) => {
+                numbered(text, "IDs are 1 to N, and N is ", nodes);
+                text.words(" (line 2).");
+            }
+            (StepFault::Ended, Event::Got(_), _) => {
+                text.words("what a leader finds on its link is not recorded.");
+            }
+            (StepFault::Ended, Event::Sent(Load::Reset(1)), _) => {
+                text.words("the `yield` is recorded too, in front of its `send reset 1`.");
+            }
+            (StepFault::Owes, Event::Got(_), _) => self.add_unsent(text),
+            (StepFault::Owes, Event::Draw(_), _) if self.owes_reset() => {
+                text.words("a reset is passed on before the node draws in the new term");
+                text.words(if self.sent_later.is_some() {
+                    "."
+                } else {
+                    "; by its log the node never passed it on."
+                });
+            }
+            (StepFault::NotLeader, _, Phase::Yielding) => {
+                text.words("it has yielded in this term already.");
+            }
+            (StepFault::NotLeader, _, Phase::Active { round, id }) if self.leads_next(round, id) =>
+                {
+                    text.words("the receipt by which it leads stands after the yield, on line ");
+                    text.number(self.next_line());
+                    text.words(": record it as soon as the message is taken.");
+                }
+            _ => return false,
+        }
+        true
+    }
+
+    /// Adds where what is owed was sent, or that by its log the node never sent it.
+    fn add_unsent<A: Allocator>(&self, text: &mut Page<A>) {
+        match (self.sent_later, self.last.and_then(debt_rule)) {
+            (Some(later), _) => {
+                text.words("that sending stands on line ");
+                text.number(line_of(later) as u64);
+                text.words(": a message is passed on before the next one is taken.");
+            }
+            (None, Some(Rule::GivesIn)) => text.words(
+                "that sending stands nowhere below: by its log the node dropped a message whose pair is greater than \
+                 its own.",
+            ),
+            (None, _) => text.words(
+                "that sending stands nowhere below: by its log the node never made it.",
+            ),
+        }
+    }
+
+    /// The line of the event after it.
+    fn next_line(&self) -> u64 {
+        line_of(self.position.saturating_add(1)) as u64
+    }
+
+    fn owes_reset(&self) -> bool {
+        matches!(self.state.owed, Some(Load::Reset(_)))
+    }
+
+    /// Whether the event after it is the receipt by which an active node with this pair leads.
+    fn leads_next(&self, round: u32, id: u32) -> bool {
+        let home = Msg {
+            round,
+            id,
+            hop: u32::from(self.nodes),
+            dirty: false,
+        };
+        self.next == Some(Event::Got(Load::Msg(home)))
+    }
+
+    /// What a node may have done that sent one load and owed another.
+    fn debt_cause(&self, sent: Load, owed: Load) -> Option<&'static str>
+        ensures { IfSome result (λ words. IsPrintable words.now) }
+    {
+        match (sent, owed) {
+            (Load::Msg(sent), Load::Msg(owed)) => self.message_cause(sent, owed),
+            (Load::Reset(sent), Load::Reset(owed)) => hop_cause(sent, owed),
+            _ => None,
+        }
+    }
+
+    fn message_cause(&self, sent: Msg, owed: Msg) -> Option<&'static str>
+        ensures { IfSome result (λ words. IsPrintable words.now) }
+    {
+        if (sent.round, sent.id) != (owed.round, owed.id) {
+            return None;
+        }
+        if sent.dirty == owed.dirty {
+            return hop_cause(sent.hop, owed.hop);
+        }
+        match (sent.hop, owed.hop, self.first_clean) {
+            (1, 1, None) => Some("the bit means the contrary: `clean` is \"unique so far\"."),
+            (1, 1, Some(first)) if first < self.position => {
+                Some("the bit was kept from an earlier round: each own message starts clean.")
+            }
+            (hop, due, _) if hop == due => Some("only the bit differs."),
+            _ => None,
+        }
+    }
+
+    /// Adds what a sending that isn't owed may come from, and tells whether something points to it.
+    fn add_sending_cause<A: Allocator>(&self, text: &mut Page<A>, sent: Load) -> bool {
+        if self.called == Some(sent) {
+            text.words("the receipt on line ");
+            text.number(self.next_line());
+            text.words(
+                " calls for this sending, and is recorded after it: record a message as soon as it is taken.",
+            );
+            return true;
+        }
+        match (self.state.owed, self.state.phase, sent) {
+            (Some(owed), _, _) => match self.debt_cause(sent, owed) {
+                Some(words) => text.words(words),
+                None => return false,
+            },
+            (None, Phase::Choosing { .. }, Load::Msg(Msg { id, hop: 1, .. })) => {
+                numbered(text, "a draw of ", id);
+                text.words(" may not be recorded, or stands after its sending.");
+            }
+            (None, Phase::Choosing { .. }, Load::Reset(_)) => {
+                text.words("its own reset is back: the node that yielded takes it off the ring.");
+            }
+            _ => return false,
+        }
+        true
+    }
+}
+
+/// The rule by which an event in a state led to a debt.
+fn debt_rule((before, event): (NodeState, Event)) -> Option<Rule> {
+    match (event, before.phase) {
+        (Event::Draw(_), _) => Some(Rule::Draws),
+        (Event::Yield, _) => Some(Rule::Yields),
+        (Event::Got(Load::Reset(_)), _) => Some(Rule::PassesReset),
+        (Event::Got(Load::Msg(met)), Phase::Active { round, id }) => {
+            Some(if (met.round, met.id) > (round, id) {
+                Rule::GivesIn
+            } else {
+                Rule::PassesOwn
+            })
+        }
+        (Event::Got(Load::Msg(_)), _) => Some(Rule::PassesOn),
+        (Event::Sent(_), _) => None,
+    }
+}
+
+/// What a node in this state owes after an event, in a ring of so many nodes.
+fn owed_after(nodes: RingSize, state: NodeState, event: Event) -> Option<Load>
+    ensures { (t : NodeState) → NodeStep nodes state event t → result ≡ t.owed }
+{
+    match state.step(nodes, &event) {
+        Ok(after) => after.owed,
+        Err(_) => None,
+    }
+}
+
+/// What a node in this state would owe after the event of this number, where that is a receipt.
+fn called_for<A: Allocator>(log: &NodeLog<A>, state: NodeState, position: u32) -> Option<Load> {
+    match event_of(log, position) {
+        Some(event @ Event::Got(_)) => owed_after(log.nodes(), state, event),
+        _ => None,
+    }
+}
+
+/// The first event of a log after this one that sends this load.
+fn sending_after<A: Allocator>(log: &NodeLog<A>, position: u32, load: Option<Load>) -> Option<u32> {
+    let sending = Event::Sent(load?);
+    let mut number = 0u32;
+    for event in log.events() {
+        number = number.saturating_add(1);
+        if number > position && event == sending {
+            return Some(number);
+        }
+    }
+    None
+}
+
+/// The first sending of a log with hop 1 that is clean.
+fn first_clean_start<A: Allocator>(log: &NodeLog<A>) -> Option<u32> {
+    let mut position = 0u32;
+    for event in log.events() {
+        position = position.saturating_add(1);
+        if let Event::Sent(
+            Load::Msg(
+                Msg {
+                    hop: 1,
+                    dirty: false,
+                    ..
+                },
+            ),
+        ) = event
+        {
+            return Some(position);
+        }
+    }
+    None
+}
+
+fn hop_cause(sent: u32, owed: u32) -> Option<&'static str>
+    ensures { IfSome result (λ words. IsPrintable words.now) }
+{
+    if owed == 1 {
+        Some("hops begin at 1, with what a node sends of its own.")
+    } else if sent.saturating_add(1) == owed {
+        Some("the hop is not raised.")
+    } else if owed.saturating_add(1) == sent {
+        Some("the hop is raised twice.")
+    } else {
+        None
+    }
+}

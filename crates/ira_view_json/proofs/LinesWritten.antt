@@ -1,0 +1,110 @@
+-- Lines that are written one after the other.
+use Rattle.std.proofs.Common.{◌≡◌, ◌∙◌, ℕ, List, [], ◌∷◌, ◌++◌, Option, Result, Ok, Err, IfOk, ap, inl, inr, refl}
+use Rattle.std.specs.Prelude.{codes}
+use Rattle.serde_json.specs.Data.{Data, object}
+use Rattle.serde_json.specs.View.{members_view, view}
+use Rattle.serde_json.specs.declared.value.Value.{Value}
+use Rattle.ira_event.specs.Sink.{SinkState, StopsIn, Takes}
+use Rattle.ira_event.proofs.Writing.{Appends-nothing, Takes-append, Takes-StopsIn}
+use Rattle.ira_view_page.specs.declared.show_fault.ShowFault.{ShowFault}
+use Rattle.ira_view_page.specs.declared.show_fault.ShowFault.TheVariants.{OutOfMemory, Write}
+use Rattle.ira_view_json.specs.Line.{AreLines, IsLineOf, OfLines, WroteLine, WroteLines}
+use Rattle.ira_view_json.specs.Members.{with_number, with_words}
+use Rattle.ira_view_json.specs.Object.{Entries, Gives, Puts}
+use Rattle.ira_view_json.specs.ShownAnswer.{IsRingText, IsYes, OfRingText, WroteRing}
+use Rattle.ira_view_json.proofs.LineTexts.{lines_append, no_lines, one_line}
+
+pub none_are_lines : AreLines []
+none_are_lines = ([], no_lines)
+
+-- a line more
+pub add_line : (text line : List ℕ) (value : Data) → AreLines text → IsLineOf value line → AreLines (text ++ line)
+add_line text line value are is =
+    (are.0 ++ value ∷ [], lines_append are.0 (value ∷ []) text line are.1 (one_line value line is))
+
+-- nothing was taken yet
+pub none_taken : (s : SinkState) → OfLines (λ text. Takes text s s)
+none_taken s = ([], none_are_lines, record { took = Appends-nothing s.taken; same = refl })
+
+pub none_wrote : {T : Type 0} (r : Result T ShowFault) (s : SinkState) → r ≡ Err OutOfMemory → WroteLines r s s
+none_wrote r s is = rw is (none_taken s)
+
+-- further lines were taken
+pub more_taken : (s t u : SinkState) → OfLines (λ text. Takes text s t) → OfLines (λ text. Takes text t u)
+    → OfLines (λ text. Takes text s u)
+more_taken s t u so_far more = (
+  so_far.0 ++ more.0,
+  (so_far.1.0 ++ more.1.0, lines_append so_far.1.0 more.1.0 so_far.0 more.0 so_far.1.1 more.1.1),
+  Takes-append s t u so_far.0 more.0 so_far.2 more.2,
+)
+
+-- and where the sink failed a first part of some
+pub part_taken : (s t u : SinkState) → OfLines (λ text. Takes text s t) → OfLines (λ text. StopsIn text t u)
+    → OfLines (λ text. StopsIn text s u)
+part_taken s t u so_far more = (
+  so_far.0 ++ more.0,
+  (so_far.1.0 ++ more.1.0, lines_append so_far.1.0 more.1.0 so_far.0 more.0 so_far.1.1 more.1.1),
+  Takes-StopsIn s t u so_far.0 more.0 so_far.2 more.2,
+)
+
+-- after lines, whatever came of the next ones
+pub wrote_then : {T : Type 0} (r : Result T ShowFault) (s t u : SinkState) → OfLines (λ text. Takes text s t)
+    → WroteLines r t u → WroteLines r s u
+wrote_then (Ok v) s t u so_far more = more_taken s t u so_far more
+wrote_then (Err OutOfMemory) s t u so_far more = more_taken s t u so_far more
+wrote_then (Err Write) s t u so_far more = part_taken s t u so_far more
+
+pub failed_then : {T : Type 0} (r : Result T ShowFault) (f : ShowFault) (s t u : SinkState) → r ≡ Err f
+    → OfLines (λ text. Takes text s t) → WroteLines {T = T} (Err f) t u → WroteLines r s u
+failed_then {T} r f s t u is so_far more = rw is (wrote_then {T = T} (Err f) s t u so_far more)
+
+-- an object that was told the status, and then that the answer is yes
+pub says_yes : {E : Type 0} {a b c : Option Entries} (r : Result Value E) (status : ℕ)
+    → Puts (with_number (codes "status") status) a b → Puts (with_words (codes "answer") (codes "yes")) b c → Gives c r
+    → IfOk r (λ value. IsYes status (view value))
+says_yes (Ok value) status p q gives =
+    let r = q.ends gives.0 gives.1 in
+    let s = p.ends r.0 r.1 in
+    (members_view s.0, gives.2 ∙ ap object (r.2 ∙ ap (with_words (codes "answer") (codes "yes")) s.2))
+says_yes (Err e) status p q gives = tt
+
+-- the answer alone
+answer_text : (status : ℕ) (value : Data) (line : List ℕ) → IsYes status value → IsLineOf value line
+    → IsRingText status line
+answer_text status value line says is =
+    record { first = value; rest = []; answer = says; lines = one_line value line is }
+
+pub answered : {T : Type 0} (r : Result T ShowFault) (status : ℕ) (value : Data) (s t : SinkState) → IsYes status value
+    → WroteLine r value s t → WroteRing status r s t
+answered (Ok v) status value s t says is = (is.0, answer_text status value is.0 says is.1, is.2)
+answered (Err OutOfMemory) status value s t says is = inl is
+answered (Err Write) status value s t says is = (is.0, answer_text status value is.0 says is.1, is.2)
+
+-- the answer, and lines after it
+ring_text : (status : ℕ) (text rest : List ℕ) → IsRingText status text → AreLines rest
+    → IsRingText status (text ++ rest)
+ring_text status text rest is more = record {
+  first = is.first;
+  rest = is.rest ++ more.0;
+  answer = is.answer;
+  lines = lines_append (is.first ∷ is.rest) more.0 text rest is.lines more.1;
+}
+
+pub ring_then : {T : Type 0} (r : Result T ShowFault) (status : ℕ) (s t u : SinkState)
+    → OfRingText status (λ text. Takes text s t) → WroteLines r t u → WroteRing status r s u
+ring_then (Ok v) status s t u so_far more = (
+  so_far.0 ++ more.0,
+  ring_text status so_far.0 more.0 so_far.1 more.1,
+  Takes-append s t u so_far.0 more.0 so_far.2 more.2,
+)
+ring_then (Err OutOfMemory) status s t u so_far more =
+    inr (
+      so_far.0 ++ more.0,
+      ring_text status so_far.0 more.0 so_far.1 more.1,
+      Takes-append s t u so_far.0 more.0 so_far.2 more.2,
+    )
+ring_then (Err Write) status s t u so_far more = (
+  so_far.0 ++ more.0,
+  ring_text status so_far.0 more.0 so_far.1 more.1,
+  Takes-StopsIn s t u so_far.0 more.0 so_far.2 more.2,
+)

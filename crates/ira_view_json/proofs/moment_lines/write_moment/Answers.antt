@@ -1,0 +1,36 @@
+use Rattle.std.proofs.Common.{◌≡◌, Err, rules}
+use Rattle.ira_view_json.proofs.LinesWritten.{failed_then, more_taken, wrote_then}
+use Rattle.ira_view_json.proofs.moment_lines.write_moment.Goals as goal
+
+pub returns-in_err-write_nodes : goal.returns-in_err-write_nodes
+returns-in_err-write_nodes g c =
+    let r = c.from_residual-in_err-write_nodes.result in
+    let is : r ≡ Err c.in_err-write_nodes.field-0.0 = search rules in
+    failed_then r c.in_err-write_nodes.field-0.0 (g.W.Sink.state c.args.sink.now)
+    (g.W.Sink.state c.write_rounds.new.sink) (g.W.Sink.state c.write_nodes.new.sink) is c.in_ok-write_rounds.ensures
+    c.in_err-write_nodes.ensures
+
+pub returns-in_err-write_links : goal.returns-in_err-write_links
+returns-in_err-write_links g c =
+    let r = c.from_residual-in_err-write_links.result in
+    let is : r ≡ Err c.in_err-write_links.field-0.0 = search rules in
+    let so_far =
+    more_taken (g.W.Sink.state c.args.sink.now) (g.W.Sink.state c.write_rounds.new.sink)
+    (g.W.Sink.state c.write_nodes.new.sink) c.in_ok-write_rounds.ensures c.in_ok-write_nodes.ensures
+    in
+    failed_then r c.in_err-write_links.field-0.0 (g.W.Sink.state c.args.sink.now)
+    (g.W.Sink.state c.write_nodes.new.sink) (g.W.Sink.state c.write_links.new.sink) is so_far
+    c.in_err-write_links.ensures
+
+pub returns : goal.returns
+returns g c =
+    let nodes =
+    more_taken (g.W.Sink.state c.args.sink.now) (g.W.Sink.state c.write_rounds.new.sink)
+    (g.W.Sink.state c.write_nodes.new.sink) c.in_ok-write_rounds.ensures c.in_ok-write_nodes.ensures
+    in
+    let so_far =
+    more_taken (g.W.Sink.state c.args.sink.now) (g.W.Sink.state c.write_nodes.new.sink)
+    (g.W.Sink.state c.write_links.new.sink) nodes c.in_ok-write_links.ensures
+    in
+    wrote_then c.flush.result (g.W.Sink.state c.args.sink.now) (g.W.Sink.state c.write_links.new.sink)
+    (g.W.Sink.state c.flush.new.sink) so_far c.flush.ensures

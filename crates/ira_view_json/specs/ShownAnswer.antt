@@ -1,0 +1,32 @@
+-- What is written of good logs: an answer, and lines after it.
+use Rattle.std.specs.Prelude.{◌≡◌, ◌⊎◌, ℕ, List, ◌∷◌, Result, Ok, Err, codes}
+use Rattle.serde_json.specs.Data.{Data, Members, object}
+use Rattle.ira_event.specs.Sink.{SinkState, StopsIn, Takes}
+use Rattle.ira_view_page.specs.declared.show_fault.ShowFault.{ShowFault}
+use Rattle.ira_view_page.specs.declared.show_fault.ShowFault.TheVariants.{OutOfMemory, Write}
+use Rattle.ira_view_json.specs.Line.{AreLinesOf}
+use Rattle.ira_view_json.specs.Members.{with_number, with_words}
+
+-- the value is an object that says yes, with this status
+abbrev pub IsYes : ℕ → Data → Type 0
+IsYes status value =
+    (others : Members)
+    × (value ≡ object (with_words (codes "answer") (codes "yes") (with_number (codes "status") status others)))
+
+-- the text is the line of a yes with this status, and then lines
+pub record IsRingText (status : ℕ) (text : List ℕ) : Type 0 where
+  pub first : Data
+  pub rest : List Data
+  pub answer : IsYes status first
+  pub lines : AreLinesOf (first ∷ rest) text
+
+-- this holds of some such text
+abbrev pub OfRingText : ℕ → (List ℕ → Type 0) → Type 0
+OfRingText status P = (text : List ℕ) × IsRingText status text × P text
+
+-- the sink took such a text, also where memory ran out, if not before its first line; or, where the sink failed, a
+-- first part of one
+abbrev pub WroteRing : {T : Type 0} → ℕ → Result T ShowFault → SinkState → SinkState → Type 0
+WroteRing status (Ok v) old new = OfRingText status (λ text. Takes text old new)
+WroteRing status (Err OutOfMemory) old new = (new ≡ old) ⊎ OfRingText status (λ text. Takes text old new)
+WroteRing status (Err Write) old new = OfRingText status (λ text. StopsIn text old new)

@@ -1,0 +1,116 @@
+ghost use Rattle.std.specs.Prelude.{◌∷◌, IfOk, map, string_bytes};
+ghost use Rattle.std.specs.List.{enumerate_from};
+ghost use Rattle.serde_json.specs.View.{view};
+ghost use Rattle.ira_audit.specs.Findings.{AreReportable};
+ghost use Rattle.ira_audit.specs.Report.{IsReportable};
+ghost use Rattle.ira_view_json.specs.AnswerValue.{answer_value, cases_values};
+ghost use Rattle.ira_view_json.specs.ExplainedFindings.{explained_case, explained_findings};
+ghost use Rattle.ira_view_json.specs.ExplainedValue.{explained_value};
+ghost use Rattle.ira_view_json.specs.Line.{AreLinesOf, IsLineOf};
+
+use crate::answer_values::{
+    answer_value, case_value, cases_value, explained_case, explained_decision,
+};
+use crate::explained::explained_value;
+use crate::line::line_of;
+use ira_audit::{Answer, DecidedCases, Findings};
+use ira_elim::Found;
+use ira_event::OutOfMemory;
+use ira_view_page::{AskedCase, Explanation};
+use serde_json::Value;
+use std::alloc::{Allocator, Global};
+
+/// The line of an answer, with the status that goes with it. The answer must not say that memory ran out.
+pub fn answer_line(alloc: Global, answer: &Answer, status: u8) -> Result<String, OutOfMemory>
+    requires { IsReportable answer.now }
+    ensures { IfOk result (λ text. IsLineOf (answer_value status answer.now) (string_bytes text)) }
+{
+    line_of(alloc, &answer_value(alloc, answer, status)?)
+}
+
+/// The line of an answer with its reason and what it rests on, and the status that goes with it. The answer must not
+/// say that memory ran out.
+pub fn explained_line<A: Allocator>(
+    alloc: Global,
+    answer: &Answer,
+    status: u8,
+    explanation: &Explanation<A>,
+) -> Result<String, OutOfMemory>
+    requires { IsReportable answer.now }
+    ensures { IfOk result (λ text. IsLineOf (explained_value status answer.now explanation.now) (string_bytes text)) }
+{
+    line_of(alloc, &explained_value(alloc, answer, status, explanation)?)
+}
+
+/// The line of a case, with what it asks where it is one of those that are explained.
+fn case_line<A: Allocator, B: Allocator>(
+    alloc: Global,
+    case: u64,
+    found: &Found<B>,
+    explained: &[AskedCase<A>],
+) -> Result<String, OutOfMemory>
+    ensures { IfOk result (λ text. IsLineOf (explained_case explained.now (case, found.now)) (string_bytes text)) }
+{
+    line_of(alloc, &explained_case(alloc, case, found, explained)?)
+}
+
+/// The line of a value, and those of cases after it.
+fn explained_cases_lines<A: Allocator, B: Allocator>(
+    alloc: Global,
+    first: &Value,
+    found: &[Found<B>],
+    explained: &[AskedCase<A>],
+) -> Result<String, OutOfMemory>
+    ensures { IfOk result (λ text. AreLinesOf
+        (view first.now ∷ map (explained_case explained.now) (enumerate_from 0 found.now)) (string_bytes text)) }
+{
+    let mut text = line_of(alloc, first)?;
+    for (case, found) in found.iter().enumerate() {
+        text.push_str(case_line(alloc, case as u64, found, explained)?.as_str())?;
+    }
+    Ok(text)
+}
+
+/// The lines of what is found for the cases of a question, with the status that goes with it: one for all of them, and
+/// one for each.
+pub fn cases_lines<A: Allocator>(
+    alloc: Global,
+    decided: &DecidedCases<A>,
+    status: u8,
+) -> Result<String, OutOfMemory>
+    ensures { IfOk result (λ text. AreLinesOf
+        (cases_values decided.now.nodes status decided.now.cases.items) (string_bytes text)) }
+{
+    let cases = decided.cases.as_slice();
+    let first = cases_value(alloc, cases, decided.nodes.get(), status)?;
+    let mut text = line_of(alloc, &first)?;
+    for (case, decided) in cases.iter().enumerate() {
+        let line = line_of(alloc, &case_value(alloc, case as u64, decided)?)?;
+        text.push_str(line.as_str())?;
+    }
+    Ok(text)
+}
+
+/// The lines of findings with what they rest on, and the status that goes with them: for a refusal that of its answer
+/// with its reason, else one for the decision, and one for each case, with what it asks where it is explained. The
+/// reason must not say that memory ran out.
+pub fn explained_findings_lines<A: Allocator, B: Allocator>(
+    alloc: Global,
+    findings: &Findings<B>,
+    status: u8,
+    explanation: &Explanation<A>,
+) -> Result<String, OutOfMemory>
+    requires { AreReportable findings.now }
+    ensures { IfOk result (λ text. AreLinesOf
+        (explained_findings status findings.now explanation.now) (string_bytes text)) }
+{
+    match findings {
+        Findings::Refused(reason) => {
+            explained_line(alloc, &Answer::No(*reason), status, explanation)
+        }
+        Findings::Cases { found, .. } => {
+            let decision = explained_decision(alloc, found, status, explanation)?;
+            explained_cases_lines(alloc, &decision, found, &explanation.cases)
+        }
+    }
+}

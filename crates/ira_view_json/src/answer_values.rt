@@ -1,0 +1,226 @@
+ghost use Rattle.std.specs.Prelude.{◌≡◌, IfOk, map, nat_eq, option_map};
+ghost use Rattle.std.specs.List.{find, list_any};
+ghost use Rattle.serde_json.specs.Data.{array, string};
+ghost use Rattle.serde_json.specs.View.{items_of, view};
+ghost use Rattle.ira_audit.specs.Findings.{is_present};
+ghost use Rattle.ira_audit.specs.Report.{IsReportable};
+ghost use Rattle.ira_view_json.specs.AnswerValue.{absent_members, answer_members, answer_value, answer_words, case_value, decided_members, decision_value, decision_word, found_members, is_met, present_members, worded_members};
+ghost use Rattle.ira_view_json.specs.ExplainedFindings.{ask_value, explained_case, explained_decision, with_asks};
+ghost use Rattle.ira_view_json.specs.Object.{Holds, Puts};
+
+use crate::object::Object;
+use crate::values::numbers_value;
+use ira_audit::{Answer, write_report};
+use ira_elim::{Decided, Found, StepCount};
+use ira_event::{MemorySink, OutOfMemory};
+use ira_view_page::{AskedCase, AskedNode, Explanation};
+use serde_json::Value;
+use std::alloc::{Allocator, Global};
+use std::str;
+
+/// The line of an answer, without its line feed.
+fn answer_words(alloc: Global, answer: &Answer) -> Result<Value, OutOfMemory>
+    requires { IsReportable answer.now }
+    ensures { IfOk result (λ value. view value ≡ string (answer_words answer.now)) }
+{
+    let mut line = MemorySink::new(alloc);
+    let Ok(()) = write_report(answer, &mut line) else {
+        return Err(OutOfMemory);
+    };
+    let line = line.bytes();
+    match str::from_utf8(&line[..line.len() - 1]) {
+        Ok(words) => Ok(Value::try_from_str(alloc, words)?),
+        Err(_) => unreachable!(),
+    }
+}
+
+/// An answer, and the status that goes with it.
+pub(crate) fn answered(alloc: Global, answer: &Answer, status: u8) -> Object
+    requires { IsReportable answer.now }
+    ensures { Holds (answer_members status answer.now) result }
+{
+    let mut object = Object::of(alloc, "answer");
+    object.value("answer", answer_words(alloc, answer));
+    object.number("status", status as u64);
+    object.number("version", 1);
+    object
+}
+
+/// The value of an answer, with the status that goes with it.
+pub(crate) fn answer_value(alloc: Global, answer: &Answer, status: u8) -> Result<Value, OutOfMemory>
+    requires { IsReportable answer.now }
+    ensures { IfOk result (λ value. view value ≡ answer_value status answer.now) }
+{
+    answered(alloc, answer, status).finish()
+}
+
+/// What is found for all cases, in a word.
+fn decision_word(is_present: bool) -> &'static str
+    ensures { result.now ≡ decision_word is_present }
+{
+    if is_present { "present" } else { "absent" }
+}
+
+/// Whether some case is present.
+fn has_present<A: Allocator>(found: &[Found<A>]) -> bool
+    ensures { result ≡ list_any is_present found.now }
+{
+    found.iter().any(|found| matches!(found, Found::Present(_)))
+}
+
+/// Whether a case is present, of which the steps were counted.
+fn has_met<A: Allocator>(cases: &[Decided<StepCount, A>]) -> bool
+    ensures { result ≡ list_any is_met cases.now }
+{
+    cases
+        .iter()
+        .any(|decided| matches!(decided, Decided::Present(_)))
+}
+
+/// What is found for all cases, and the status that goes with it.
+fn decided(alloc: Global, is_present: bool, status: u8) -> Object
+    ensures { Holds (worded_members (decision_word is_present) status) result }
+{
+    let mut object = Object::of(alloc, "answer");
+    object.words("answer", decision_word(is_present));
+    object.number("status", status as u64);
+    object.number("version", 1);
+    object
+}
+
+/// What is found for the cases of a question about a ring of so many nodes, and the status that goes with it.
+pub(crate) fn cases_value<A: Allocator>(
+    alloc: Global,
+    cases: &[Decided<StepCount, A>],
+    nodes: u8,
+    status: u8,
+) -> Result<Value, OutOfMemory>
+    ensures { IfOk result (λ value.
+        view value ≡ decision_value (decision_word (list_any is_met cases.now)) nodes status) }
+{
+    let mut object = decided(alloc, has_met(cases), status);
+    object.number("nodes", nodes as u64);
+    object.finish()
+}
+
+/// What is found for all cases, and what that rests on, with the status that goes with it.
+pub(crate) fn explained_decision<A: Allocator, B: Allocator>(
+    alloc: Global,
+    found: &[Found<B>],
+    status: u8,
+    explanation: &Explanation<A>,
+) -> Result<Value, OutOfMemory>
+    ensures { IfOk result (λ value. view value ≡ explained_decision status found.now explanation.now) }
+{
+    let mut object = decided(alloc, has_present(found), status);
+    object.null("reason");
+    object.explanation(explanation);
+    object.finish()
+}
+
+/// That a case is absent, by a section of so many steps that spends this node.
+fn absent(alloc: Global, case: u64, steps: u64, spent: u8) -> Object
+    ensures { Holds (absent_members case steps spent) result }
+{
+    let mut object = Object::of(alloc, "case");
+    object.number("case", case);
+    object.words("found", "absent");
+    object.number("spent", spent as u64);
+    object.number("steps", steps);
+    object
+}
+
+/// That a case is present, at this cut.
+fn present(alloc: Global, case: u64, cut: &[u32]) -> Object
+    ensures { Holds (present_members case cut.now) result }
+{
+    let mut object = Object::of(alloc, "case");
+    object.number("case", case);
+    object.value("cut", numbers_value(alloc, cut));
+    object.words("found", "present");
+    object
+}
+
+/// What is found for the case of this number.
+fn found_for<A: Allocator>(alloc: Global, case: u64, found: &Found<A>) -> Object
+    ensures { Holds (found_members case found.now) result }
+{
+    match found {
+        Found::Absent(section) => absent(alloc, case, section.steps.len() as u64, section.spent),
+        Found::Present(cut) => present(alloc, case, cut.positions()),
+    }
+}
+
+/// What is found for the case of this number, with its steps counted.
+pub(crate) fn case_value<A: Allocator>(
+    alloc: Global,
+    case: u64,
+    decided: &Decided<StepCount, A>,
+) -> Result<Value, OutOfMemory>
+    ensures { IfOk result (λ value. view value ≡ case_value (case, decided.now)) }
+{
+    decided_for(alloc, case, decided).finish()
+}
+
+fn decided_for<A: Allocator>(alloc: Global, case: u64, decided: &Decided<StepCount, A>) -> Object
+    ensures { Holds (decided_members case decided.now) result }
+{
+    match decided {
+        Decided::Absent { steps, spent } => absent(alloc, case, steps.get(), *spent),
+        Decided::Present(cut) => present(alloc, case, cut.positions()),
+    }
+}
+
+/// What a case asks of a node.
+fn ask_value<A: Allocator>(alloc: Global, ask: &AskedNode<A>) -> Result<Value, OutOfMemory>
+    ensures { IfOk result (λ value. view value ≡ ask_value ask.now) }
+{
+    let mut object = Object::new(alloc);
+    object.number("node", ask.node as u64);
+    object.string("clause", &ask.clause);
+    object.number("line", ask.line as u64);
+    object.finish()
+}
+
+/// What a case asks, in a list.
+fn asks_list<A: Allocator>(alloc: Global, asks: &[AskedNode<A>]) -> Result<Value, OutOfMemory>
+    ensures { IfOk result (λ value. view value ≡ array (items_of (map ask_value asks.now))) }
+{
+    let mut list = Vec::with_capacity(alloc, asks.len())?;
+    for ask in asks {
+        list.push(ask_value(alloc, ask)?)?;
+    }
+    Ok(Value::Array(list))
+}
+
+/// The case of this number, where it is one of those that are explained.
+fn asked_case<A: Allocator>(explained: &[AskedCase<A>], number: u64) -> Option<&AskedCase<A>>
+    ensures { option_map (λ asked. asked.now) result ≡ find (λ asked. nat_eq asked.number number) explained.now }
+{
+    explained.iter().find(|asked| asked.number as u64 == number)
+}
+
+impl Object {
+    /// Puts what a case asks, where it is one that is explained.
+    fn asks<A: Allocator>(&mut self, asked: Option<&AskedCase<A>>)
+        ensures { Puts (with_asks (option_map (λ asked. asked.now) asked.entry)) self.old self.new }
+    {
+        if let Some(asked) = asked {
+            self.value("asks", asks_list(self.alloc(), &asked.asks));
+        }
+    }
+}
+
+/// What is found for the case of this number; and what it asks, where it is one of those that are explained.
+pub(crate) fn explained_case<A: Allocator, B: Allocator>(
+    alloc: Global,
+    case: u64,
+    found: &Found<B>,
+    explained: &[AskedCase<A>],
+) -> Result<Value, OutOfMemory>
+    ensures { IfOk result (λ value. view value ≡ explained_case explained.now (case, found.now)) }
+{
+    let mut object = found_for(alloc, case, found);
+    object.asks(asked_case(explained, case));
+    object.finish()
+}

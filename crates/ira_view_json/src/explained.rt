@@ -1,0 +1,201 @@
+ghost use Rattle.std.specs.Prelude.{◌≡◌, IfOk, map};
+ghost use Rattle.serde_json.specs.Data.{array};
+ghost use Rattle.serde_json.specs.View.{items_of, view};
+ghost use Rattle.ira_audit.specs.Report.{IsReportable, IsReportableReason};
+ghost use Rattle.ira_view_json.specs.ExplainedValue.{explained_value, hint_value, with_evidence, with_explanation, with_fault, with_hints, with_match_fault, with_numbered, with_reason, with_reason_of, with_receipt, with_ring, with_said, with_section_fault, with_sections, with_state_before, with_step_fault};
+ghost use Rattle.ira_view_json.specs.Object.{Puts};
+
+use crate::answer_values::answered;
+use crate::evidence_values::evidence_list;
+use crate::object::Object;
+use ira_audit::{Answer, Reason};
+use ira_cert::SectionFault;
+use ira_event::{FaultWords, OutOfMemory};
+use ira_node::{NodeState, StepFault};
+use ira_order::MatchFault;
+use ira_view_page::{Evidence, Explanation, RingCounts};
+use serde_json::Value;
+use std::alloc::{Allocator, Global};
+
+impl Object {
+    /// Puts of which kind the reason is, and what is wrong.
+    fn fault(&mut self, reason: &str, fault: &str)
+        ensures { Puts (with_fault reason.now fault.now) self.old self.new }
+    {
+        self.words("reason", reason);
+        self.words("fault", fault);
+    }
+
+    /// The same, with a number.
+    fn numbered(&mut self, reason: &str, fault: &str, key: &str, number: u64)
+        ensures { Puts (with_numbered reason.now fault.now key.now number) self.old self.new }
+    {
+        self.fault(reason, fault);
+        self.number(key, number);
+    }
+
+    /// Puts of which kind the reason is, and what is said of a fault; its number by this key.
+    fn said(&mut self, reason: &str, key: &str, said: FaultWords)
+        ensures { Puts (with_said reason.now key.now said) self.old self.new }
+    {
+        match said.number {
+            None => self.fault(reason, said.words),
+            Some(number) => self.numbered(reason, said.words, key, number as u64),
+        }
+    }
+
+    fn receipt(&mut self, link: u64, k: u64, fault: &str)
+        ensures { Puts (with_receipt link k fault.now) self.old self.new }
+    {
+        self.number("link", link);
+        self.numbered("link", fault, "receipt", k);
+    }
+
+    fn match_fault(&mut self, fault: MatchFault)
+        ensures { Puts (with_match_fault fault) self.old self.new }
+    {
+        match fault {
+            MatchFault::NoSending { link, k } => self.receipt(link as u64, k as u64, fault.words()),
+            MatchFault::Differs { link, k } => self.receipt(link as u64, k as u64, fault.words()),
+        }
+    }
+
+    fn step_fault(&mut self, place: u64, position: u64, fault: StepFault)
+        ensures { Puts (with_step_fault place position fault) self.old self.new }
+    {
+        self.number("node", place);
+        self.numbered("node", fault.words(), "event", position);
+    }
+
+    fn section_fault(&mut self, fault: SectionFault)
+        ensures { Puts (with_section_fault fault) self.old self.new }
+    {
+        match fault {
+            SectionFault::Step(k, why) => {
+                self.numbered("case", why.words(), "step", k as u64);
+            }
+            SectionFault::NotSpent(node) => {
+                self.numbered("case", "not spent", "node", node as u64);
+            }
+        }
+    }
+
+    fn sections(&mut self, wanted: u64, found: u64)
+        ensures { Puts (with_sections wanted found) self.old self.new }
+    {
+        self.number("wanted", wanted);
+        self.number("found", found);
+        self.words("reason", "sections");
+    }
+
+    fn reason(&mut self, reason: &Reason)
+        requires { IsReportableReason reason.now }
+        ensures { Puts (with_reason reason.now) self.old self.new }
+    {
+        match *reason {
+            Reason::Log { number, fault } => {
+                self.number("log", number as u64);
+                self.said("log", "line", fault.words());
+            }
+            Reason::Heads(fault) => self.said("heads", "log", fault.words()),
+            Reason::Match(fault) => self.match_fault(fault),
+            Reason::Circle => self.fault("circle", "circle"),
+            Reason::Replay {
+                place,
+                position,
+                fault,
+            } => self.step_fault(place as u64, position as u64, fault),
+            Reason::Question(fault) => self.said("question", "line", fault.words()),
+            Reason::QuestionSize => self.fault("question", "other ring size"),
+            Reason::Certificate(fault) => self.said("certificate", "line", fault.words()),
+            Reason::CertificateSize => self.fault("certificate", "other ring size"),
+            Reason::Sections { wanted, found } => self.sections(wanted as u64, found as u64),
+            Reason::Section { case, fault } => {
+                self.number("case", case as u64);
+                self.section_fault(fault);
+            }
+        }
+    }
+
+    /// Puts the reason of an answer, which a yes has not.
+    fn reason_of(&mut self, answer: &Answer)
+        requires { IsReportable answer.now }
+        ensures { Puts (with_reason_of answer.now) self.old self.new }
+    {
+        match answer {
+            Answer::Yes => self.null("reason"),
+            Answer::No(reason) => self.reason(reason),
+        }
+    }
+
+    fn ring(&mut self, ring: Option<RingCounts>)
+        ensures { Puts (with_ring ring) self.old self.new }
+    {
+        if let Some(ring) = ring {
+            self.number("nodes", ring.nodes as u64);
+            self.number("events", ring.events as u64);
+        }
+    }
+
+    fn state_before(&mut self, state: Option<NodeState>)
+        ensures { Puts (with_state_before state) self.old self.new }
+    {
+        if let Some(state) = state {
+            let mut before = Object::new(self.alloc());
+            before.state(state);
+            self.value("state_before", before.finish());
+        }
+    }
+
+    fn evidence<A: Allocator>(&mut self, evidence: &[Evidence<A>])
+        ensures { Puts (with_evidence evidence.now) self.old self.new }
+    {
+        if evidence.is_empty() {
+            return;
+        }
+        self.value("evidence", evidence_list(self.alloc(), evidence));
+    }
+
+    fn hints<A: Allocator>(&mut self, hints: &[String<A>])
+        ensures { Puts (with_hints hints.now) self.old self.new }
+    {
+        self.value("hints", hints_list(self.alloc(), hints));
+    }
+
+    /// Puts what an answer rests on.
+    pub(crate) fn explanation<A: Allocator>(&mut self, explanation: &Explanation<A>)
+        ensures { Puts (with_explanation explanation.now) self.old self.new }
+    {
+        self.ring(explanation.ring);
+        self.state_before(explanation.state_before);
+        self.evidence(&explanation.evidence);
+        self.hints(&explanation.hints);
+    }
+}
+
+/// Usual causes, in a list.
+fn hints_list<A: Allocator>(alloc: Global, hints: &[String<A>]) -> Result<Value, OutOfMemory>
+    ensures { IfOk result (λ value. view value ≡ array (items_of (map hint_value hints.now))) }
+{
+    let mut list = Vec::with_capacity(alloc, hints.len())?;
+    for hint in hints {
+        list.push(Value::try_from_str(alloc, hint.as_str())?)?;
+    }
+    Ok(Value::Array(list))
+}
+
+/// An answer with its reason and what it rests on, and the status that goes with it.
+pub(crate) fn explained_value<A: Allocator>(
+    alloc: Global,
+    answer: &Answer,
+    status: u8,
+    explanation: &Explanation<A>,
+) -> Result<Value, OutOfMemory>
+    requires { IsReportable answer.now }
+    ensures { IfOk result (λ value. view value ≡ explained_value status answer.now explanation.now) }
+{
+    let mut object = answered(alloc, answer, status);
+    object.reason_of(answer);
+    object.explanation(explanation);
+    object.finish()
+}

@@ -1,0 +1,96 @@
+ghost use Rattle.std.specs.Prelude.{IfOk};
+ghost use Rattle.serde_json.specs.View.{view};
+ghost use Rattle.ira_order.specs.Matching.{Matches};
+ghost use Rattle.ira_order.specs.Run.{AreLocalRuns};
+ghost use Rattle.ira_view_json.specs.ShownAnswer.{IsYes, WroteRing};
+
+use crate::line::write_line;
+use crate::object::Object;
+use crate::shown_answer::ShownAnswer;
+use crate::values::{numbers_value, places_value};
+use ira_event::{Logs, OutOfMemory, Sink};
+use ira_view_moment::{ChosenMoment, Moment};
+use ira_view_page::ShowFault;
+use serde_json::Value;
+use std::alloc::{Allocator, Global};
+
+/// The places that lead, in a list.
+fn leaders_value<A: Allocator>(alloc: Global, moment: &Moment<A>) -> Result<Value, OutOfMemory> {
+    let mut leaders = Vec::new(alloc);
+    for place in 0..moment.size() {
+        if moment.leads(place) {
+            leaders.push(place)?;
+        }
+    }
+    places_value(alloc, &leaders)
+}
+
+impl Object {
+    /// Puts what all events of logs come to, at whose end the ring is this.
+    fn totals<A: Allocator>(&mut self, end: &Moment<A>) {
+        let mut events = 0u64;
+        let mut sent = 0u64;
+        let mut received = 0u64;
+        for node in end.nodes() {
+            events = events.saturating_add(node.events as u64);
+            sent = sent.saturating_add(node.sent as u64);
+            received = received.saturating_add(node.received as u64);
+        }
+        self.number("version", 1);
+        self.number("nodes", end.size() as u64);
+        self.number("events", events);
+        self.number("sent", sent);
+        self.number("received", received);
+        self.value("leaders", leaders_value(self.alloc(), end));
+    }
+
+    /// Puts which moment is told; nothing at the end of the logs.
+    fn moment<A: Allocator>(&mut self, chosen: &ChosenMoment<A>) {
+        match chosen {
+            ChosenMoment::AtEnd => {}
+            ChosenMoment::AtCut(cut) => self.value("cut", numbers_value(self.alloc(), cut)),
+            ChosenMoment::OfCase { number, cut, .. } => {
+                self.number("case", *number as u64);
+                self.value("cut", numbers_value(self.alloc(), cut));
+            }
+            ChosenMoment::Unmet(_) => self.null("cut"),
+        }
+    }
+}
+
+/// The answer for logs, at whose end the ring is this.
+fn shown_value<A: Allocator>(
+    alloc: Global,
+    end: &Moment<A>,
+    chosen: &ChosenMoment<A>,
+    answer: ShownAnswer<'_>,
+) -> Result<Value, OutOfMemory>
+    ensures { IfOk result (λ value. IsYes answer.entry.status (view value)) }
+{
+    let mut object = Object::of(alloc, "answer");
+    object.totals(end);
+    object.moment(chosen);
+    if let Some(named) = answer.named {
+        object.value("named", places_value(alloc, named));
+    }
+    object.number("status", answer.status as u64);
+    object.words("answer", "yes");
+    object.finish()
+}
+
+/// Writes the answer for good logs: what all their events come to, and which moment of them is told.
+pub(crate) fn write_answer<A: Allocator + Clone, W: Sink>(
+    text: Global,
+    alloc: A,
+    logs: &Logs<A>,
+    chosen: &ChosenMoment<A>,
+    answer: ShownAnswer<'_>,
+    sink: &mut W,
+) -> Result<(), ShowFault>
+    requires matches { Matches logs.now }
+    requires local { AreLocalRuns logs.now }
+    ensures { WroteRing answer.entry.status result (W.state sink.old) (W.state sink.new) }
+{
+    let end = Moment::at_end(alloc, logs)?;
+    write_line(text, &shown_value(text, &end, chosen, answer)?, sink)
+}

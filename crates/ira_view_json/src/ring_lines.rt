@@ -1,0 +1,72 @@
+ghost use Rattle.std.specs.Prelude.{◌≡◌, length};
+ghost use Rattle.ira_order.specs.Circle.{HasOrder};
+ghost use Rattle.ira_order.specs.Cut.{IsConsistentCut};
+ghost use Rattle.ira_order.specs.Run.{AreLocalRuns};
+ghost use Rattle.ira_view_moment.specs.ChosenMoment.{IsMomentOf};
+ghost use Rattle.ira_view_json.specs.Line.{WroteLines};
+ghost use Rattle.ira_view_json.specs.ShownAnswer.{WroteRing};
+
+use crate::event_lines::write_events;
+use crate::moment_answer::write_answer;
+use crate::moment_lines::write_moment;
+use crate::shown_answer::ShownAnswer;
+use ira_event::{Logs, Sink};
+use ira_view_moment::{ChosenMoment, cut_at_end};
+use ira_view_page::ShowFault;
+use std::alloc::{Allocator, Global};
+
+/// Writes what there is at a cut: an order of all events through it, or else the rounds, the nodes and the links.
+fn write_cut<A: Allocator + Clone, W: Sink>(
+    text: Global,
+    alloc: A,
+    logs: &Logs<A>,
+    files: &[String<A>],
+    cut: &[u32],
+    has_events: bool,
+    sink: &mut W,
+) -> Result<(), ShowFault>
+    requires order { HasOrder logs.now }
+    requires local { AreLocalRuns logs.now }
+    requires cut { IsConsistentCut logs.now cut.now }
+    requires files { length files.now ≡ length logs.now }
+    ensures { WroteLines result (W.state sink.old) (W.state sink.new) }
+{
+    if has_events {
+        write_events(text, alloc, logs, cut, sink)
+    } else {
+        write_moment(text, alloc, logs, files, cut, sink)
+    }
+}
+
+/// Writes good logs at a moment: the answer, and then a line for each round in which nodes drew by then, each node,
+/// and each link that holds something; or a line for each event, in one order of them all through the moment. Where no
+/// moment is told the answer is all. These are the names of the files of the logs, in their order. Lines are written block by
+/// block, the answer first.
+pub fn write_ring<A: Allocator + Clone, W: Sink>(
+    text: Global,
+    alloc: A,
+    logs: &Logs<A>,
+    files: &[String<A>],
+    chosen: &ChosenMoment<A>,
+    answer: ShownAnswer<'_>,
+    has_events: bool,
+    sink: &mut W,
+) -> Result<(), ShowFault>
+    requires order { HasOrder logs.now }
+    requires local { AreLocalRuns logs.now }
+    requires moment { IsMomentOf logs.now chosen.now }
+    requires files { length files.now ≡ length logs.now }
+    ensures { WroteRing answer.entry.status result (W.state sink.old) (W.state sink.new) }
+{
+    write_answer(text, alloc.clone()?, logs, chosen, answer, sink)?;
+    match chosen {
+        ChosenMoment::AtEnd => {
+            let cut = cut_at_end(alloc.clone()?, logs)?;
+            write_cut(text, alloc, logs, files, &cut, has_events, sink)
+        }
+        ChosenMoment::AtCut(cut) | ChosenMoment::OfCase { cut, .. } => {
+            write_cut(text, alloc, logs, files, cut, has_events, sink)
+        }
+        ChosenMoment::Unmet(_) => Ok(()),
+    }
+}

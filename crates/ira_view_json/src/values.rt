@@ -1,0 +1,102 @@
+ghost use Rattle.std.specs.Prelude.{◌≡◌, IfOk};
+ghost use Rattle.serde_json.specs.View.{view};
+ghost use Rattle.ira_view_json.specs.Members.{naturals};
+ghost use Rattle.ira_view_json.specs.Object.{Puts};
+ghost use Rattle.ira_view_json.specs.StateValue.{with_load, with_owed, with_phase, with_state, with_term};
+
+use crate::object::Object;
+use ira_event::{Load, OutOfMemory};
+use ira_node::{NodeState, Phase};
+use serde_json::Value;
+use std::alloc::Global;
+
+impl Object {
+    /// Puts what is told of a load: its fields, or the hop of a reset.
+    pub(crate) fn load(&mut self, load: Load)
+        ensures { Puts (with_load load) self.old self.new }
+    {
+        match load {
+            Load::Msg(message) => {
+                self.number("round", message.round as u64);
+                self.number("id", message.id as u64);
+                self.number("hop", message.hop as u64);
+                self.flag("dirty", message.dirty);
+            }
+            Load::Reset(hop) => self.number("reset", hop as u64),
+        }
+    }
+
+    fn phase(&mut self, phase: Phase)
+        ensures { Puts (with_phase phase) self.old self.new }
+    {
+        match phase {
+            Phase::Choosing { round } => {
+                self.words("phase", "choosing");
+                self.number("round", round as u64);
+            }
+            Phase::Active { round, id } => {
+                self.words("phase", "active");
+                self.number("round", round as u64);
+                self.number("id", id as u64);
+            }
+            Phase::Passive => self.words("phase", "passive"),
+            Phase::Leader { round, id } => {
+                self.words("phase", "leader");
+                self.number("round", round as u64);
+                self.number("id", id as u64);
+            }
+            Phase::Yielding => self.words("phase", "yielding"),
+        }
+    }
+
+    fn term(&mut self, term: u32)
+        ensures { Puts (with_term term) self.old self.new }
+    {
+        if term != 1 {
+            self.number("term", term as u64);
+        }
+    }
+
+    fn owed(&mut self, owed: Option<Load>)
+        ensures { Puts (with_owed owed) self.old self.new }
+    {
+        if let Some(load) = owed {
+            let mut owes = Object::new(self.alloc());
+            owes.load(load);
+            self.value("owes", owes.finish());
+        }
+    }
+
+    /// Puts a state, as far as it has a round, an ID and a debt; its term where that isn't the first one.
+    pub(crate) fn state(&mut self, state: NodeState)
+        ensures { Puts (with_state state) self.old self.new }
+    {
+        self.phase(state.phase);
+        self.term(state.term);
+        self.owed(state.owed);
+    }
+}
+
+/// A list of numbers.
+pub(crate) fn numbers_value(alloc: Global, numbers: &[u32]) -> Result<Value, OutOfMemory>
+    ensures { IfOk result (λ value. view value ≡ naturals numbers.now) }
+{
+    let mut list = Vec::with_capacity(alloc, numbers.len())?;
+    for number in numbers {
+        list.push(Value::from(*number))?;
+    }
+    Ok(Value::Array(list))
+}
+
+/// A list of places.
+pub(crate) fn places_value<T: Copy + Into<u64>>(
+    alloc: Global,
+    places: &[T],
+) -> Result<Value, OutOfMemory> {
+    let mut list = Vec::with_capacity(alloc, places.len())?;
+    for place in places {
+        let place: u64 = (*place).into();
+        list.push(Value::from(place))?;
+    }
+    Ok(Value::Array(list))
+}

@@ -1,0 +1,22 @@
+-- Why there is no picture.
+use Rattle.std.specs.Prelude.{◌≡◌, ℕ, ◌<◌, ⊤, List, Option}
+use Rattle.ira_event.specs.Log.{Log}
+use Rattle.ira_view_picture.specs.declared.draw_fault.DrawFault.{DrawFault}
+use Rattle.ira_view_picture.specs.declared.draw_fault.DrawFault.TheVariants.{OutOfMemory, TooManyEvents}
+use Rattle.ira_view_trail.specs.Columns.{AreColumnsOf, Columns, IsLastColumn, cut_or_all}
+use Rattle.ira_view_picture.specs.Window.{asked_window, events_drawn}
+
+-- there are so many events, and these are too many for a picture; or memory ran out
+abbrev pub IsDrawFault : DrawFault → Type 0
+IsDrawFault (TooManyEvents events) = 20000 < events
+IsDrawFault OutOfMemory = ⊤
+
+-- at the columns that are asked for the logs have so many events, too many for a picture
+pub record HasTooManyEvents (logs : List Log) (from to : Option ℕ) (events : ℕ) : Type 0 where
+  pub cut : Option (List ℕ)
+  pub columns : Columns
+  pub columns_are : AreColumnsOf logs (cut_or_all logs cut) columns
+  pub last : ℕ
+  pub last_is : IsLastColumn columns.nodes last
+  pub number : events ≡ events_drawn (asked_window from to last) columns.nodes
+  pub many : 20000 < events

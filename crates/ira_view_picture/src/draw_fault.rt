@@ -1,0 +1,34 @@
+use ira_event::OutOfMemory;
+use std::alloc::AllocError;
+use thiserror::Error;
+
+/// Why there is no picture.
+#[derive(Clone, Copy, Debug, PartialEq, Eq, Error)]
+pub enum DrawFault {
+    #[error("{events} events are too many for one picture, which holds 20000: give --from and --to")]
+    TooManyEvents { events: u32 },
+    #[error("out of memory")]
+    OutOfMemory,
+}
+
+impl From<OutOfMemory> for DrawFault {
+    ghost use Rattle.std.specs.Prelude.{◌≡◌};
+    ghost use Rattle.ira_view_picture.specs.declared.draw_fault.DrawFault.TheVariants as fault;
+
+    ghost from_gives = { λ _ f. f ≡ fault.OutOfMemory };
+
+    fn from(_refused: OutOfMemory) -> DrawFault {
+        DrawFault::OutOfMemory
+    }
+}
+
+impl From<AllocError> for DrawFault {
+    ghost use Rattle.std.specs.Prelude.{◌≡◌};
+    ghost use Rattle.ira_view_picture.specs.declared.draw_fault.DrawFault.TheVariants as fault;
+
+    ghost from_gives = { λ _ f. f ≡ fault.OutOfMemory };
+
+    fn from(_refused: AllocError) -> DrawFault {
+        DrawFault::OutOfMemory
+    }
+}
