@@ -1,7 +1,8 @@
 #!/bin/sh
 # What pages name is there: the file and the heading that a link leads to, and in back quotes files and the items of code, as
 # `NodeLog`, `read_log` or `RingAudit::take`. And each crate has a user, but for programs and tests, and names each crate that
-# crates.txt puts it on.
+# crates.txt puts it on. No type, trait or function that is public in a crate of views, runs or the program has the name of
+# another one there.
 #
 #     sh checks/names.sh
 
@@ -66,7 +67,11 @@ sed -n 's/^\([a-z0-9_]*\):\(.*\)/\1 \2/p' crates.txt | while read -r crate below
     done
 done > "$made/below"
 
-for it in links items files crates below; do
+grep -rhoE --include='*.rt' '^pub (const )?(struct|enum|trait|type|fn) [A-Za-z0-9_]+' crates/ira_view*/src crates/ira_ring*/src \
+    crates/ira_main*/src crates/ira_mend/src | awk '{ print $NF }' | sort | uniq -d |
+    sed 's/$/: two public items have this name/' > "$made/twice"
+
+for it in links items files crates below twice; do
     while read -r line; do
         fail "$line"
     done < "$made/$it"
