@@ -72,7 +72,7 @@ abbrev pub IsTellable : FolderAnswer → Type 0
 IsTellable (Judged answer) = IsReportable answer
 IsTellable (Unread name) = ⊤
 
--- and so it is with each
+-- none of these answers says that memory ran out
 abbrev pub AreTellable : List FolderAnswer → Type 0
 AreTellable answers = (i : ℕ) (answer : FolderAnswer) → slice_get answers i ≡ Some answer → IsTellable answer
 

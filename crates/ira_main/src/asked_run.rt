@@ -74,7 +74,7 @@ pub(crate) fn run_alone<A: Allocator + Clone>(
     )
 }
 
-/// The same with a thread for each node.
+/// Runs the ring that is asked for, which has this size, with a thread for each node.
 pub(crate) fn run_on_threads<R, A>(
     request: &RunRequest<'_>,
     rt: &R,

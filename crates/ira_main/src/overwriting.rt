@@ -73,7 +73,7 @@ fn replaced<'a, A: Allocator>(
     Ok(None)
 }
 
-// The same of the question, if there is one, and the logs.
+// The file of this name that is read, of the question, if there is one, or of a log, if it is one of them.
 fn replaced_input<'a, A: Allocator>(
     alloc: &A,
     written: &str,

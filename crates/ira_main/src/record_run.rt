@@ -39,7 +39,7 @@ where
     record(alloc, request, &run, shelf, out)
 }
 
-/// The same with a thread for each node.
+/// Runs the ring that is asked for with a thread for each node, and records the run.
 pub(crate) fn record_run_on_threads<'a, R, A, F, W>(
     rt: &R,
     alloc: A,
