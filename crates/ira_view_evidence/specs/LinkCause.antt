@@ -1,5 +1,5 @@
 -- Why what was received on a link, from a receipt on, isn't what was sent.
-use Rattle.std.specs.Prelude.{◌≡◌, ◌⊎◌, ℕ, ◌≤◌, ◌+◌, List, [], ◌∷◌, ◌++◌, Some, length, slice_get}
+use Rattle.std.specs.Prelude.{◌≡◌, ◌⊎◌, ℕ, ◌<◌, ◌≤◌, ◌+◌, List, [], ◌∷◌, ◌++◌, Some, length, slice_get}
 use Rattle.ira_event.specs.declared.load.Load.{Load}
 use Rattle.ira_view_evidence.specs.LoadDifference.{DiffersBy}
 use Rattle.ira_view_evidence.specs.declared.load_difference.LoadDifference.{LoadDifference}
@@ -34,7 +34,7 @@ abbrev pub IsEarly : ℕ → List Load → List Load → Type 0
 IsEarly count sent received = (load : Load) × (passed : List Load) × (length passed ≡ count)
     × IsReceivedFor (passed ++ load ∷ []) (load ∷ passed) sent received
 
--- the next receipt is of another load than its sending, and it alone
+-- the next receipt is of any load, in place of its sending, and after it what was received is what was sent
 abbrev pub IsChanged : List Load → List Load → Type 0
 IsChanged sent received = (x y : Load) × IsReceivedFor (x ∷ []) (y ∷ []) sent received
 
@@ -48,9 +48,9 @@ abbrev pub ExplainsRest : LinkCause → List Load → List Load → List Load �
 -- the next sendings, so many, have no receipt
 ExplainsRest (NoReceipt count) before sent received =
     (lost : List Load) × (length lost ≡ count) × IsReceivedFor lost [] sent received
--- the next receipts, so many, have no sending
-ExplainsRest (NoSending count) before sent received =
-    (added : List Load) × (length added ≡ count) × IsReceivedFor [] added sent received
+-- the next receipts, so many, have no sending, and those after them have
+ExplainsRest (NoSending count) before sent received = (count < length received)
+    × (added : List Load) × (length added ≡ count) × IsReceivedFor [] added sent received
 ExplainsRest CameTwice before sent received = IsTwice before sent received
 ExplainsRest Changed before sent received = IsChanged sent received
 ExplainsRest (HeldBack count) before sent received = IsHeldBack count sent received
@@ -58,7 +58,8 @@ ExplainsRest (CameEarly count) before sent received = IsEarly count sent receive
 -- each receipt that isn't its sending differs from it in the same way
 ExplainsRest (EachRow how) before sent received = DifferAlike how sent received
 
--- what was received before receipt k is what was sent, and this is why it isn't from there on
+-- what was received before receipt k is what was sent, and from there on it is as the cause has it; where receipt k
+-- isn't what was sent, this is why
 pub record Explains (cause : LinkCause) (sent received : List Load) (k : ℕ) : Type 0 where
   pub before : List Load
   pub sent_after : List Load

@@ -22,15 +22,15 @@ IsRaised (Reset h) (Reset g) = g ≡ h + 1
 IsRaised (Message m) (Reset g) = ⊥
 IsRaised (Reset h) (Message n) = ⊥
 
--- the second load is the first but for this field
+-- the second load is another one than the first, but only in this field
 abbrev pub IsOtherIn : LoadField → Load → Load → Type 0
-IsOtherIn field (Message m) (Message n) = n ≡ with_field field m n
+IsOtherIn field (Message m) (Message n) = (n ≡ with_field field m n) × (m ≢ n)
 IsOtherIn Hop (Reset h) (Reset g) = h ≢ g
 IsOtherIn field a b = ⊥
 
--- the second load is the first with round and ID exchanged
+-- the second load is another one than the first: the same with round and ID exchanged
 abbrev pub IsTurned : Load → Load → Type 0
-IsTurned (Message m) (Message n) = n ≡ record m { round = m.id; id = m.round }
+IsTurned (Message m) (Message n) = (n ≡ record m { round = m.id; id = m.round }) × (m ≢ n)
 IsTurned a b = ⊥
 
 -- the receipt differs so from the sending

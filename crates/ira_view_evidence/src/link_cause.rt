@@ -10,7 +10,7 @@ use ira_event::Load;
 pub enum LinkCause {
     /// Sending `k` and further ones, so many in all, have no receipt: they were lost, or their receipts aren't recorded.
     NoReceipt(usize),
-    /// Receipt `k` and further ones, so many in all, have no sending.
+    /// Receipt `k` and further ones, so many in all, have no sending, and those after them have.
     NoSending(usize),
     /// Receipt `k` is of the load before it once more.
     CameTwice,
@@ -137,7 +137,8 @@ impl LinkCause {
     {
         match self {
             LinkCause::NoReceipt(count) => goes_on(sent, count, received, 0),
-            LinkCause::NoSending(count) => goes_on(sent, 0, received, count),
+            LinkCause::NoSending(count) => count < received.len()
+                && goes_on(sent, 0, received, count),
             LinkCause::CameTwice => is_twice(before, sent, received),
             LinkCause::Changed => is_changed(sent, received),
             LinkCause::HeldBack(count) => is_held_back(sent, received, count),

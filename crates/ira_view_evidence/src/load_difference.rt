@@ -44,7 +44,7 @@ fn is_raised(load: Load, other: Load) -> bool
 }
 
 impl LoadField {
-    /// Whether the other load is this one but for the field.
+    /// Whether the other load differs from this one, in the field alone.
     fn is_other(self, load: Load, other: Load) -> bool
         ensures { IsTrue result ↔ IsOtherIn self load other }
     {
@@ -56,13 +56,13 @@ impl LoadField {
                     hop,
                     dirty,
                 } = other;
-                other
-                    == match self {
-                        LoadField::Round => Msg { round, ..message },
-                        LoadField::Id => Msg { id, ..message },
-                        LoadField::Hop => Msg { hop, ..message },
-                        LoadField::Bit => Msg { dirty, ..message },
-                    }
+                let changed = match self {
+                    LoadField::Round => Msg { round, ..message },
+                    LoadField::Id => Msg { id, ..message },
+                    LoadField::Hop => Msg { hop, ..message },
+                    LoadField::Bit => Msg { dirty, ..message },
+                };
+                other == changed && other != message
             }
             (Load::Reset(hop), Load::Reset(other)) if self == LoadField::Hop => hop != other,
             _ => false,
@@ -70,18 +70,18 @@ impl LoadField {
     }
 }
 
-/// Whether the other load is this one with round and ID exchanged.
+/// Whether the other load differs from this one, and is it with round and ID exchanged.
 fn is_turned(load: Load, other: Load) -> bool
     ensures { IsTrue result ↔ IsTurned load other }
 {
     match (load, other) {
         (Load::Msg(message), Load::Msg(other)) => {
-            other
-                == (Msg {
-                    round: message.id,
-                    id: message.round,
-                    ..message
-                })
+            let turned = Msg {
+                round: message.id,
+                id: message.round,
+                ..message
+            };
+            other == turned && other != message
         }
         _ => false,
     }
