@@ -1,9 +1,13 @@
 """Opens pages of `ira draw --out NAME.html` in a headless Chromium, driven over loopback by its driver: selects events,
 reads what the page says of them, and holds states, what is owed, pasts and futures, moments, who leads and what is on its way
-against the logs, which are read and stepped here anew. Says how many frames a second a large ring moves with.
+against the logs, which are read and stepped here anew. Turns the wheel, drags, clicks and types as a user does, with the
+pointer and by the keyboard alone; reads roles and labels, and what would be printed. Says how many frames a second a large
+ring moves with, and the processor time of one.
 
     python3 checks/page.py PROGRAM      PROGRAM makes the pages; chromium and chromedriver are on the PATH
 """
+import contextlib
+import glob
 import json
 import os
 import re
@@ -28,6 +32,7 @@ return {
   way: [...part('moment').querySelectorAll('li')].map(item => item.textContent), asked: part('moment').querySelector('h2')?.textContent,
   link: location.hash, focus: document.activeElement.id, elements: document.querySelectorAll('body *').length,
 };'''
+CORNER = "const {x, y} = document.getElementById('view').getBoundingClientRect(); return [x, y]"
 FRAMES = '''
 const [move, done] = arguments, moves = new Function('k', move), times = [];
 requestAnimationFrame(function tick(now) {
@@ -68,13 +73,52 @@ class Browser:
         return self.call('POST', '/execute/sync', {'script': script, 'args': list(arguments)})
 
     def frames(self, move):
-        return self.call('POST', '/execute/async', {'script': FRAMES, 'args': [move]})
+        """Frames a second, and those that the busiest thread would have time for on a machine of its own."""
+        before = self.times()
+        rate = self.call('POST', '/execute/async', {'script': FRAMES, 'args': [move]})
+        busiest = max(time - before.get(thread, 0) for thread, time in self.times().items())
+        return rate, 60 / busiest if busiest else 1000
+
+    def times(self):
+        """Seconds of processor time of each thread of the browser."""
+        parents, times = {}, {}
+        for stat in glob.glob('/proc/[0-9]*/stat'):
+            with contextlib.suppress(OSError), open(stat) as words:
+                parents[stat.split('/')[2]] = words.read().rpartition(') ')[2].split()[1]
+        for process in parents:
+            above = process
+            while above in parents and above != str(self.driver.pid):
+                above = parents[above]
+            for stat in glob.glob(f'/proc/{process}/task/*/stat') if above == str(self.driver.pid) else []:
+                with contextlib.suppress(OSError), open(stat) as words:
+                    times[stat] = sum(map(int, words.read().rpartition(') ')[2].split()[11:13])) / os.sysconf('SC_CLK_TCK')
+        return times
+
+    def act(self, kind, *actions):
+        self.call('POST', '/actions', {'actions': [{'type': kind, 'id': kind, 'actions': list(actions)}]})
+
+    def drag(self, x, y, dx, dy):
+        """Presses the pointer at a point of the picture and moves it so far: a click where that is nowhere."""
+        left, top = self.run(CORNER)
+        steps = [{'type': 'pointerMove', 'duration': 30, 'x': round(left + x + k * dx / 4), 'y': round(top + y + k * dy / 4)}
+                 for k in (range(5) if dx or dy else [0])]
+        self.act('pointer', steps[0], {'type': 'pointerDown', 'button': 0}, *steps[1:], {'type': 'pointerUp', 'button': 0})
+
+    def turn(self, x, y, dx, dy):
+        """Turns the wheel at a point of the picture."""
+        left, top = self.run(CORNER)
+        self.act('wheel', {'type': 'scroll', 'x': round(left + x), 'y': round(top + y), 'deltaX': dx, 'deltaY': dy})
+        time.sleep(.2)
 
     def type(self, *keys):
         """Types keys into the picture."""
         self.run("document.getElementById('view').focus()")
+        self.stroke(*keys)
+
+    def stroke(self, *keys):
+        """Types keys where the focus is."""
         strokes = [{'type': kind, 'value': key} for key in keys for kind in ('keyDown', 'keyUp')]
-        self.call('POST', '/actions', {'actions': [{'type': 'key', 'id': 'keys', 'actions': strokes}]})
+        self.act('key', *strokes)
 
     def faults(self):
         return [entry for entry in self.call('POST', '/se/log', {'type': 'browser'}) if entry['level'] == 'SEVERE']
@@ -85,7 +129,7 @@ class Browser:
         self.driver.wait()
 
 
-KEYS = {'left': '\ue012', 'up': '\ue013', 'right': '\ue014', 'down': '\ue015', 'escape': '\ue00c'}
+KEYS = {'left': '\ue012', 'up': '\ue013', 'right': '\ue014', 'down': '\ue015', 'escape': '\ue00c', 'tab': '\ue004', 'enter': '\ue007', 'end': '\ue010', 'home': '\ue011'}
 
 
 # ---- what a page is to say ------------------------------------------------------------------------
@@ -127,10 +171,14 @@ def holds_event(seen, ring, names, i, p):
     assert about['before'] == state(ring, i, p - 1) and about['in'] == f'{names[i]}:{p + 4}', about
     assert about['owes'] == (about['after'].split(', owes ')[1] if ', owes ' in about['after'] else 'nothing')
     past = ring.past(i, p)
-    assert about['happened before'] == f'{sum(past) - 1} events', (about, past)
+    assert about['past'] == events(sum(past) - 1), (about, past)
     if ring.mismatch() is None:
-        assert about['after it'] == f'{future(ring, i, p)} events', about
+        assert about['future'] == events(future(ring, i, p)), about
     holds_moment(seen, ring, past)
+
+
+def events(number):
+    return f'{number} event{"s" * (number != 1)}'
 
 
 def beside(ring, i, p):
@@ -198,7 +246,7 @@ class Check:
         cut = [sum(1 for (j, _), c in ring.column.items() if j == i and c <= column) for i in range(ring.n)]
         self.browser.run('wholeWidth(); momentAt(X(stands[arguments[0]]) + .4 * view.wide)', column)
         holds_moment(self.look(), ring, cut)
-        assert not self.browser.faults()
+        assert not (faults := self.browser.faults()), faults
 
     def refused(self, names, named, told):
         """Refused logs: the page opens at the event that the answer names, with these words."""
@@ -210,7 +258,7 @@ class Check:
         holds_event(seen, ring, names, *named)
         for part in told:
             assert part in seen['why'], (part, seen['why'])
-        assert not self.browser.faults()
+        assert not (faults := self.browser.faults()), faults
 
     def asked(self, names, question, cut, told):
         """A question: the page opens at the first moment that meets a case of it."""
@@ -219,6 +267,136 @@ class Check:
         seen = self.look()
         holds_moment(seen, Ring(names), cut)
         assert seen['asked'] == told, seen['asked']
+
+    def seen_view(self):
+        return self.browser.run('return {...view, right: total(), width, height}')
+
+    def moved(self, names):
+        """Wheel, drags, clicks, and the keys that move."""
+        ring, browser = Ring(names), self.browser
+        self.draw(names)
+        browser.open(self.page)
+        inside = 'return [view.x + (arguments[0] - MARGIN) / view.wide, view.y + (arguments[1] - AXIS) / view.high]'
+        old, point = self.seen_view(), browser.run(inside, 500, 200)
+        browser.turn(500, 200, 0, -300)
+        new, now = self.seen_view(), browser.run(inside, 500, 200)
+        assert new['wide'] > 1.3 * old['wide'] and abs(now[0] - point[0]) < .05, (old, new, point, now)
+        browser.drag(500, 200, -160, 0)
+        left = self.seen_view()
+        assert abs(left['x'] - new['x'] - 160 / new['wide']) < .05 and self.look()['about'] is None, (new, left)
+        browser.turn(500, 200, 120, 0)
+        assert self.seen_view()['x'] > left['x']
+        browser.type('w')
+        whole = self.seen_view()
+        assert whole['x'] == -1 and (whole['right'] + 1) * whole['wide'] < whole['width']
+        browser.type('0')
+        assert browser.run('return HIGH * view.high <= room() + 1')
+        for key, member, sign in (('+', 'wide', 1), ('l', 'x', 1), ('h', 'x', -1), ('-', 'wide', -1)):
+            old = self.seen_view()
+            browser.type(key)
+            assert sign * (self.seen_view()[member] - old[member]) > 0, (key, old, self.seen_view())
+        wide = self.seen_view()['right']
+        browser.type('f')
+        assert browser.run("return $('fold').checked") and self.seen_view()['right'] < wide
+        browser.type('f')
+        assert self.seen_view()['right'] == wide
+        for key, sign in (('j', 1), ('k', -1)):
+            browser.run('zoom(9)')
+            browser.type('j')
+            old = self.seen_view()
+            browser.type(key)
+            assert sign * (self.seen_view()['y'] - old['y']) > 0, (key, old, self.seen_view())
+        # a click selects an event, and one on an arrow its sending; a drag along the columns takes a moment along
+        browser.type('0')
+        i, p = max(ring.column, key=ring.column.get)
+        browser.run('reveal(stands[arguments[0]], laneY[arguments[1]])', ring.column[i, p], i)
+        x, y = browser.run('return [X(nodes[arguments[0]].events[arguments[1]].p), Y(laneY[arguments[0]])]', i, p)
+        browser.drag(x, y, 0, 0)
+        assert self.look()['title'] == f'node {i} event {p}'
+        x, y = browser.run('const e = order.find(e => e.to); reveal(e.p, laneY[e.node]); '
+                           'return [(X(e.p) + X(e.to.p)) / 2, (Y(laneY[e.node]) + Y(laneY[e.node + 1])) / 2]')
+        browser.drag(x, y, 0, 0)
+        assert self.look()['title'] == browser.run('return nameOf(order.find(e => e.to))')
+        browser.type(KEYS['escape'], 'w')
+        browser.drag(100, 8, 260, 0)
+        column = browser.run('return stands.findIndex(p => X(p) > 360) - 1')
+        holds_moment(self.look(), ring, [sum(1 for (j, _), c in ring.column.items() if j == i and c <= column) for i in range(ring.n)])
+        assert not (faults := browser.faults()), faults
+
+    def searched(self, names):
+        """Searches, each with what it finds; play; a part alone; the keys of all that."""
+        browser, ring = self.browser, Ring(names)
+        self.draw(names)
+        browser.open(self.page)
+        every = [(i, p, ' '.join(e)) for i, es in enumerate(ring.events) for p, e in enumerate(es, 1)]
+        for text, wanted in (
+                ('1.2', lambda i, p, e: (i, p) == (1, 2)), ('node 0 event 3', lambda i, p, e: (i, p) == (0, 3)),
+                (f'{names[1]}:6', lambda i, p, e: (i, p) == (1, 2)), ('0.log:7', lambda i, p, e: (i, p) == (0, 3)),
+                ('round 2', lambda i, p, e: browser.run('return +nodes[arguments[0]].events[arguments[1]].round', i, p) == 2),
+                ('ID 1', lambda i, p, e: e == 'draw 1' or e.split(' ')[2:3] == ['1']), ('2 clean', lambda i, p, e: '2 clean' in e),
+                ('9.9', lambda i, p, e: False), ('round 77', lambda i, p, e: False)):
+            browser.type('/')
+            browser.run("document.activeElement.value = ''")
+            browser.stroke(*text)
+            hits = browser.run("return [...document.querySelectorAll('#hits li')].map(item => item.textContent.split(':')[0])")
+            assert sorted(hits) == sorted(f'node {i} event {p}' for i, p, e in every if wanted(i, p, e)) or ['nothing'], (text, hits)
+            browser.stroke(KEYS['enter' if hits != ['nothing'] else 'escape'])
+            seen = self.look()
+            assert seen['focus'] == 'view' and (hits == ['nothing'] or seen['title'] == hits[0]), (text, seen)
+        # from the first event to the last, along the order
+        browser.type(KEYS['escape'], '.')
+        titles = [self.look()['title']]
+        for _ in every[1:]:
+            browser.stroke('.')
+            titles.append(self.look()['title'])
+        assert sorted(titles) == sorted(f'node {i} event {p}' for i, p, _ in every)
+        browser.type(KEYS['home'])
+        assert self.look()['title'].endswith('event 1')
+        browser.type(KEYS['end'])
+        i = int(self.look()['title'].split(' ')[1])
+        assert self.look()['title'] == f'node {i} event {len(ring.events[i])}'
+        # play, and pause
+        browser.type(KEYS['escape'], ' ')
+        time.sleep(1.5)
+        browser.stroke(' ')
+        cut = [int(k) for k in self.look()['moment']['cut'].split(',')]
+        time.sleep(.6)
+        assert 0 < sum(cut) <= len(every) and self.look()['moment']['cut'] == ','.join(map(str, cut))
+        holds_moment(self.look(), ring, cut)
+        # a round alone, and passive stretches folded
+        wide = self.seen_view()['right']
+        shown = browser.run("$('alone').value = 'term 1 round 2'; $('alone').onchange(); return order.filter(isShown).map(nameOf)")
+        assert 0 < len(shown) < len(every) and self.seen_view()['right'] < wide
+        browser.run("$('alone').selectedIndex = 0; $('alone').onchange()")
+        assert self.seen_view()['right'] == wide
+        browser.type('?')
+        assert browser.run("return $('help').open")
+        browser.stroke(KEYS['escape'])
+        assert not browser.run("return $('help').open") and not browser.faults()
+
+    def reached(self, names):
+        """What the keyboard reaches, and the role and the name that each has for who doesn't see it; and the page in print."""
+        browser = self.browser
+        self.draw(names)
+        browser.open(self.page, '#node1.2')
+        self.look()
+        reached = {}
+        for _ in range(60):
+            browser.stroke(KEYS['tab'])
+            element, key = browser.run("const e = document.activeElement; return [e, e == document.body ? '' : e.id || e.dataset.key || e.textContent]")
+            at = '/element/' + next(iter(element.values()))
+            if at in reached or not key:
+                break
+            role, name = browser.call('GET', at + '/computedrole'), browser.call('GET', at + '/computedlabel')
+            assert role not in ('', 'generic', 'none') and name.strip(), (key, role, name)
+            reached[at] = key
+        assert {'alone', 'fold', 'search', '-', '+', 'w', '0', '?', 'view', 'play', '[', ']', 'steps', 'Escape'} <= set(reached.values()), reached
+        seen = 'return ["page", "picture"].map(id => document.getElementById(id).getBoundingClientRect().height > 99)'
+        assert browser.run(seen) == [True, False]
+        browser.call('POST', '/goog/cdp/execute', {'cmd': 'Emulation.setEmulatedMedia', 'params': {'media': 'print'}})
+        assert browser.run(seen) == [False, True]
+        browser.call('POST', '/goog/cdp/execute', {'cmd': 'Emulation.setEmulatedMedia', 'params': {'media': ''}})
+        assert not (faults := browser.faults()), faults
 
     def hostile(self, temp, example):
         """Names that would end a script or begin a tag, or aren't ASCII: the page has the elements that any has, and tells them."""
@@ -237,7 +415,7 @@ class Check:
             seen = self.look()
             wanted = wanted or seen['elements']
             assert seen['elements'] == wanted and seen['about']['in'] == f'{names[1]}:6', seen['about']
-            assert not self.browser.faults()
+            assert not (faults := self.browser.faults()), faults
 
     def moves(self, temp):
         """The frames a second with which a ring of 64 nodes and 20,000 events moves, against those of an empty page."""
@@ -251,18 +429,18 @@ class Check:
         written = re.search('<style>.*?</style>', text, re.S)[0] + text[text.rindex('<script>'):]
         assert len(written) <= LARGEST, len(written)
         self.browser.open('/dev/null')
-        free = self.browser.frames('')
+        free, _ = self.browser.frames('')
         self.browser.open(self.page)
         rates = {}
         for name, begin, move in (('along', 'allLanes()', 'pan(-25, 0)'), ('zoom', 'wholeWidth()', 'zoom(k < 30 ? 1.1 : 1 / 1.1)'),
                                   ('whole', 'wholeWidth(); zoom(1.3)', 'pan(k % 40 < 20 ? -3 : 3, 0)')):
             self.browser.run(begin)
             time.sleep(1)
-            rates[name] = max(self.browser.frames(move) for _ in range(3))
-        print(f'{events} events of 64 nodes move with', ', '.join(f'{name} {rate:.0f}' for name, rate in rates.items()),
-              f'frames a second; an empty page has {free:.0f}')
-        assert min(rates.values()) >= 30 or free < 50, 'too slow'
-        assert not self.browser.faults()
+            rates[name] = [max(of) for of in zip(*(self.browser.frames(move) for _ in range(3)))]
+        print(f'{events} events of 64 nodes move with', ', '.join(f'{name} {rate:.0f} ({most:.0f})' for name, (rate, most) in rates.items()),
+              f'frames a second (so many without other work); an empty page has {free:.0f}')
+        assert min(most for _, most in rates.values()) >= 30, 'too slow'
+        assert not (faults := self.browser.faults()), faults
 
 
 def main():
@@ -279,6 +457,9 @@ def main():
             os.mkdir(folder)
             subprocess.run([program, 'run', '--nodes', '8', '--seed', '2', '--out', folder], check=True, stdout=subprocess.DEVNULL)
             check.events(logs_in(folder), 20)
+            check.moved(logs_in(folder))
+            check.searched(examples['tie_then_win'])
+            check.reached(examples['tie_then_win'])
             check.refused(examples['receipts_exchanged'], (0, 3), ['the link changed their order', '1 2 2 clean', 'differs'])
             check.refused(examples['lost_record'], (0, 4), ['owes exactly this message: its sending is not recorded', 'recv 1 2 2 clean'])
             check.refused(examples['circle_of_two'], (0, 1), ['two threads write one log', 'recv 1 1 2 clean'])
@@ -288,7 +469,8 @@ def main():
                 'draw 1, send 1 1 1 clean, recv 1 4 1 clean, send 1 4 2 clean',
                 'draw 2, send 1 2 1 clean, recv 1 1 1 clean, recv 1 4 2 clean, send 1 4 4 clean',
                 'draw 3, send 1 3 1 clean, recv 1 2 1 clean, recv 1 4 4 clean, send 1 4 5 clean'))
-            check.refused(names, (0, 4), ['recv 1 4 5 clean', 'send 1 4 4 clean', 'not owed', 'active in round 1 with ID 4'])
+            check.refused(names, (2, 5), ['Begin at node 2 event 5', 'recv 1 4 5 clean', 'send 1 4 4 clean', 'not owed',
+                                          'send 1 4 3 clean is due', 'active in round 1 with ID 4'])
             question = os.path.join(HERE, '..', 'examples', 'two_node_election', 'active_beside_passive.ask')
             check.asked(examples['two_node_election'], question, [2, 3], 'case 0 is met here: node 0 active, node 1 passive')
             check.hostile(temp, os.path.join(HERE, '..', 'examples', 'two_node_election'))

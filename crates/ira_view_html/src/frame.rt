@@ -6,24 +6,30 @@ pub(crate) const HEAD: &str = r#"<!doctype html>
 <head>
 <meta charset="utf-8">
 <meta name="viewport" content="width=device-width">
-<meta http-equiv="Content-Security-Policy" content="default-src 'none'; style-src 'unsafe-inline'; script-src 'unsafe-inline'">
+<meta http-equiv="Content-Security-Policy"
+content="default-src 'none'; style-src 'unsafe-inline'; script-src 'unsafe-inline'">
 <title>ira</title>
 <style>
-:root{color-scheme:light dark;--back:#fff;--ink:#1f2328;--mute:#57606a;--line:#d0d7de;--fill:#f6f8fa;--link:#0550ae;--moment:#a8326e;--bad:#b3370a}
-@media(prefers-color-scheme:dark){:root{--back:#0d1117;--ink:#f0f3f6;--mute:#9198a1;--line:#3d444d;--fill:#151b23;--link:#71b7ff;--moment:#f093c6;--bad:#ff8350}}
+:root{color-scheme:light dark;--back:#fff;--ink:#1f2328;--mute:#57606a;--line:#d0d7de;
+--fill:#f6f8fa;--link:#0550ae;--moment:#a8326e;--bad:#b3370a}
+@media(prefers-color-scheme:dark){:root{--back:#0d1117;--ink:#f0f3f6;--mute:#9198a1;--line:#3d444d;
+--fill:#151b23;--link:#71b7ff;--moment:#f093c6;--bad:#ff8350}}
 body{margin:0;font:14px/1.4 system-ui,sans-serif;color:var(--ink);background:var(--back)}
 #page{display:none}
 .live #picture{height:0;overflow:hidden}
 .live #page{display:grid;grid-template:auto 1fr auto/1fr 24em;height:100vh}
-header,footer{grid-column:1/-1;display:flex;flex-wrap:wrap;gap:6px 10px;align-items:center;padding:7px 12px;background:var(--fill)}
+header,footer{grid-column:1/-1;display:flex;flex-wrap:wrap;gap:6px 10px;align-items:center;
+padding:7px 12px;background:var(--fill)}
 h1{font-size:16px;margin:0 auto 0 0}
 h2{font-size:15px;margin:0 0 4px}
 .bad{color:var(--bad)}
-.mute,dt,th{color:var(--mute)}
-button,input,select{font:inherit;color:inherit;background:var(--back);border:1px solid var(--line);border-radius:5px;padding:2px 8px}
+dt,th{color:var(--mute)}
+button,input,select{font:inherit;color:inherit;background:var(--back);
+border:1px solid var(--line);border-radius:5px;padding:2px 8px}
 #steps{flex:1}
 #found{position:relative}
-#hits{position:absolute;right:0;z-index:1;margin:0;padding:0;width:26em;max-height:60vh;overflow:auto;list-style:none;background:var(--fill)}
+#hits{position:absolute;right:0;z-index:1;margin:0;padding:0;width:26em;
+max-height:60vh;overflow:auto;list-style:none;background:var(--fill)}
 #stage{position:relative}
 canvas{position:absolute;width:100%;height:100%;touch-action:none;cursor:grab}
 aside{overflow:auto;padding:10px 14px;border-left:1px solid var(--line)}
@@ -44,15 +50,23 @@ ul{margin:2px 0;padding-left:18px}
 <h1 id="heading"></h1>
 <label>Show <select id="alone"></select></label>
 <label><input type="checkbox" id="fold"> fold passive</label>
-<div id="found"><input type="search" id="search" size="28" placeholder="3.14, FILE:LINE, round 2, ID 7" aria-label="Search by node and event, file and line, round or ID"><ol id="hits"></ol></div>
+<div id="found"><input type="search" id="search" size="28" placeholder="3.14, FILE:LINE, round 2, ID 7"
+aria-label="Search by node and event, file and line, round or ID"><ol id="hits"></ol></div>
 <button data-key="-" aria-label="Zoom out">&minus;</button><button data-key="+" aria-label="Zoom in">+</button>
 <button data-key="w">Whole width</button><button data-key="0">All lanes</button><button data-key="?">Keys</button>
 </header>
-<div id="stage"><canvas id="view" tabindex="0" role="application" aria-label="Picture of the ring: arrow keys go from event to event, and ? lists all keys" aria-describedby="d"></canvas></div>
-<aside aria-label="What is told"><section id="why"></section><section id="event" aria-live="polite"></section><section id="message"></section><section id="moment" aria-live="polite"></section><details><summary>Legend</summary><div id="legend"></div></details></aside>
+<div id="stage"><canvas id="view" tabindex="0" role="application"
+aria-label="Picture of the ring: arrow keys go from event to event, and ? lists all keys"
+aria-describedby="d"></canvas></div>
+<aside aria-label="What is told"><section id="why"></section><section id="event" aria-live="polite"></section>
+<section id="message"></section><section id="moment" aria-live="polite"></section>
+<details><summary>Legend</summary><div id="legend"></div></details></aside>
 <footer>
-<button data-key=" " id="play">Play</button><button data-key="[" aria-label="One event back">&lsaquo;</button><button data-key="]" aria-label="One event on">&rsaquo;</button>
-<input type="range" id="steps" min="0" aria-label="The moment after so many events"><output id="count"></output><button data-key="Escape">Clear</button>
+<button data-key=" " id="play">Play</button>
+<button data-key="[" aria-label="One event back">&lsaquo;</button>
+<button data-key="]" aria-label="One event on">&rsaquo;</button>
+<input type="range" id="steps" min="0" aria-label="The moment after so many events"><output id="count"></output>
+<button data-key="Escape">Clear</button>
 </footer>
 <dialog id="help"><h2>Keys</h2><div id="list"></div><form method="dialog"><button>Close</button></form></dialog>
 </div>

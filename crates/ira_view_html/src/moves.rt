@@ -35,29 +35,33 @@ function play(isEnd) {
 }
 function found(text) {
   const [a, b] = text.match(/\d+/g) || [], is = pattern => pattern.test(text);
-  return order.filter(is(/^(node )?\d+(\.| event | )\d+$/i) ? e => e.node == a && e.at == b : is(/^round \d+$/i) ? e => e.round == a
+  return order.filter(is(/^(node )?\d+(\.| event | )\d+$/i) ? e => e.node == a && e.at == b
+    : is(/^round \d+$/i) ? e => e.round == a
     : is(/^id \d+$/i) ? e => e.id == a : e => placeOf(e).endsWith(text) || e.record.includes(text));
 }
 function search() {
   const text = $('search').value.trim(), hits = text ? found(text) : [];
-  fill('hits', hits.slice(0, 99).map(e => tag('li', {}, go(e), `: ${e.record} ${placeOf(e)}`)), text && !hits[0] && tag('li', {}, 'nothing'));
+  fill('hits', hits.slice(0, 99).map(e => tag('li', {}, go(e), `: ${e.record} ${placeOf(e)}`)),
+    text && !hits[0] && tag('li', {}, 'nothing'));
   return hits;
 }
-const orFirst = find => () => selected ? find(selected) : order[0];
 const actions = [
-  ['ArrowLeft', 'the event before, of the node', orFirst(e => beside(e, -1))], ['ArrowRight', 'the next one', orFirst(e => beside(e, 1))],
-  ['ArrowUp', 'from a receipt to its sending', orFirst(e => e.from || beside(e, -1))],
-  ['ArrowDown', 'from a sending to its receipt', orFirst(e => e.to || beside(e, 1))],
-  [',', 'the event before, in the order', orFirst(e => order[e.rank - 1])], ['.', 'the next one', orFirst(e => order[e.rank + 1])],
-  ['Home', 'the first event of the node', orFirst(e => nodes[e.node].events[1])], ['End', 'its last one', orFirst(e => nodes[e.node].events.at(-1))],
-  ['[', 'a moment one event earlier', () => step(-1)], [']', 'one event later', () => step(1)], [' ', 'play or pause', () => play()],
-  ['+', 'zoom in', () => zoom(1.25)], ['-', 'zoom out', () => zoom(.8)], ['w', 'the whole width', wholeWidth], ['0', 'all lanes', allLanes],
-  ['h', 'left', () => pan(120, 0)], ['l', 'right', () => pan(-120, 0)], ['k', 'up', () => pan(0, 80)], ['j', 'down', () => pan(0, -80)],
-  ['f', 'fold passive stretches', () => $('fold').click()], ['/', 'search', () => $('search').focus()], ['Escape', 'clear', () => setMoment()],
-  ['?', 'these keys', () => $('help').showModal()],
+  ['ArrowLeft', 'the event before, of the node', e => beside(e, -1)], ['ArrowRight', 'the next one', e => beside(e, 1)],
+  ['ArrowUp', 'from a receipt to its sending', e => e.from || beside(e, -1)],
+  ['ArrowDown', 'from a sending to its receipt', e => e.to || beside(e, 1)],
+  [',', 'the event before, in the order', e => order[e.rank - 1]], ['.', 'the next one', e => order[e.rank + 1]],
+  ['Home', 'the first event of the node', e => nodes[e.node].events[1]],
+  ['End', 'its last one', e => nodes[e.node].events.at(-1)],
+  ['[', 'a moment one event earlier', () => step(-1)], [']', 'one event later', () => step(1)],
+  [' ', 'play or pause', () => play()], ['+', 'zoom in', () => zoom(1.25)], ['-', 'zoom out', () => zoom(.8)],
+  ['w', 'the whole width', wholeWidth], ['0', 'all lanes', allLanes],
+  ['h', 'left', () => pan(120, 0)], ['l', 'right', () => pan(-120, 0)],
+  ['k', 'up', () => pan(0, 80)], ['j', 'down', () => pan(0, -80)],
+  ['f', 'fold passive stretches', () => $('fold').click()], ['/', 'search', () => $('search').focus()],
+  ['Escape', 'clear', () => setMoment()], ['?', 'these keys', () => $('help').showModal()],
 ];
 function act(key) {
-  const action = actions.find(([name]) => name == key), e = action?.[2]();
+  const action = actions.find(([name]) => name == key), e = action?.[2](selected || {node: 0, at: 0, rank: -1});
   if (e?.record) select(e);
   return action;
 }
@@ -66,12 +70,12 @@ for (const button of document.querySelectorAll('[data-key]')) button.onclick = (
 
 // A click selects, a drag moves the picture or the moment, two fingers zoom.
 function near(x, y) {
-  const onLane = e => min(...[laneY[e.node], e.node || !isUnrolled ? laneY[e.node] : foot].map(lane => hypot(X(e.p) - x, Y(lane) - y)));
+  const onLane = e => min(...lanesOf(e).map(lane => hypot(X(e.p) - x, Y(lane) - y)));
   const onArrow = ({p, y: from, p2, y2}) => {
     const [u, v, a, b] = [X(p2) - X(p), Y(y2) - Y(from), x - X(p), y - Y(from)], t = (u * a + v * b) / (u * u + v * v);
     return t > 0 && t < 1 ? hypot(a - t * u, b - t * v) : 99;
   };
-  const [best] = drawn.filter(e => Math.abs(X(e.p) - x) < 14 && onLane(e) < 14).sort((a, b) => onLane(a) - onLane(b));
+  const [best] = drawn.filter(e => onLane(e) < 14).sort((a, b) => onLane(a) - onLane(b));
   const arrow = !best && groups.flatMap(g => g.arrows).find(a => onArrow(a) < 5);
   return best || arrow?.from || arrow?.to;
 }
@@ -113,7 +117,8 @@ canvas.onwheel = event => {
 };
 
 const turns = order.flatMap(({turn}) => [turn.replace(/round.*/, ''), turn]).filter(turn => !turn.includes('round 0'));
-fill('alone', ['all', ...[...new Set(turns)].sort((a, b) => a.localeCompare(b, 'en', {numeric: true}))].map(words => tag('option', {}, words)));
+const inOrder = (a, b) => a.localeCompare(b, 'en', {numeric: true});
+fill('alone', ['all', ...[...new Set(turns)].sort(inOrder)].map(words => tag('option', {}, words)));
 $('alone').onchange = $('fold').onchange = () => {
   [alone, isFolded] = [$('alone').selectedIndex ? $('alone').value + ' ' : '', $('fold').checked];
   layColumns();
@@ -140,6 +145,7 @@ onhashchange = () => {
 };
 function resize() {
   [width, height] = [$('stage').clientWidth, $('stage').clientHeight];
+  if (!width) return;
   [canvas.width, canvas.height] = [width * devicePixelRatio, height * devicePixelRatio];
   redraw();
   settle();
@@ -150,10 +156,11 @@ layColumns();
 resize();
 new ResizeObserver(resize).observe($('stage'));
 allLanes();
+pan(1e9, 0);
 fill('legend', all('.s').filter(text => pointOf(text).y > foot + 44).map(text => {
   const {x, y} = pointOf(text), entry = svg.cloneNode(), set = (name, value) => entry.setAttribute(name, value);
   set('viewBox', `${x - 40} ${y - 16} 270 22`), set('width', 270), set('height', 22);
-  for (let part = text; part == text || part.tagName != 'text'; part = part.previousSibling) entry.prepend(part.cloneNode(true));
+  for (let it = text; it == text || it.tagName != 'text'; it = it.previousSibling) entry.prepend(it.cloneNode(true));
   return entry;
 }));
 setMoment(answer.cut);

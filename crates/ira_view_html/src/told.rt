@@ -3,7 +3,6 @@
 /// Nodes, their events and arrows, and what follows from these alone: pasts, cuts, ways of messages.
 pub(crate) const TOLD: &str = r#"</script>
 <script>
-// What was told.
 const {max, min, hypot} = Math, $ = id => document.getElementById(id);
 const svg = $('picture').firstElementChild;
 const all = selector => [...svg.querySelectorAll(selector)];
@@ -20,9 +19,9 @@ const answer = told[0];
 
 const loadWords = o => o.reset ? `reset ${o.reset}` : `${o.round} ${o.id} ${o.hop} ${o.dirty ? 'dirty' : 'clean'}`;
 const stateWords = ({phase, round, term, id, owes}) => phase + (round ? ` in round ${round}` : '')
-  + (term ? `${round ? ' of' : ' in'} term ${term}` : '') + (id ? ` with ID ${id}` : '') + (owes ? `, owes ${loadWords(owes)}` : '');
+  + (term ? `${round ? ' of' : ' in'} term ${term}` : '') + (id ? ` with ID ${id}` : '')
+  + (owes ? `, owes ${loadWords(owes)}` : '');
 
-// The events of a node count from 1.
 const nodes = [];
 const nodeAt = i => nodes[i] ??= {file: `node ${i}`, start: '', events: []};
 const eventAt = (i, at) => nodeAt(i).events[at] ??= {node: i, at};
@@ -35,7 +34,8 @@ for (const o of told) {
 }
 for (const path of all('[data-at]')) {
   const [, record, after] = /: (.*)\n(.*)$/.exec(path.textContent), isSquare = attr(path, 'class') == 'd';
-  Object.assign(named(attr(path, 'data-at')), {record, after, isSquare, x: numbers(attr(path, 'd'))[0] + (isSquare ? 4 : 0)});
+  Object.assign(named(attr(path, 'data-at')), {record, after, isSquare,
+    x: numbers(attr(path, 'd'))[0] + (isSquare ? 4 : 0)});
 }
 
 const LEFT = 76, laneY = all('.n').map(name => pointOf(name)).filter(({x}) => x < LEFT).map(({y}) => y - 4);
@@ -44,24 +44,25 @@ for (let i = 0; i < size; i++) nodeAt(i);
 const drawn = nodes.flatMap(node => node.events.filter(e => e?.x));
 const ticks = all('.q').map(tick => ({column: +tick.textContent, ...pointOf(tick)}));
 const pitch = ticks[1] ? (ticks[1].x - ticks[0].x) / (ticks[1].column - ticks[0].column) : 64;
-const columnOf = x => Math.round((x - LEFT) / pitch), firstColumn = ticks[0] ? ticks[0].column - columnOf(ticks[0].x) : 0;
+const columnOf = x => Math.round((x - LEFT) / pitch);
+const firstColumn = ticks[0] ? ticks[0].column - columnOf(ticks[0].x) : 0;
 const columns = max(1, ...drawn.map(e => columnOf(e.x))) + 1;
 for (const e of drawn) e.column ??= columnOf(e.x) + firstColumn;
 const order = steps.length ? steps.slice(1) : [...drawn].sort((a, b) => a.column - b.column || a.node - b.node);
 order.forEach((e, rank) => {
-  const [kind, ...load] = e.record.split(' '), isMessage = load.length > 2, number = (pattern, none) => (pattern.exec(e.after) || [0, none])[1];
+  const [kind, ...load] = e.record.split(' '), isMessage = load.length > 2;
+  const number = (pattern, none) => (pattern.exec(e.after) || [0, none])[1];
   const round = isMessage ? load[0] : number(/round (\d+)/, 0), id = isMessage ? load[1] : kind == 'draw' && load[0];
   Object.assign(e, {rank, kind, round, id, load: load[1] ? load.join(' ') : '', phase: e.after.split(/[ ,]/)[0]});
   e.turn = `term ${number(/term (\d+)/, 1)} round ${round} `;
   e.line ??= e.at + 4;
 });
 
-// Arrows, in groups that are drawn alike; of a sending it is known where to, of a receipt where from.
 const groups = [], join = (from, to) => Object.assign(from, {to}) && Object.assign(to, {from});
 for (const path of all('g > path[d*="L"]')) {
   const like = path.parentNode, [x, y, x2, y2] = numbers(attr(path, 'd'));
   const from = named(attr(path, 'data-from')), to = named(attr(path, 'data-to'));
-  if (!groups.length || groups.at(-1).like != like) groups.push({like, tip: attr(like, 'marker-end').slice(5, -1), arrows: []});
+  if (groups.at(-1)?.like != like) groups.push({like, tip: attr(like, 'marker-end').slice(5, -1), arrows: []});
   groups.at(-1).arrows.push({x, y, x2, y2, from, to});
   if (from && to) join(from, to);
 }
@@ -74,20 +75,21 @@ const beside = (e, d) => nodes[e.node].events[e.at + d];
 const ofKind = (i, kind) => nodes[i].events.filter(e => e?.kind == kind);
 const nameOf = e => `node ${e.node} event ${e.at}`, placeOf = e => `${nodes[e.node].file}:${e.line}`;
 
-// How far the past of events reaches at each node, or where their future begins.
+// How far pasts reach at each node, or where futures begin.
 function reach(events, way) {
   const isPast = way == 'from', edge = Array(size).fill(isPast ? 0 : Infinity), left = [...events];
   while (left.length) {
     const {node, at} = left.pop(), all = nodes[node].events;
-    for (const e of isPast ? all.slice(edge[node] + 1, at + 1) : all.slice(at, edge[node])) if (e?.[way]) left.push(e[way]);
+    const more = isPast ? all.slice(edge[node] + 1, at + 1) : all.slice(at, edge[node]);
+    left.push(...more.flatMap(e => e?.[way] || []));
     edge[node] = (isPast ? max : min)(edge[node], at);
   }
   return edge;
 }
 const cutAt = column => reach(nodes.flatMap(node => node.events.findLast(e => e?.column <= column) || []), 'from');
-const onTheWay = (cut, i, next) => ofKind(i, 'send').filter(e => e.at <= cut[i]).slice(ofKind(next, 'recv').filter(e => e.at <= cut[next]).length);
+const within = (cut, i, kind) => ofKind(i, kind).filter(e => e.at <= cut[i]);
+const onTheWay = (cut, i, next) => within(cut, i, 'send').slice(within(cut, next, 'recv').length);
 
-// The way of a message.
 function isPassedOn(receipt, sending) {
   const [a, b] = [receipt, sending].map(e => e.load.split(' ')), hop = a.length > 2 ? 2 : 1;
   return receipt.kind == 'recv' && b[hop] == +a[hop] + 1 && a.slice(0, hop).every((word, k) => b[k] == word);

@@ -1,8 +1,8 @@
 //! The script: the picture as it is seen.
 
 /// What stands where, what stands out, and how it is drawn.
-pub(crate) const VIEW: &str = r#"// What stands where, and what stands out.
-const canvas = $('view'), paper = canvas.getContext('2d', {alpha: false}), scene = document.createElement('canvas');
+pub(crate) const VIEW: &str = r#"const canvas = $('view'), scene = document.createElement('canvas');
+const paper = canvas.getContext('2d', {alpha: false});
 const MARGIN = 64, SIDE = 300, AXIS = 24, TOP = laneY[0] - 34, HIGH = foot + 30 - TOP, half = (laneY[1] - laneY[0]) / 2;
 const view = {x: -1, y: 0, wide: pitch, high: 1};
 let width = 0, height = 0, selected, past, first, way = [], cut, alone = '', isFolded;
@@ -33,16 +33,17 @@ function layColumns() {
   }
 }
 const total = () => stands[columns] + 1;
+const lanesOf = e => e.node || !isUnrolled ? [laneY[e.node]] : [laneY[0], foot];
 const X = p => MARGIN + (p - view.x) * view.wide;
 const Y = y => AXIS + (y - TOP - view.y) * view.high;
 
-// Styles of the picture, colours of the page.
 let styles, colours;
 function styleOf(element) {
   const key = [element, element.parentNode].map(it => it.tagName + attr(it, 'class'));
   if (!styles[key]) {
     const c = getComputedStyle(element);
-    styles[key] = {stroke: c.stroke, fill: c.fill, width: parseFloat(c.strokeWidth), dash: (c.strokeDasharray.match(/[\d.]+/g) || []).map(Number),
+    styles[key] = {stroke: c.stroke, fill: c.fill, width: parseFloat(c.strokeWidth),
+      dash: (c.strokeDasharray.match(/[\d.]+/g) || []).map(Number),
       font: c.font, align: c.textAnchor.replace('middle', 'center')};
   }
   return styles[key];
@@ -53,27 +54,26 @@ function readColours() {
   for (const name of ['back', 'ink', 'mute', 'link', 'moment']) colours[name] = sheet.getPropertyValue('--' + name);
 }
 
-// Pale is what isn't shown alone, or neither past nor future of the selected event.
+// Pale is what isn't shown, or neither past nor future of the selected event.
 const isBefore = e => e.at <= past[e.node], isAfter = e => e.at >= first[e.node];
 const isPale = e => !isShown(e) || selected && !isBefore(e) && !isAfter(e);
 const isPaleArrow = ({from, to}) => !isShown(from || to) || selected && !isBefore(to || from) && !isAfter(from || to);
 
-// While much moves, the last scene is moved.
-let ctx, asked, sceneView, isMuch, drawnLast = 0, later;
+// While much moves, the last scene is moved, and drawn anew as there is time.
+let ctx, asked, sceneView, isMuch, drawnLast, cost = 0, later;
 function redraw(isMove) {
   if (!isMove) sceneView = null;
   asked ||= requestAnimationFrame(draw);
 }
 function draw() {
-  const ratio = devicePixelRatio, now = performance.now();
+  const ratio = devicePixelRatio, now = performance.now(), isNew = !sceneView || !isMuch || now - drawnLast > 12 * cost;
   asked = 0;
-  if (!sceneView || !isMuch || now - drawnLast > 250) {
+  if (isNew) {
     [scene.width, scene.height] = [canvas.width + 2 * SIDE * ratio, canvas.height];
     ctx = scene.getContext('2d', {alpha: false});
     ctx.setTransform(ratio, 0, 0, ratio, SIDE * ratio, 0);
     drawScene();
     sceneView = {...view};
-    drawnLast = now;
   } else {
     clearTimeout(later);
     later = setTimeout(redraw, 120);
@@ -82,12 +82,15 @@ function draw() {
   ctx.setTransform(ratio, 0, 0, ratio, 0, 0);
   clear();
   const [sx, sy] = [view.wide / sceneView.wide, view.high / sceneView.high];
-  ctx.drawImage(scene, MARGIN - (MARGIN + SIDE) * sx + (sceneView.x - view.x) * view.wide, AXIS * (1 - sy) + (sceneView.y - view.y) * view.high,
+  ctx.drawImage(scene, MARGIN - (MARGIN + SIDE) * sx + (sceneView.x - view.x) * view.wide,
+    AXIS * (1 - sy) + (sceneView.y - view.y) * view.high,
     (width + 2 * SIDE) * sx, height * sy);
+  if (isNew) drawnLast = performance.now(), cost = drawnLast - now;
   if (cut) drawCut();
   if (selected?.x) {
     pen(colours.link, 6);
-    for (const e of way) if (e.kind == 'send' && way.includes(e.to)) line(X(e.p), Y(laneY[e.node]), X(e.to.p), Y(laneY[isUnrolled ? e.node + 1 : e.to.node]));
+    for (const {kind, p, node, to} of way) if (kind == 'send' && way.includes(to))
+      line(X(p), Y(laneY[node]), X(to.p), Y(laneY[isUnrolled ? node + 1 : to.node]));
     ctx.globalAlpha = .45;
     ctx.stroke();
     ctx.globalAlpha = 1;
@@ -117,7 +120,8 @@ function ring(x, y, r) {
 }
 function drawScene() {
   const scale = max(.3, min(1.5, view.high, view.wide / pitch * 1.5)), r = max(1, 3.5 * scale);
-  const left = view.x - (MARGIN + SIDE) / view.wide, right = view.x + (width + SIDE) / view.wide, isNear = view.wide >= .6 * pitch && view.high > .55;
+  const left = view.x - (MARGIN + SIDE) / view.wide, right = view.x + (width + SIDE) / view.wide;
+  const isNear = view.wide >= .6 * pitch && view.high > .55;
   let count = 0, colour;
   readColours();
   clear();
@@ -125,13 +129,15 @@ function drawScene() {
     const style = styleOf(like);
     ctx.globalAlpha = lower ? .35 : 1;
     pen(style.stroke, style.width * min(1, view.high), style.dash);
-    for (const s of spans) if (s.p2 > left && s.p < right && !(lower && s.y != laneY[0])) line(X(s.p), Y(s.y + lower), X(s.p2), Y(s.y + lower));
+    for (const {p, p2, y} of spans) if (p2 > left && p < right && !(lower && y != laneY[0]))
+      line(X(p), Y(y + lower), X(p2), Y(y + lower));
     ctx.stroke();
   }
   for (const pale of [true, false]) {
     ctx.globalAlpha = pale ? .15 : 1;
     for (const {like, tip, arrows} of groups) {
-      const style = styleOf(like), seen = arrows.filter(a => max(a.p, a.p2) > left && min(a.p, a.p2) < right && !isPaleArrow(a) != pale);
+      const style = styleOf(like), isSeen = a => max(a.p, a.p2) > left && min(a.p, a.p2) < right;
+      const seen = arrows.filter(a => isSeen(a) && !isPaleArrow(a) != pale);
       count += seen.length;
       pen(style.stroke, style.width * scale, scale > .5 ? style.dash : []);
       for (const a of seen) line(X(a.p), Y(a.y), X(a.p2), Y(a.y2));
@@ -146,7 +152,7 @@ function drawScene() {
     }
     ctx.fillStyle = colours.ink;
     ctx.beginPath();
-    for (const e of drawn) if (e.p > left && e.p < right && !isPale(e) != pale) for (const y of e.node || !isUnrolled ? [laneY[e.node]] : [laneY[0], foot]) {
+    for (const e of drawn) if (e.p > left && e.p < right && !isPale(e) != pale) for (const y of lanesOf(e)) {
       count++;
       if (e.isSquare || r < 2) ctx.rect(X(e.p) - r, Y(y) - r, 2 * r, 2 * r);
       else ring(X(e.p), Y(y), r);
@@ -176,10 +182,10 @@ function drawTip(tip, scale, x, y, x2, y2) {
 "#;
 
 /// The line of a moment, the names of lanes and columns, and moving.
-pub(crate) const LINES: &str = r#"// The line of a cut.
-function cutLine() {
+pub(crate) const LINES: &str = r#"function cutLine() {
   const at = (e, none) => e?.x ? e.p : none;
-  const low = cut.map((k, i) => at(nodes[i].events[k], 0)), high = cut.map((k, i) => at(nodes[i].events[k + 1], total()));
+  const low = cut.map((k, i) => at(nodes[i].events[k], 0));
+  const high = cut.map((k, i) => at(nodes[i].events[k + 1], total()));
   const [a, b] = [max(...low), min(...high)];
   return low.map((p, i) => a < b ? (a + b) / 2 : min(p + .5, (p + high[i]) / 2));
 }
@@ -198,7 +204,6 @@ function drawCut() {
   ctx.globalAlpha = 1;
   ctx.stroke();
 }
-// Names of lanes and columns, always in view.
 function drawAxes() {
   const write = (words, x, y, colour) => {
     ctx.fillStyle = colours[colour];
@@ -223,7 +228,6 @@ function drawAxes() {
   }
 }
 
-// Lanes fit into the view at least.
 const room = () => height - AXIS - 4, lowest = () => min(1, room() / HIGH);
 function settle() {
   const inside = (x, low, high) => max(low, min(high, x));
@@ -246,7 +250,7 @@ function pan(dx, dy) {
   settle();
 }
 const wholeWidth = () => (zoom(0), pan(1e9, 0));
-const allLanes = () => zoom(pitch * lowest() / view.wide);
+const allLanes = () => zoom(pitch * min(1.3, room() / HIGH) / view.wide);
 function reveal(p, y) {
   if (X(p) < MARGIN + 30 || X(p) > width - 60) view.x = p - (width - MARGIN) / view.wide / 2;
   if (Y(y) < AXIS + 20 || Y(y) > height - 20) view.y = y - TOP - room() / view.high / 2;
