@@ -1,6 +1,6 @@
 """Opens pages of `ira draw --out NAME.html` in a headless Chromium, driven over loopback by its driver: selects events,
-reads what the page says of them, and holds states, what is owed, pasts and futures, moments, who leads and what is on its way
-against the logs, which are read and stepped here anew. Turns the wheel, drags, clicks and types as a user does, with the
+reads what the page says of them, and holds states, what is owed, pasts and futures, moments, who leads and what is on
+its way against the logs, which are read and stepped here anew. Turns the wheel, drags, clicks and types as a user does, with the
 pointer and by the keyboard alone; reads roles and labels, and what would be printed. Says how many frames a second a large
 ring moves with, and the processor time of one.
 
