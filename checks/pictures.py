@@ -210,8 +210,9 @@ def words(state):
     return shown + (', owes ' + ' '.join(state.owed) if state.owed else '')
 
 
-def check(text, ring, cut=None, first=None, last=None):
-    """Holds a picture against a ring's logs. Gives how many marks it has."""
+def check(text, ring, cut=None, first=None, last=None, which=None, case=None):
+    """Holds a picture against a ring's logs, at a cut, or at one that is the first of a case: its number, and what it asks
+    of nodes. Gives how many marks it has."""
     drawn, n = Drawn(text, ring.n), ring.n
     end = ring.last()
     a = min(first or 0, end)
@@ -273,38 +274,6 @@ def check(text, ring, cut=None, first=None, last=None):
             others += 1
     assert seen == whole, set(seen.items()) ^ set(whole.items())
     assert not stubs and not strays and not inner and others == partial
-    # Bands are the phases, and debts the debts, from event to event.
-    edge = max([z2 for name in 'acpwvuo' for s in drawn.spans(name).values() for _, z2 in s])
-    left = min([a2 for name in 'acpwvuo' for s in drawn.spans(name).values() for a2, _ in s])
-    bands = {name: drawn.spans(name) for name in 'acpwvuo'}
-    for i in range(n):
-        order = sorted(p for j, p in drawn.marks if j == i)
-        before = order[0] - 1 if order else sum(1 for j, p in ring.column if j == i and ring.column[j, p] < a)
-        bounds = [(left, before)] + [(drawn.marks[i, p], p) for p in order]
-        want, owed = [], []
-        for (x, p), (x2, _) in zip(bounds, bounds[1:] + [(edge, None)]):
-            if x == x2:
-                continue
-            states = ring.states[i]
-            name = CLASS[states[p].phase] if p < len(states) else 'u'
-            if want and want[-1][0] == name:
-                want[-1] = (name, want[-1][1], x2)
-            else:
-                want.append((name, x, x2))
-            if p < len(states) and states[p].owed:
-                owed.append((x, x2))
-        have = sorted(((name, x, x2) for name in 'acpwvu' for x, x2 in bands[name].get(i, [])), key=lambda s: s[1])
-        assert have == want, (i, have, want)
-        assert sorted(bands['o'].get(i, [])) == owed, i
-    # The line of a moment has exactly the events of the cut on its left.
-    lines = [p for p in drawn.root.iter(S + 'path') if p.get('class') == 'h']
-    if cut and (inside(ring.line) or ring.line > end == z):
-        x = int(re.fullmatch(r'M(\d+) \d+V\d+', lines[0].get('d'))[1])
-        for (i, p), at in drawn.marks.items():
-            assert at != x and (at < x) == (p <= cut[i])
-        assert drawn.root.findall(f'.//{S}rect[@class="bg f"]') == [] or inside(ring.line)
-    else:
-        assert not lines
     # What is ringed.
     ringed = {(int(c.get('cy')), int(c.get('cx'))) for c in drawn.root.iter(S + 'circle') if c.get('class') == 'b r'}
     stops = {i: len(s) for i, s in enumerate(ring.states) if len(s) <= len(ring.events[i])}
@@ -322,6 +291,46 @@ def check(text, ring, cut=None, first=None, last=None):
                  if not any(k != j and ring.past(j, p)[k] >= q for k, q in stops.items())}
         named = {(i, stops[i])} | set(least.items())
     assert ringed == {(drawn.rows[i], drawn.marks[i, p]) for i, p in named if (i, p) in drawn.marks}
+    # Bands are the phases, and debts the debts, from event to event. Leading that begins where the first ring is, or right
+    # of it, isn't drawn as other leading is.
+    bands = {name: drawn.spans(name) for name in [*'acpwvuo', 'dl']}
+    edge = max(z2 for spans in bands.values() for s in spans.values() for _, z2 in s)
+    left = min(a2 for spans in bands.values() for s in spans.values() for a2, _ in s)
+    doubted = min((x for _, x in ringed), default=edge)
+    for i in range(n):
+        order = sorted(p for j, p in drawn.marks if j == i)
+        before = order[0] - 1 if order else sum(1 for j, p in ring.column if j == i and ring.column[j, p] < a)
+        bounds = [(left, before)] + [(drawn.marks[i, p], p) for p in order]
+        want, owed = [], []
+        for (x, p), (x2, _) in zip(bounds, bounds[1:] + [(edge, None)]):
+            if x == x2:
+                continue
+            states = ring.states[i]
+            name = CLASS[states[p].phase] if p < len(states) else 'u'
+            if want and want[-1][0] == name:
+                want[-1] = (name, want[-1][1], x2)
+            else:
+                want.append((name, x, x2))
+            if p < len(states) and states[p].owed:
+                owed.append((x, x2))
+        want = [('dl' if name == 'w' and x >= doubted else name, x, x2) for name, x, x2 in want]
+        have = sorted(((name, x, x2) for name in bands if name != 'o' for x, x2 in bands[name].get(i, [])), key=lambda s: s[1])
+        assert have == want, (i, have, want)
+        assert sorted(bands['o'].get(i, [])) == owed, i
+    # The line of a moment has exactly the events of the cut on its left, and a ring on it for each node that is asked.
+    lines = [p for p in drawn.root.iter(S + 'path') if p.get('class') == 'h']
+    rings = [(int(c.get('cx')), int(c.get('cy'))) for c in drawn.root.iter(S + 'circle') if c.get('class') == 'h bg']
+    above = [t.text for t in drawn.root.iter(S + 'text') if t.get('class') == 'ht']
+    if cut and (inside(ring.line) or ring.line > end == z):
+        x = int(re.fullmatch(r'M(\d+) \d+V\d+', lines[0].get('d'))[1])
+        for (i, p), at in drawn.marks.items():
+            assert at != x and (at < x) == (p <= cut[i])
+        assert drawn.root.findall(f'.//{S}rect[@class="bg f"]') == [] or inside(ring.line)
+        assert len(lines) == 1 and rings == [(x, drawn.rows[i]) for i, _ in case or ()]
+        asked = f'case {which} is met here: ' + ', '.join(f'node {i} {clause}' for i, clause in case) if case else 'here'
+        assert above == [asked if len(asked) <= 100 else asked[:98] + '..'], (above, asked)
+    else:
+        assert not lines and not rings and not above
     # The words for those who don't see it.
     lines = drawn.root.find(S + 'desc').text.split('\n')
     for i in range(min(n, 64)):
@@ -342,17 +351,23 @@ def logs_in(folder):
 def main():
     program, pictures = sys.argv[1], 0
     with tempfile.TemporaryDirectory() as temp:
-        out = os.path.join(temp, 'picture.svg')
+        out, question = os.path.join(temp, 'picture.svg'), os.path.join(temp, 'question')
 
-        def look(names, cut=None, first=None, last=None):
-            options = ['--at', ','.join(map(str, cut))] if cut else []
+        def look(names, cut=None, first=None, last=None, which=None, cases=None):
+            options = ['--at', ','.join(map(str, cut))] if cut and not cases else []
+            if cases:
+                with open(question, 'w') as f:
+                    f.write(f'irask 1\nnodes {len(names)}\n')
+                    f.writelines('case\n' + ''.join(f'{i}: {clause}\n' for i, clause in case) for case in cases)
+                    f.write('end\n')
+                options += ['--question', question]
             options += ['--from', str(first)] if first is not None else []
             options += ['--to', str(last)] if last is not None else []
             subprocess.run([program, 'draw', *options, '--out', out, *names], check=False, stdout=subprocess.DEVNULL)
             with open(out) as f:
                 text = f.read()
             os.remove(out)
-            return check(text, Ring(names, cut), cut, first, last)
+            return check(text, Ring(names, cut), cut, first, last, which, cases and cut and cases[which])
 
         folders = [os.path.join(HERE, '..', 'examples', name) for name in (
             'two_node_election', 'lone_initiator', 'tie_then_win', 'second_term', 'recorded_ring', 'receipts_exchanged',
@@ -374,6 +389,17 @@ def main():
                 for i in range(0, ring.n, 1 + ring.n // 5):
                     for p in range(1, len(ring.events[i]) + 1, 1 + marks // 40):
                         look(names, cut=ring.past(i, p))
+                        drawn += 1
+                # The end of the logs is a moment as any other; and so is the first of a case, which comes after one that
+                # no moment meets. Where no case is met there is no line.
+                look(names, cut=[len(events) for events in ring.events])
+                drawn += 2
+                never = [(i, 'round > 100000') for i in range(2)]
+                look(names, cases=[never])
+                for i, states in enumerate(ring.states):
+                    if states[-1].phase == 'leader':
+                        p = next(p for p, s in enumerate(states) if s.phase == 'leader')
+                        look(names, cut=ring.past(i, p), which=1, cases=[never, [(i, 'leader')]])
                         drawn += 1
             pictures += drawn + 1
             print(f'{os.path.basename(os.path.normpath(folder))}: {marks} marks, {drawn} moments')

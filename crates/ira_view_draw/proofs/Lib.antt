@@ -1,1 +1,3 @@
+pub mod Drawings
+pub mod Lines
 pub mod Moments

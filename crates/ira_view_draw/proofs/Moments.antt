@@ -1,9 +1,12 @@
 -- Cuts of moments.
-use Rattle.std.proofs.Common.{◌≡◌, ◌∙◌, ℕ, List, Option, ap, length, refl, sym}
+use Rattle.std.proofs.Common.{◌≡◌, ◌∙◌, ℕ, List, [], Option, Some, None, ap, arith, inl, inr, length, refl, sym}
 use Rattle.std.specs.Prelude.{option_map}
 use Rattle.std.specs.Option.{ForSome}
+use Rattle.std.proofs.lemmas.Option.{get_or_from_slice_get, slice_get_cases}
 use Rattle.ira_event.specs.Log.{Log}
-use Rattle.ira_view_moment.specs.ChosenMoment.{IsMomentOf, numbers_of}
+use Rattle.ira_pred.specs.Case.{Conjunct}
+use Rattle.ira_view_draw.specs.Told.{asked_of, cut_with_line, told_of}
+use Rattle.ira_view_moment.specs.ChosenMoment.{HasItsCase, IsMomentOf, case_of, cut_of, numbers_of}
 use Rattle.ira_view_moment.specs.declared.chosen_moment.ChosenMoment.{ChosenMoment}
 use Rattle.ira_view_moment.specs.declared.chosen_moment.ChosenMoment.TheVariants.{AtEnd, AtCut, OfCase, Unmet}
 
@@ -21,3 +24,30 @@ has_numbers see logs (OfCase question number cut) found is h = λ c at.
     let same : see c ≡ cut.items = cc in
     rw same (h.0 cut.items refl).0.places
 has_numbers see logs (Unmet case) found is h = λ c at. (let e = sym (ap (option_map see) at) ∙ is in absurd cc)
+
+-- the cut that has a line is the one that has numbers
+pub numbers_have_line : {A : Type 0} (logs : List Log) (moment : ChosenMoment A)
+    → numbers_of moment ≡ cut_with_line (told_of moment) (cut_of logs moment)
+numbers_have_line logs AtEnd = refl
+numbers_have_line logs (AtCut cut) = refl
+numbers_have_line logs (OfCase question number cut) = refl
+numbers_have_line logs (Unmet number) = refl
+
+-- a moment's case is what it asks
+pub asked_nothing : {A : Type 0} (moment : ChosenMoment A) → HasItsCase moment → case_of moment ≡ None
+    → asked_of (told_of moment) ≡ []
+asked_nothing AtEnd has none = refl
+asked_nothing (AtCut cut) has none = refl
+asked_nothing (OfCase question number cut) has none =
+    elim (slice_get_cases question.cases number).1 [
+      | inl some ↦ absurd (let at = some.2 in cc)
+      | inr far ↦ absurd (omega (arith, far.0, has))
+    ]
+asked_nothing (Unmet number) has none = refl
+
+pub asked_case : {A : Type 0} (moment : ChosenMoment A) (case : List Conjunct) → case_of moment ≡ Some case
+    → asked_of (told_of moment) ≡ case
+asked_case AtEnd case at = absurd cc
+asked_case (AtCut cut) case at = absurd cc
+asked_case (OfCase question number cut) case at = get_or_from_slice_get question.cases number case [] at
+asked_case (Unmet number) case at = absurd cc

@@ -36,13 +36,13 @@ fn ends_of(arrow: &Arrow, grid: &Grid) -> (Point, Point) {
         (Some(sent), None) => {
             let (x, y) = (grid.x(sent), grid.y(place));
             let end = Point {
-                x: x + grid.column_width.min(STUB),
-                y: beyond(y, up, (grid.lane_height * 2 / 5).min(24)),
+                x: x + grid.column_width().min(STUB),
+                y: beyond(y, up, (grid.lane_height() * 2 / 5).min(24)),
             };
             (Point { x, y }, end)
         }
         (None, received) => {
-            let (x, y) = (grid.x(received.unwrap_or(grid.first)), grid.y(row));
+            let (x, y) = (grid.x(received.unwrap_or(grid.window.first)), grid.y(row));
             let begin = Point {
                 x: x - STUB,
                 y: beyond(y, !up, 26),
@@ -80,7 +80,7 @@ fn write_event<A: Allocator>(
 /// The lines of all arrows that are drawn so.
 fn write_paths<A: Allocator>(out: &mut Svg<A>, picture: &Picture<A>, grid: &Grid, stroke: Stroke) {
     for arrow in &picture.arrows {
-        if Stroke::of(arrow, grid.last) == stroke {
+        if Stroke::of(arrow, grid.window.last) == stroke {
             let (begin, end) = ends_of(arrow, grid);
             out.open("path", "");
             write_event(

@@ -31,6 +31,9 @@ pub(crate) const PASSIVE: &str = "p";
 
 pub(crate) const LEADER: &str = "w";
 
+/// Leading after what the answer speaks of.
+pub(crate) const DOUBTED: &str = "dl";
+
 pub(crate) const YIELDING: &str = "v";
 
 pub(crate) const UNKNOWN: &str = "u";

@@ -1,7 +1,9 @@
-ghost use Rattle.std.specs.Prelude.{◌≡◌, ℕ, Err, IfErr, IfOk};
-ghost use Rattle.ira_view_moment.specs.ChosenMoment.{IsMomentOf};
+ghost use Rattle.std.specs.Prelude.{◌≡◌, ◌++◌, ℕ, Err, IfErr, IfOk, List, Some, codes};
+ghost use Rattle.ira_view_moment.specs.ChosenMoment.{IsMomentOf, cut_of};
 ghost use Rattle.ira_view_page.specs.Printable.{IsPrintable};
 ghost use Rattle.ira_view_picture.specs.DrawFault.{HasTooManyEvents, IsDrawFault};
+ghost use Rattle.ira_view_draw.specs.Drawing.{IsDrawing};
+ghost use Rattle.ira_view_draw.specs.Told.{told_of};
 
 use crate::arrows::write_arrows;
 use crate::class;
@@ -13,7 +15,7 @@ use crate::labels::write_labels;
 use crate::lanes::write_lanes;
 use crate::legend::{legend_foot, write_legend};
 use crate::marks::write_marks;
-use crate::moment_line::{moment_words, write_moment};
+use crate::moment_line::{moment_words, write_line_of_moment};
 use crate::svg::Svg;
 use ira_audit::RefusedLogs;
 use ira_event::{Logs, OutOfMemory};
@@ -78,54 +80,56 @@ fn write_highlights<A: Allocator>(
     }
 }
 
-/// Whether one of these events is drawn.
-fn is_ringed<A: Allocator>(picture: &Picture<A>, events: &[Highlight]) -> bool {
-    events
-        .iter()
-        .any(|event| column_of(picture, event.at).is_some())
+/// The first column of one of these events, where one is drawn.
+fn first_column<A: Allocator>(picture: &Picture<A>, events: &[Highlight]) -> Option<u32> {
+    let mut first = None;
+    for event in events {
+        if let Some(column) = column_of(picture, event.at) {
+            first = Some(column.min(first.unwrap_or(column)));
+        }
+    }
+    first
 }
 
-/// Writes what all pictures have below the marks that are particular to one: the frame, the lanes and what is on them. It
-/// gives where columns and lanes stand.
-fn write_run<A: Allocator>(
+/// Writes what all pictures have below the marks: the frame, the legend, the lanes and arrows. It gives where columns and
+/// lanes stand.
+fn write_ground<A: Allocator>(
     out: &mut Svg<A>,
     nodes: u8,
     picture: &Picture<A>,
     told: Option<ToldReason<'_>>,
-) -> Grid {
-    let grid = Grid::new(nodes, picture.window.first, picture.window.last);
-    let height = legend_foot(picture, &grid).saturating_add(20);
+) -> Grid
+    ensures { (result.nodes ≡ nodes) × (result.window ≡ picture.now.window) }
+{
+    let grid = Grid {
+        nodes,
+        window: picture.window,
+    };
+    let named = match told {
+        Some(told) => told.column,
+        None => None,
+    };
+    let height = legend_foot(picture, &grid, named).saturating_add(20);
     write_head(out, picture, &grid, told, height);
     write_columns(out, &grid);
-    write_lanes(out, picture, &grid);
+    write_legend(out, picture, &grid, named);
+    write_lanes(out, picture, &grid, named);
     write_arrows(out, picture, &grid);
-    write_marks(out, picture, &grid);
     write_labels(out, picture, &grid);
     grid
 }
 
-/// Whether the line of a moment, which has this column, is drawn: at the columns that are, or after the last of all.
-fn has_line<A: Allocator>(picture: &Picture<A>, column: u32) -> bool {
-    let window = picture.window;
-    let is_end = column > picture.last && window.last == picture.last;
-    is_end || (window.first <= column && column <= window.last)
-}
-
-/// Writes the legend, and ends the picture.
-fn finish<A: Allocator>(
-    mut out: Svg<A>,
-    picture: &Picture<A>,
-    grid: &Grid,
-) -> Result<PageText<A>, OutOfMemory>
-    ensures { IfOk result IsPrintable }
+/// Ends the picture.
+fn finish<A: Allocator>(mut out: Svg<A>) -> Result<PageText<A>, OutOfMemory>
+    ensures { IfOk result (λ text. IsPrintable text
+        × ((before : List ℕ) × (out.page ≡ Some before) × (text ≡ before ++ codes "</svg>\n"))) }
 {
-    write_legend(&mut out, picture, grid);
     out.page.words("</svg>\n");
     out.page.finish()
 }
 
 /// The text of an SVG file: a space-time diagram of the logs of a run at the columns that are asked for, with a line at the
-/// moment.
+/// moment where it isn't the end of the logs.
 pub fn draw<A: Allocator + Clone>(
     alloc: A,
     logs: &Logs<A>,
@@ -133,7 +137,8 @@ pub fn draw<A: Allocator + Clone>(
     columns: ColumnRange,
 ) -> Result<PageText<A>, DrawFault>
     requires { IsMomentOf logs.now moment.now }
-    ensures printable { IfOk result IsPrintable }
+    ensures drawing { IfOk result
+        (IsDrawing logs.now (cut_of logs.now moment.now) (told_of moment.now) columns.from columns.to) }
     ensures fault { IfErr result IsDrawFault }
     ensures events { (events : ℕ) → result ≡ Err (DrawFault.TooManyEvents events)
         → HasTooManyEvents logs.now columns.from columns.to events }
@@ -142,14 +147,10 @@ pub fn draw<A: Allocator + Clone>(
     let picture = Picture::of(alloc.clone()?, logs, moment.cut(), from, to)?;
     let words = moment_words(alloc.clone()?, moment)?;
     let mut out = Svg::new(alloc);
-    let grid = write_run(&mut out, logs.size().get(), &picture, None);
-    match picture.line {
-        Some(column) if has_line(&picture, column) => {
-            write_moment(&mut out, &grid, column, words.bytes(), moment.case());
-        }
-        _ => {}
-    }
-    Ok(finish(out, &picture, &grid)?)
+    let grid = write_ground(&mut out, logs.size().get(), &picture, None);
+    write_marks(&mut out, &picture, &grid);
+    write_line_of_moment(&mut out, &grid, &picture, moment, words.bytes());
+    Ok(finish(out)?)
 }
 
 /// The same of the logs of no run: what the reason against them speaks of is marked.
@@ -171,10 +172,11 @@ pub fn draw_refused<A: Allocator + Clone>(
     let told = ToldReason {
         reason: refused.reason(),
         words: words.bytes(),
-        is_ringed: is_ringed(&picture, &events),
+        column: first_column(&picture, &events),
     };
     let mut out = Svg::new(alloc);
-    let grid = write_run(&mut out, logs.size().get(), &picture, Some(told));
+    let grid = write_ground(&mut out, logs.size().get(), &picture, Some(told));
+    write_marks(&mut out, &picture, &grid);
     write_highlights(&mut out, &picture, &grid, &events);
-    Ok(finish(out, &picture, &grid)?)
+    Ok(finish(out)?)
 }

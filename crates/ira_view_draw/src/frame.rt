@@ -72,7 +72,7 @@ pub(crate) fn write_head<A: Allocator>(
 fn tick_step(grid: &Grid) -> u32
     ensures { 0 < result }
 {
-    match grid.column_width {
+    match grid.column_width() {
         0..=17 => 10,
         18..=43 => 5,
         _ => 1,
@@ -89,7 +89,7 @@ pub(crate) fn write_columns<A: Allocator>(out: &mut Svg<A>, grid: &Grid) {
     let (top, low, below) = (TOP - 20, grid.foot() + 18, grid.foot() + 38);
     out.begin_lines(class::TICKS);
     let mut is_bare = true;
-    for column in grid.first..=grid.last {
+    for column in grid.window.first..=grid.window.last {
         if has_tick(grid, column) {
             out.down(grid.x(column), top, low);
             is_bare = false;
@@ -102,7 +102,7 @@ pub(crate) fn write_columns<A: Allocator>(out: &mut Svg<A>, grid: &Grid) {
     out.begin_text(class::TICK_NAME, LEFT - 20, below);
     out.page.words("column");
     out.page.words("</text>");
-    for column in grid.first..=grid.last {
+    for column in grid.window.first..=grid.window.last {
         if has_tick(grid, column) {
             out.begin_text(class::TICK_NUMBER, grid.x(column), below);
             out.page.number(column as u64);

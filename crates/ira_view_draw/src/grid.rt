@@ -1,18 +1,16 @@
-ghost use Rattle.std.specs.Prelude.{◌≡◌, ◌<◌, ◌≤◌, ◌+◌, ◌*◌, ◌^◌};
-ghost use Rattle.ira_view_draw.specs.Grid.{IsAcross, IsDown};
+ghost use Rattle.std.specs.Prelude.{◌≡◌, ◌↔◌, ◌<◌, ◌≤◌, ◌+◌, ◌*◌, ◌^◌, IsTrue, max};
+ghost use Rattle.ira_view_picture.specs.Window.{IsIn};
+ghost use Rattle.ira_view_draw.specs.Grid.{IsAcross, IsDown, foot_of, height_of, picture_width, width_of, x_of, y_of};
+
+use ira_view_picture::Window;
 
 /// Where columns and lanes stand.
 #[derive(Clone, Copy)]
 pub(crate) struct Grid {
     /// How many nodes the ring has.
     pub(crate) nodes: u8,
-    /// The first and the last column that are drawn.
-    pub(crate) first: u32,
-    pub(crate) last: u32,
-    pub(crate) column_width: u64,
-    pub(crate) lane_height: u64,
-    ghost width_bound: { column_width ≤ 64 },
-    ghost height_bound: { lane_height ≤ 84 },
+    /// The columns that are drawn.
+    pub(crate) window: Window,
 }
 
 /// Where the first column stands, and the first lane.
@@ -20,9 +18,7 @@ pub(crate) const LEFT: u64 = 76;
 
 pub(crate) const TOP: u64 = 96;
 
-/// No column stands farther right, and no lane lower.
-const FARTHEST: u64 = 274_877_906_944;
-
+/// No lane stands lower.
 const LOWEST: u64 = 32_000;
 
 /// How far an arrow reaches that comes from the left of the first column.
@@ -54,60 +50,56 @@ impl Point {
     }
 }
 
-fn column_width(columns: u32) -> u64
-    ensures { result ≤ 64 }
-{
-    match columns {
-        0..=12 => 64,
-        13..=20 => 44,
-        21..=40 => 30,
-        41..=100 => 18,
-        101..=400 => 12,
-        _ => 8,
-    }
-}
-
-fn lane_height(nodes: u8) -> u64
-    ensures { result ≤ 84 }
-{
-    match nodes {
-        0..=4 => 84,
-        5..=8 => 56,
-        9..=16 => 44,
-        17..=32 => 34,
-        _ => 26,
-    }
-}
-
 impl Grid {
-    pub(crate) fn new(nodes: u8, first: u32, last: u32) -> Grid {
-        Grid {
-            nodes,
-            first,
-            last,
-            column_width: column_width(last.saturating_sub(first).saturating_add(1)),
-            lane_height: lane_height(nodes),
+    /// How wide a column is.
+    pub(crate) fn column_width(&self) -> u64
+        ensures value { result ≡ width_of self.now.window }
+        ensures few { result ≤ 64 }
+    {
+        match u64::from(self.window.last.saturating_sub(self.window.first)) + 1 {
+            0..=12 => 64,
+            13..=20 => 44,
+            21..=40 => 30,
+            41..=100 => 18,
+            101..=400 => 12,
+            _ => 8,
         }
     }
 
-    pub(crate) fn contains(&self, column: u32) -> bool {
-        self.first <= column && column <= self.last
+    /// How far apart lanes are.
+    pub(crate) fn lane_height(&self) -> u64
+        ensures value { result ≡ height_of self.now.nodes }
+        ensures few { result ≤ 84 }
+    {
+        match self.nodes {
+            0..=4 => 84,
+            5..=8 => 56,
+            9..=16 => 44,
+            17..=32 => 34,
+            _ => 26,
+        }
+    }
+
+    pub(crate) fn contains(&self, column: u32) -> bool
+        ensures { IsTrue result ↔ IsIn self.now.window column }
+    {
+        self.window.contains(column)
     }
 
     /// Where a column stands that is the first one or right of it.
     pub(crate) fn x(&self, column: u32) -> u64
-        ensures { IsAcross result }
+        ensures place { result ≡ x_of self.now.window column }
+        ensures bounds { IsAcross result }
     {
-        LEFT + self.offset(column.saturating_sub(self.first))
+        LEFT + self.offset(column.saturating_sub(self.window.first))
     }
 
     /// How far right of column 0 a column would stand.
     fn offset(&self, column: u32) -> u64
-        ensures { result < 2 ^ 39 }
+        ensures value { result ≡ column * width_of self.now.window }
+        ensures few { result < 2 ^ 39 }
     {
-        u64::from(column)
-            .saturating_mul(self.column_width)
-            .min(FARTHEST)
+        u64::from(column) * self.column_width()
     }
 
     /// A line between two lanes and columns, as far as there is room for it.
@@ -125,9 +117,9 @@ impl Grid {
 
     /// The end of a line at a place, or where the line to another place enters the picture. Both count from column 0.
     fn clipped(&self, end: Point, other: Point) -> Point {
-        let zero = self.offset(self.first);
+        let zero = self.offset(self.window.first);
         let left = zero.saturating_sub(REACH);
-        let right = self.offset(self.last) + self.column_width.max(24);
+        let right = self.offset(self.window.last) + self.column_width().max(24);
         let Point { x, y } = if end.x < left {
             end.towards(other, left)
         } else if end.x > right {
@@ -143,20 +135,24 @@ impl Grid {
 
     /// Where a lane stands.
     pub(crate) fn y(&self, row: usize) -> u64
-        ensures { IsDown result }
+        ensures place { result ≡ y_of self.now.nodes row }
+        ensures bounds { IsDown result }
     {
-        TOP + (row as u64).saturating_mul(self.lane_height).min(LOWEST)
+        TOP + (row as u64).saturating_mul(self.lane_height()).min(LOWEST)
     }
 
     /// The right edge of bands.
     pub(crate) fn edge(&self) -> u64
-        ensures { result < 2 ^ 41 }
+        ensures place { result ≡ x_of self.now.window self.now.window.last + max (width_of self.now.window) 24 }
+        ensures few { result < 2 ^ 41 }
     {
-        self.x(self.last) + self.column_width.max(24)
+        self.x(self.window.last) + self.column_width().max(24)
     }
 
     /// Whether node 0 is drawn once more below the last one.
-    pub(crate) fn is_unrolled(&self) -> bool {
+    pub(crate) fn is_unrolled(&self) -> bool
+        ensures { IsTrue result ↔ (2 < self.now.nodes) }
+    {
         self.nodes > 2
     }
 
@@ -172,16 +168,19 @@ impl Grid {
 
     /// Where the last lane stands.
     pub(crate) fn foot(&self) -> u64
-        ensures { IsDown result }
+        ensures place { result ≡ foot_of self.now.nodes }
+        ensures bounds { IsDown result }
     {
-        self.y(if self.is_unrolled() {
-            usize::from(self.nodes)
+        if self.is_unrolled() {
+            self.y(usize::from(self.nodes))
         } else {
-            1
-        })
+            self.y(1)
+        }
     }
 
-    pub(crate) fn width(&self) -> u64 {
+    pub(crate) fn width(&self) -> u64
+        ensures { result ≡ picture_width self.now.window }
+    {
         (self.edge() + 190).max(780)
     }
 
@@ -192,6 +191,6 @@ impl Grid {
 
     /// Whether there is room for words beside each arrow.
     pub(crate) fn has_labels(&self) -> bool {
-        self.nodes <= 4 && self.column_width >= 44
+        self.nodes <= 4 && self.column_width() >= 44
     }
 }

@@ -32,8 +32,8 @@ pub(crate) struct ToldReason<'a> {
     pub(crate) reason: Reason,
     /// The line of the answer, without its line feed.
     pub(crate) words: &'a [u8],
-    /// Whether an event that it speaks of is drawn.
-    pub(crate) is_ringed: bool,
+    /// The first column of an event that it speaks of, where one is drawn.
+    pub(crate) column: Option<u32>,
 }
 
 /// Adds who leads in the end.
@@ -88,7 +88,7 @@ fn write_sentence<A: Allocator>(page: &mut Page<A>, told: Option<ToldReason<'_>>
         return;
     };
     page.words(match told.reason {
-        _ if !told.is_ringed => ". What the answer speaks of stands at other columns.",
+        _ if told.column.is_none() => ". What the answer speaks of stands at other columns.",
         Reason::Match(_) => {
             ". Thick broken arrows join what is not the same message; the ringed receipt is the first such."
         }

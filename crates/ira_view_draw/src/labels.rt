@@ -45,7 +45,7 @@ fn place_of_pairs(grid: &Grid, place: usize) -> u64 {
     let y = grid.y(place);
     if grid.nodes == 2 && place == 1 {
         y + 22
-    } else if grid.lane_height < 34 {
+    } else if grid.lane_height() < 34 {
         y - 8
     } else {
         y - 12
@@ -62,7 +62,7 @@ fn write_pair<A: Allocator>(out: &mut Svg<A>, grid: &Grid, pair: RoundId, column
 /// Whether the first event that is drawn is at the first column, and changes under which ID the node is active.
 fn changes_at_first<A: Allocator>(grid: &Grid, lane: &Lane<A>) -> bool {
     match lane.marks.first() {
-        Some(mark) if mark.column == grid.first => active_pair(mark.after)
+        Some(mark) if mark.column == grid.window.first => active_pair(mark.after)
             != active_pair(lane.start),
         _ => false,
     }
@@ -73,7 +73,7 @@ fn write_pairs<A: Allocator>(out: &mut Svg<A>, grid: &Grid, lane: &Lane<A>, y: u
     let mut before = active_pair(lane.start);
     match before {
         Some(pair) if !changes_at_first(grid, lane) => {
-            write_pair(out, grid, pair, grid.first, y);
+            write_pair(out, grid, pair, grid.window.first, y);
         }
         _ => {}
     }

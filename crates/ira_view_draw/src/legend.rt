@@ -14,8 +14,8 @@ enum Sample {
     Dot,
     /// A mark of a draw.
     Square,
-    Band(BandKind),
-    Debt,
+    /// What is shown along lanes.
+    Lane(Shown),
     /// An arrow of a message that isn't dirty and is received.
     Message,
     /// An arrow of this line, however it ends.
@@ -27,7 +27,7 @@ enum Sample {
 }
 
 /// All that may be explained, in its order: by which words, and how wide the entry is.
-fn entries(has_terms: bool) -> [(Sample, &'static str, u64); 16] {
+fn entries(has_terms: bool) -> [(Sample, &'static str, u64); 17] {
     let (active, width) = if has_terms {
         ("active, as term/round:ID", 198)
     } else {
@@ -36,12 +36,25 @@ fn entries(has_terms: bool) -> [(Sample, &'static str, u64); 16] {
     [
         (Sample::Dot, "event", 92),
         (Sample::Square, "draw", 88),
-        (Sample::Band(BandKind::Choosing), "choosing", 108),
-        (Sample::Band(BandKind::Active), active, width),
-        (Sample::Band(BandKind::Passive), "passive", 98),
-        (Sample::Band(BandKind::Leader), "leader", 94),
-        (Sample::Band(BandKind::Yielding), "yielding", 102),
-        (Sample::Debt, "owes a message", 158),
+        (
+            Sample::Lane(Shown::Band(BandKind::Choosing)),
+            "choosing",
+            108,
+        ),
+        (Sample::Lane(Shown::Band(BandKind::Active)), active, width),
+        (Sample::Lane(Shown::Band(BandKind::Passive)), "passive", 98),
+        (Sample::Lane(Shown::Band(BandKind::Leader)), "leader", 94),
+        (
+            Sample::Lane(Shown::Doubted),
+            "leader by its own log alone",
+            230,
+        ),
+        (
+            Sample::Lane(Shown::Band(BandKind::Yielding)),
+            "yielding",
+            102,
+        ),
+        (Sample::Lane(Shown::Debt), "owes a message", 158),
         (Sample::Message, "message", 106),
         (Sample::LineStyle(LineStyle::Dirty), "dirty", 84),
         (Sample::LineStyle(LineStyle::Reset), "reset", 88),
@@ -52,7 +65,11 @@ fn entries(has_terms: bool) -> [(Sample, &'static str, u64); 16] {
             "the lap that elected the leader",
             264,
         ),
-        (Sample::Band(BandKind::Unknown), "no state", 108),
+        (
+            Sample::Lane(Shown::Band(BandKind::Unknown)),
+            "no state",
+            108,
+        ),
         (Sample::SecondLane, "node 0 once more", 176),
     ]
 }
@@ -96,12 +113,11 @@ fn has_mark<A: Allocator>(lane: &Lane<A>, is_draw: bool) -> bool {
 
 impl Sample {
     /// Whether a lane has it.
-    fn is_in<A: Allocator>(self, lane: &Lane<A>) -> bool {
+    fn is_in<A: Allocator>(self, lane: &Lane<A>, named: Option<u32>) -> bool {
         match self {
             Sample::Dot => has_mark(lane, false),
             Sample::Square => has_mark(lane, true),
-            Sample::Band(kind) => lane.has(kind),
-            Sample::Debt => !lane.debts.is_empty(),
+            Sample::Lane(shown) => shown.is_in(lane, named),
             _ => false,
         }
     }
@@ -118,12 +134,12 @@ impl Sample {
 }
 
 /// Whether the picture has what the entry explains.
-fn is_used<A: Allocator>(picture: &Picture<A>, sample: Sample) -> bool {
+fn is_used<A: Allocator>(picture: &Picture<A>, sample: Sample, named: Option<u32>) -> bool {
     if let Sample::SecondLane = sample {
         return picture.lanes.len() > 2;
     }
     let last = picture.window.last;
-    picture.lanes.iter().any(|lane| sample.is_in(lane))
+    picture.lanes.iter().any(|lane| sample.is_in(lane, named))
         || picture
             .arrows
             .iter()
@@ -131,10 +147,14 @@ fn is_used<A: Allocator>(picture: &Picture<A>, sample: Sample) -> bool {
 }
 
 /// Where the last line of the legend stands.
-pub(crate) fn legend_foot<A: Allocator>(picture: &Picture<A>, grid: &Grid) -> u64 {
+pub(crate) fn legend_foot<A: Allocator>(
+    picture: &Picture<A>,
+    grid: &Grid,
+    named: Option<u32>,
+) -> u64 {
     let mut room = LegendPlace::new(grid);
     for (sample, _, width) in entries(picture.has_terms()) {
-        if is_used(picture, sample) {
+        if is_used(picture, sample, named) {
             room.place(width);
         }
     }
@@ -176,8 +196,7 @@ fn write_sample<A: Allocator>(out: &mut Svg<A>, sample: Sample, x: u64, y: u64) 
     match sample {
         Sample::Dot => write_dot(out, x, y),
         Sample::Square => write_square(out, x, y),
-        Sample::Band(kind) => write_bar(out, Shown::Band(kind).class(), None, x, y),
-        Sample::Debt => write_bar(out, class::DEBT, None, x, y),
+        Sample::Lane(shown) => write_bar(out, shown.class(), None, x, y),
         Sample::Message => write_arrow(out, LineStyle::Clean, Tip::Head, x, y),
         Sample::LineStyle(line) => write_arrow(out, line, Tip::Head, x, y),
         Sample::Tip(tip) => write_arrow(out, LineStyle::Clean, tip, x, y),
@@ -191,10 +210,15 @@ fn write_sample<A: Allocator>(out: &mut Svg<A>, sample: Sample, x: u64, y: u64) 
 }
 
 /// What the picture has, with words.
-pub(crate) fn write_legend<A: Allocator>(out: &mut Svg<A>, picture: &Picture<A>, grid: &Grid) {
+pub(crate) fn write_legend<A: Allocator>(
+    out: &mut Svg<A>,
+    picture: &Picture<A>,
+    grid: &Grid,
+    named: Option<u32>,
+) {
     let mut room = LegendPlace::new(grid);
     for (sample, words, width) in entries(picture.has_terms()) {
-        if is_used(picture, sample) {
+        if is_used(picture, sample, named) {
             let (x, y) = room.place(width);
             write_sample(out, sample, x, y.saturating_sub(4));
             out.begin_text(class::ASIDE, x.saturating_add(38), y);

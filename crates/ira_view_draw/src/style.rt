@@ -8,7 +8,7 @@ const SHAPES: &str = concat!(
     "text{font:12px system-ui,sans-serif}.t{font-size:15px;font-weight:600}.n{text-anchor:end}",
     ".k{text-anchor:middle}.q{font-size:10px;text-anchor:middle}",
     ".l text{font-size:11px;text-anchor:middle}.cl{font-size:10px;text-anchor:end}path{fill:none}",
-    ".c{stroke-width:12}.a{stroke-width:12}.p{stroke-width:4}.w{stroke-width:18}",
+    ".c{stroke-width:12}.a{stroke-width:12}.p{stroke-width:4}.w,.dl{stroke-width:18}",
     ".u{stroke-width:1;stroke-dasharray:2 3}.o{stroke-width:3}",
     ".e path{stroke-width:7;stroke-linecap:round}.e .d{stroke-width:8;stroke-linecap:butt}",
     ".j{stroke-width:7;stroke-linecap:round}.j.d{stroke-width:8;stroke-linecap:butt}",
@@ -50,7 +50,7 @@ macro_rules! colours {
             concat!(
                 "text{fill:", $ink, "}.s,.q{fill:", $mute, "}.bg{fill:", $background, "}.g{stroke:", $grid, "}",
                 ".c{stroke:", $choosing, "}.a{stroke:", $active, "}.p{stroke:", $passive, "}.w{stroke:", $leader, "}",
-                ".u{stroke:", $mute, "}.o,.e,.j{stroke:", $ink, "}.m{stroke:", $message, "}.z{stroke:", $leader, "}",
+                ".u,.dl{stroke:", $mute, "}.o,.e,.j{stroke:", $ink, "}.m{stroke:", $message, "}.z{stroke:", $leader, "}",
                 ".b{stroke:", $named, "}.bt{fill:", $named, ";stroke:", $background, "}",
                 ".h{stroke:", $moment, "}.ht{fill:", $moment, "}#A path{fill:", $message, "}#Z path{fill:", $leader,
                 "}#B path{fill:", $named, "}#X path{stroke:", $message, "}",

@@ -1,6 +1,9 @@
+ghost use Rattle.std.specs.Prelude.{◌≡◌, Some, []};
 ghost use Rattle.ira_view_page.specs.Page.{Added};
 ghost use Rattle.ira_view_page.specs.Printable.{IsPrintable};
 ghost use Rattle.ira_view_draw.specs.Escaped.{escaped, escaped_byte};
+ghost use Rattle.ira_view_draw.specs.Svg.{attribute_text, class_text, dot_text, down_text, event_name, move_text};
+ghost use Rattle.ira_view_draw.specs.Svg.{number_text, once_more_text, square_text, tag_text};
 
 use ira_view_page::Page;
 use std::alloc::Allocator;
@@ -15,7 +18,9 @@ pub(crate) struct Svg<A: Allocator> {
 
 impl<A: Allocator> Svg<A> {
     /// A text that is empty yet.
-    pub(crate) fn new(alloc: A) -> Svg<A> {
+    pub(crate) fn new(alloc: A) -> Svg<A>
+        ensures { result.page ≡ Some [] }
+    {
         Svg {
             page: Page::new(alloc),
         }
@@ -45,9 +50,17 @@ impl<A: Allocator> Svg<A> {
     /// Begins the tag of an element, of a class where one is given.
     pub(crate) fn open(&mut self, element: &str, class: &str)
         requires { IsPrintable element.now }
+        ensures { Added self.old.page (tag_text element.now class.now) self.new.page }
     {
         self.page.words("<");
         self.page.words(element);
+        self.class(class);
+    }
+
+    /// Adds the class of an element, where there is one.
+    fn class(&mut self, class: &str)
+        ensures { Added self.old.page (class_text class.now) self.new.page }
+    {
         if !class.is_empty() {
             self.attribute("class", class);
         }
@@ -56,6 +69,7 @@ impl<A: Allocator> Svg<A> {
     /// Adds an attribute of these words.
     pub(crate) fn attribute(&mut self, name: &str, value: &str)
         requires { IsPrintable name.now }
+        ensures { Added self.old.page (attribute_text name.now value.now) self.new.page }
     {
         self.page.words(" ");
         self.page.words(name);
@@ -67,6 +81,7 @@ impl<A: Allocator> Svg<A> {
     /// Adds an attribute that is a number.
     pub(crate) fn number(&mut self, name: &str, value: u64)
         requires { IsPrintable name.now }
+        ensures { Added self.old.page (number_text name.now value) self.new.page }
     {
         self.page.words(" ");
         self.page.words(name);
@@ -78,6 +93,7 @@ impl<A: Allocator> Svg<A> {
     /// Adds an attribute that names an event: its node, and its number in the log.
     pub(crate) fn event(&mut self, name: &str, place: usize, position: u32)
         requires { IsPrintable name.now }
+        ensures { Added self.old.page (event_name name.now place position) self.new.page }
     {
         self.page.words(" ");
         self.page.words(name);
@@ -112,7 +128,9 @@ impl<A: Allocator> Svg<A> {
     }
 
     /// Begins a line of a path.
-    pub(crate) fn move_to(&mut self, x: u64, y: u64) {
+    pub(crate) fn move_to(&mut self, x: u64, y: u64)
+        ensures { Added self.old.page (move_text x y) self.new.page }
+    {
         self.page.words("M");
         self.page.number(x);
         self.page.words(" ");
@@ -127,26 +145,34 @@ impl<A: Allocator> Svg<A> {
     }
 
     /// Adds a line down a column to a path.
-    pub(crate) fn down(&mut self, x: u64, y: u64, to: u64) {
+    pub(crate) fn down(&mut self, x: u64, y: u64, to: u64)
+        ensures { Added self.old.page (down_text x y to) self.new.page }
+    {
         self.move_to(x, y);
         self.page.words("V");
         self.page.number(to);
     }
 
     /// Adds a line to a path of which only its round ends are seen. It has a length, since some renderers draw no other.
-    pub(crate) fn dot(&mut self, x: u64, y: u64) {
+    pub(crate) fn dot(&mut self, x: u64, y: u64)
+        ensures { Added self.old.page (dot_text x y) self.new.page }
+    {
         self.move_to(x, y);
         self.page.words("h.1");
     }
 
     /// Adds a line to a path that is as long as it is wide, with its middle at a place.
-    pub(crate) fn square(&mut self, x: u64, y: u64) {
+    pub(crate) fn square(&mut self, x: u64, y: u64)
+        ensures { Added self.old.page (square_text x y) self.new.page }
+    {
         self.move_to(x.saturating_sub(4), y);
         self.page.words("h8");
     }
 
     /// Draws an element once more, so much lower and paler.
-    pub(crate) fn once_more(&mut self, element: &str, below: u64, opacity: &str) {
+    pub(crate) fn once_more(&mut self, element: &str, below: u64, opacity: &str)
+        ensures { Added self.old.page (once_more_text element.now below opacity.now) self.new.page }
+    {
         self.page.words("<use");
         self.attribute("href", element);
         self.number("y", below);

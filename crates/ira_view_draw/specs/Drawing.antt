@@ -1,0 +1,27 @@
+-- A picture of the logs of a run.
+use Rattle.std.specs.Prelude.{◌≡◌, ℕ, List, ◌++◌, Option, codes, length}
+use Rattle.ira_event.specs.Log.{Log}
+use Rattle.ira_view_page.specs.Printable.{IsPrintable}
+use Rattle.ira_view_picture.specs.declared.arrow.Arrow.{Arrow}
+use Rattle.ira_view_picture.specs.declared.window.Window.{Window}
+use Rattle.ira_view_picture.specs.Picture.{Drawn, IsShown}
+use Rattle.ira_view_picture.specs.Window.{asked_window}
+use Rattle.ira_view_draw.specs.Marks.{marks_text}
+use Rattle.ira_view_draw.specs.MomentLine.{line_of_moment, words_of_moment}
+use Rattle.ira_view_draw.specs.Told.{Told, asked_of, cut_with_line}
+
+-- the text is a picture of the logs at the columns that are asked for, with a line at the moment of the cut: above what is
+-- below them, and is printable, it has the marks of the events at these columns, and the line of the moment
+pub record IsDrawing (logs : List Log) (cut : Option (List ℕ)) (told : Told) (from to : Option ℕ) (text : List ℕ)
+    : Type 0 where
+  pub last : ℕ
+  pub line : Option ℕ
+  pub lanes : List Drawn
+  pub arrows : List Arrow
+  pub shown : IsShown logs (cut_with_line told cut) (asked_window from to last) last line lanes arrows
+  pub below : List ℕ
+  pub printable : IsPrintable text
+  pub is : text ≡ below ++ marks_text (length logs) (asked_window from to last) lanes
+      ++ line_of_moment (length logs) (asked_window from to last) last line (words_of_moment told)
+      (asked_of told)
+      ++ codes "</svg>\n"
