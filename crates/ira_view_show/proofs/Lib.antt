@@ -1,3 +1,4 @@
+mod EventsTold
 pub mod Counting
 pub mod Leading
 pub mod Lines

@@ -3,6 +3,7 @@ pub mod Cells
 pub mod Change
 pub mod EventLine
 pub mod EventParts
+pub mod EventsText
 pub mod Heading
 pub mod Leaders
 pub mod Listed

@@ -1,9 +1,11 @@
-ghost use Rattle.std.specs.Prelude.{OnOk};
+ghost use Rattle.std.specs.Prelude.{◌≡◌, ◌++◌, ◌&&◌, ℕ, List, OnOk, Some};
+ghost use Rattle.ira_event.specs.Sink.{Takes};
 ghost use Rattle.ira_order.specs.Circle.{HasOrder};
 ghost use Rattle.ira_order.specs.Cut.{IsConsistentCut};
 ghost use Rattle.ira_order.specs.Run.{AreLocalRuns};
 ghost use Rattle.ira_view_moment.specs.ChosenMoment.{IsMomentOf};
 ghost use Rattle.ira_view_show.specs.Asked.{line_of_cut};
+ghost use Rattle.ira_view_show.specs.EventsText.{TellsEvents, TellsEventsOf, between_text, here_text};
 ghost use Rattle.ira_view_show.specs.Showed.{GoesOn, Showed, TookPage};
 ghost use Rattle.ira_view_page.specs.Page.{Added};
 
@@ -56,6 +58,32 @@ fn write_block<A: Allocator + Clone, W: Sink>(
     Ok(Page::new(alloc.clone()?))
 }
 
+/// Adds the line that stands where the cut ends, where it is asked for.
+fn print_here<P: Allocator>(page: &mut Page<P>, is_asked: bool, cut: &[u32])
+    ensures { Added page.old (here_text is_asked cut.now) page.new }
+{
+    if is_asked {
+        print_line_of_cut(page, cut);
+    }
+}
+
+/// Adds that line before an event, where all before it are in the cut and it isn't. It says whether all are so far.
+fn print_between<P: Allocator>(
+    page: &mut Page<P>,
+    is_inside: bool,
+    in_cut: bool,
+    is_asked: bool,
+    cut: &[u32],
+) -> bool
+    ensures inside { result ≡ (is_inside && in_cut) }
+    ensures line { Added page.old (between_text is_inside in_cut (here_text is_asked cut.now)) page.new }
+{
+    if is_inside && !in_cut {
+        print_here(page, is_asked, cut);
+    }
+    is_inside && in_cut
+}
+
 /// Writes what is on a page and then a line for each event, those of the cut first, where it is asked for with a line
 /// after them.
 fn write_lines<A: Allocator + Clone, W: Sink>(
@@ -67,28 +95,24 @@ fn write_lines<A: Allocator + Clone, W: Sink>(
     sink: &mut W,
 ) -> Result<(), ShowFault>
     requires { IsConsistentCut logs.now cut.now }
-    ensures { Showed result (W.state sink.old) (W.state sink.new) }
+    ensures showed { Showed result (W.state sink.old) (W.state sink.new) }
+    ensures told { OnOk result ((front : List ℕ) × (events : List ℕ) × (heading ≡ Some front)
+        × TellsEvents logs.now cut.now (here_text is_asked cut.now) events
+        × Takes (front ++ events) (W.state sink.old) (W.state sink.new)) }
 {
-    let events = logs.number_of_events();
-    let columns = EventColumns::of(logs, events);
+    let columns = EventColumns::of(logs, logs.number_of_events());
     let mut trail = StateTrail::new(alloc.clone()?, logs, cut)?;
     let mut page = heading;
-    let mut is_line_due = is_asked;
-    for number in 0..events {
-        let Some(walked) = trail.next()? else {
-            break;
-        };
-        if is_line_due && !walked.step.in_cut {
-            print_line_of_cut(&mut page, cut);
-            is_line_due = false;
-        }
+    let mut number = 0;
+    let mut is_inside = true;
+    'steps: while let Some(walked) = trail.next()? {
+        is_inside = print_between(&mut page, is_inside, walked.step.in_cut, is_asked, cut);
+        number += 1;
         let change = Change::between(walked.before, walked.after);
-        columns.print(&mut page, number + 1, walked.step, walked.event, change);
+        columns.print(&mut page, number, walked.step, walked.event, change);
         page = write_block(&alloc, page, sink)?;
     }
-    if is_line_due {
-        print_line_of_cut(&mut page, cut);
-    }
+    let _is_over = print_between(&mut page, is_inside, false, is_asked, cut);
     write_page(page, sink)
 }
 
@@ -105,7 +129,10 @@ pub fn show_events<A: Allocator + Clone, W: Sink>(
     requires order { HasOrder logs.now }
     requires local { AreLocalRuns logs.now }
     requires moment { IsMomentOf logs.now chosen.now }
-    ensures { Showed result (W.state sink.old) (W.state sink.new) }
+    ensures showed { Showed result (W.state sink.old) (W.state sink.new) }
+    ensures told { OnOk result ((text : List ℕ)
+        × TellsEventsOf logs.now chosen.now text
+        × Takes text (W.state sink.old) (W.state sink.new)) }
 {
     let mut page = Page::new(alloc.clone()?);
     page.blank();
