@@ -1,15 +1,11 @@
 -- Rings at moments.
-use Rattle.std.proofs.Common.{◌≡◌, ℕ, ◌<◌, ◌≤◌, Bool, List, [], ◌∷◌, Option, Some, None, Err, arith, false, inl, inr, length, subst, true}
+use Rattle.std.proofs.Common.{◌≡◌, ℕ, ◌<◌, ◌≤◌, List, [], ◌∷◌, Option, Some, None, Err, arith, inl, inr, length, refl}
 use Rattle.std.specs.Prelude.{MatchOption, slice_get}
 use Rattle.std.proofs.lemmas.Option.{slice_get_cases, slice_get_within}
 use Rattle.ira_event.specs.Log.{Log}
 use Rattle.ira_cert_text.specs.Certificate.{Section}
 use Rattle.ira_elim.specs.Found.{IsAbsence}
 use Rattle.ira_elim.specs.LeastCut.{IsLeastCut}
-use Rattle.ira_view_moment.specs.ChosenMoment.{cut_of}
-use Rattle.ira_view_moment.specs.Moment.{Moment, whole_cut}
-use Rattle.ira_view_moment.specs.declared.chosen_moment.ChosenMoment.{ChosenMoment}
-use Rattle.ira_view_moment.specs.declared.chosen_moment.ChosenMoment.TheVariants.{AtEnd, AtCut, OfCase, Unmet}
 use Rattle.ira_pred.specs.Case.{Conjunct}
 use Rattle.ira_pred.specs.Question.{IsQuestion}
 use Rattle.ira_audit.proofs.NeverMet.{absent_more}
@@ -19,11 +15,14 @@ use Rattle.ira_audit.specs.Never.{NoCutMeetsAny}
 use Rattle.ira_audit.specs.Refusal.{IsQuestionRefusal, MatchRefusal}
 use Rattle.ira_audit.specs.declared.refusal.Refusal.{Refusal}
 use Rattle.ira_audit.specs.declared.refusal.Refusal.TheVariants as refusal
-use Rattle.ira_view_show.specs.Heading.{heading_text}
-use Rattle.ira_view_show.specs.MomentText.{TellsChosen, TellsMoment}
-use Rattle.ira_view_show.specs.Summary.{summary_text}
+use Rattle.ira_view_moment.specs.ChosenMoment.{cut_of}
+use Rattle.ira_view_moment.specs.declared.chosen_moment.ChosenMoment.{ChosenMoment}
+use Rattle.ira_view_moment.specs.declared.chosen_moment.ChosenMoment.TheVariants.{AtEnd, AtCut, OfCase, Unmet}
+use Rattle.ira_view_draw.specs.Told.{told_of}
+use Rattle.ira_view_show.specs.EventsText.{TellsEventsOf}
+use Rattle.ira_view_show.specs.MomentText.{TellsChosen}
 use Rattle.ira_view.specs.FirstCut.{IsPresent}
-use Rattle.ira_view.specs.ShownRing.{IsNoQuestion, IsPageOf, refusal_fault}
+use Rattle.ira_view.specs.ShownRing.{IsNoQuestion, TellsEventsAt, TellsMomentOf, refusal_fault}
 
 -- a question has no case of a number past its cases
 pub no_case : (asked : AskedQuestion) (number : ℕ) → length asked.question.cases ≤ number
@@ -46,7 +45,7 @@ pub met_case : (asked : AskedQuestion) (number : ℕ) (cut : List ℕ) → numbe
 met_case asked number cut within least =
     elim (slice_get_cases asked.question.cases number).1 [
       | inl some ↦
-          (let met = least some.0 some.2 in (within, met.consistent, (some.0, some.2, met)))
+          (let met = least some.0 some.2 in (within, met.consistent, ((some.0, some.2, met), refl)))
       | inr far ↦ absurd (omega (arith, far.0, within))
     ]
 
@@ -59,7 +58,7 @@ any_case asked None never = never
 any_case asked (Some found) first = (
   slice_get_within asked.question.cases found.0 first.case first.case_at,
   first.least.consistent,
-  (found.0, first),
+  (found.0, first, refl),
 )
 
 -- why a question is refused is why there is no moment of it
@@ -68,19 +67,17 @@ pub no_question : {T : Type 0} (P : T → Type 0) (logs : List Log) (text : List
 no_question P logs text (refusal.No reason) h = h
 no_question P logs text refusal.OutOfMemory h = tt
 
--- a page tells the moment of the cut
+-- what is told of a moment, by its cut and which one it is
 pub page_of : {A : Type 0} (logs : List Log) (moment : ChosenMoment A) (text : List ℕ) → TellsChosen logs moment text
-    → IsPageOf (record { logs = logs; cut = cut_of logs moment }) text
-page_of {A} logs AtEnd text h = λ cut at.
-    let same : whole_cut logs ≡ cut = cc in
-    subst (λ c. (has_all : Bool) × (first : Moment → List ℕ) × TellsMoment logs c has_all first text) same
-    (false, summary_text, h)
-page_of {A} logs (AtCut events) text h = λ cut at.
-    let same : events.items ≡ cut = cc in
-    subst (λ c. (has_all : Bool) × (first : Moment → List ℕ) × TellsMoment logs c has_all first text) same
-    (true, (λ _. heading_text {A = A} (AtCut events)), h)
-page_of {A} logs (OfCase question number events) text h = λ cut at.
-    let same : events.items ≡ cut = cc in
-    subst (λ c. (has_all : Bool) × (first : Moment → List ℕ) × TellsMoment logs c has_all first text) same
-    (true, (λ _. heading_text {A = A} (OfCase question number events)), h)
-page_of {A} logs (Unmet case) text h = λ cut at. absurd cc
+    → TellsMomentOf logs (cut_of logs moment) (told_of moment) text
+page_of logs AtEnd text h = h
+page_of logs (AtCut events) text h = h
+page_of logs (OfCase question number events) text h = h
+page_of logs (Unmet case) text h = h
+
+pub events_of : {A : Type 0} (logs : List Log) (moment : ChosenMoment A) (text : List ℕ)
+    → TellsEventsOf logs moment text → TellsEventsAt logs (cut_of logs moment) (told_of moment) text
+events_of logs AtEnd text h = h
+events_of logs (AtCut events) text h = h
+events_of logs (OfCase question number events) text h = h
+events_of logs (Unmet case) text h = h

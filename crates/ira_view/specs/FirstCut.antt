@@ -1,11 +1,12 @@
 -- The first moment that meets a case of a question.
-use Rattle.std.specs.Prelude.{◌≡◌, ℕ, ◌<◌, List, [], ◌∷◌, Option, Some, None, length, slice_get}
+use Rattle.std.specs.Prelude.{◌≡◌, ℕ, ◌<◌, List, [], ◌∷◌, Option, Some, None, length, slice_get, slice_index_or}
 use Rattle.ira_event.specs.Log.{Log}
 use Rattle.ira_order.specs.Cut.{IsConsistentCut}
 use Rattle.ira_pred.specs.Case.{Conjunct}
 use Rattle.ira_elim.specs.LeastCut.{IsLeastCut}
 use Rattle.ira_audit.specs.AskedQuestion.{AskedQuestion, IsFirstPresent}
 use Rattle.ira_audit.specs.Never.{NoCutMeetsAny}
+use Rattle.ira_view_draw.specs.Told.{Told, of_case, unmet}
 
 -- of the case of a number: the least consistent cut that meets it; or there is none, since no consistent cut does, or
 -- there is no such case
@@ -22,6 +23,19 @@ IsFirstCut logs cases (Some number) cut = IsCutOfCase logs cases number cut
 IsFirstCut logs cases None (Some cut) = (number : ℕ) × IsFirstPresent logs cases number cut
 IsFirstCut logs cases None None = NoCutMeetsAny logs cases
 
+-- it is told as the first moment of the case of this number
+abbrev pub told_case : List (List Conjunct) → ℕ → Told
+told_case cases number = of_case number (slice_index_or cases number [])
+
+-- that cut, and that it is told as the first moment of its case; or that none is told of the case that is asked for, or of
+-- any
+abbrev pub IsFirstMoment : List Log → List (List Conjunct) → Option ℕ → Option (List ℕ) → Told → Type 0
+IsFirstMoment logs cases (Some number) (Some cut) told =
+    IsCutOfCase logs cases number (Some cut) × (told ≡ told_case cases number)
+IsFirstMoment logs cases None (Some cut) told =
+    (number : ℕ) × IsFirstPresent logs cases number cut × (told ≡ told_case cases number)
+IsFirstMoment logs cases case None told = IsFirstCut logs cases case None × (told ≡ unmet case)
+
 -- ---- Helpers, no definitions.
 
 -- that case with its number, and that cut
@@ -29,4 +43,4 @@ abbrev pub IsPresent : AskedQuestion → Option ℕ → Option (ℕ × List ℕ)
 IsPresent asked case None = IsFirstCut asked.logs asked.question.cases case None
 IsPresent asked case (Some found) =
     (found.0 < length asked.question.cases) × IsConsistentCut asked.logs found.1
-    × IsFirstCut asked.logs asked.question.cases case (Some found.1)
+    × IsFirstMoment asked.logs asked.question.cases case (Some found.1) (told_case asked.question.cases found.0)

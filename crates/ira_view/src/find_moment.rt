@@ -4,9 +4,10 @@ ghost use Rattle.ira_event.specs.Logs.{AreLogs};
 ghost use Rattle.ira_order.specs.Cut.{IsConsistentCut, IsCut};
 ghost use Rattle.ira_pred.specs.Question.{IsQuestion};
 ghost use Rattle.ira_view_moment.specs.ChosenMoment.{IsMomentOf, cut_of};
+ghost use Rattle.ira_view_draw.specs.Told.{told_of};
 ghost use Rattle.ira_view_moment.specs.CutFault.{IsCutFault};
 ghost use Rattle.ira_view_moment.specs.declared.cut_fault.CutFault.{CutFault};
-ghost use Rattle.ira_view.specs.FirstCut.{IsFirstCut, IsPresent};
+ghost use Rattle.ira_view.specs.FirstCut.{IsFirstMoment, IsPresent};
 ghost use Rattle.ira_view.specs.declared.ring_fault.RingFault.TheVariants as fault;
 
 use crate::ring_fault::RingFault;
@@ -89,7 +90,7 @@ pub(crate) fn first_moment<A: Allocator + Clone>(
     case: Option<u64>,
 ) -> Result<ChosenMoment<A>, OutOfMemory>
     ensures first { IfOk result (λ moment.
-        IsFirstCut asked.entry.logs asked.entry.question.cases case (cut_of asked.entry.logs moment)) }
+        IsFirstMoment asked.entry.logs asked.entry.question.cases case (cut_of asked.entry.logs moment) (told_of moment)) }
     ensures moment { IfOk result (IsMomentOf asked.entry.logs) }
 {
     let Some((number, cut)) = first_present(&asked, case)? else {

@@ -1,10 +1,13 @@
-ghost use Rattle.std.specs.Prelude.{◌≡◌, ℕ, Err, IfErr, IfOk, MatchResult, Some, length};
+ghost use Rattle.std.specs.Prelude.{◌≡◌, ℕ, Err, IfErr, IfOk, List, MatchResult, OnOk, Some, length};
+ghost use Rattle.ira_event.specs.Sink.{Takes};
+ghost use Rattle.ira_view_draw.specs.Told.{at_end};
 ghost use Rattle.ira_view_moment.specs.Moment.{whole_cut};
 ghost use Rattle.ira_view_json.specs.ShownAnswer.{WroteRing};
 ghost use Rattle.ira_view_picture.specs.DrawFault.{HasTooManyEvents, IsDrawFault};
 ghost use Rattle.ira_view_show.specs.Showed.{Showed};
 ghost use Rattle.ira_view_page.specs.Printable.{IsPrintable};
-ghost use Rattle.ira_view.specs.ShownRing.{IsAtCut, IsNoCut, IsNoQuestion, IsOfQuestion, IsPageOf};
+ghost use Rattle.ira_view.specs.ShownRing.{AreEventsOf, IsAtCut, IsNoCut, IsNoQuestion, IsOfQuestion, IsPageOf};
+ghost use Rattle.ira_view.specs.ShownRing.{IsPictureOf};
 
 use crate::find_moment::{asked_cut, first_moment};
 use crate::ring_fault::RingFault;
@@ -28,12 +31,17 @@ pub struct ShownRing<A: Allocator> {
 }
 
 impl<A: Allocator> Model for ShownRing<A> {
+    ghost use Rattle.std.specs.Coded.{codes};
+    ghost use Rattle.ira_pred.specs.FormulaCode.{formula_code};
     ghost use Rattle.ira_view_moment.specs.ChosenMoment.{IsMomentOf, cut_of};
+    ghost use Rattle.ira_view_draw.specs.Told.{told_of};
     ghost use Rattle.ira_view.specs.ShownRing.{ShownRing};
 
     ghost Value = { ShownRing };
 
-    ghost view = { λ r. record { logs = r.logs; cut = cut_of r.logs r.moment } };
+    ghost coded = { Prim.hlevel (codes, formula_code) };
+
+    ghost view = { λ r. record { logs = r.logs; cut = cut_of r.logs r.moment; told = told_of r.moment } };
 
     ghost invariant = { λ r. IsMomentOf r.logs r.moment };
 }
@@ -41,7 +49,7 @@ impl<A: Allocator> Model for ShownRing<A> {
 impl<A: Allocator + Clone> ShownRing<A> {
     /// The ring at the end of its logs.
     pub fn at_end(logs: GoodLogs<A>) -> ShownRing<A>
-        ensures { result ≡ record { logs = logs; cut = Some (whole_cut logs) } }
+        ensures { result ≡ record { logs = logs; cut = Some (whole_cut logs); told = at_end } }
     {
         ShownRing {
             logs,
@@ -82,7 +90,9 @@ impl<A: Allocator + Clone> ShownRing<A> {
     /// Writes, as the lines that follow its answer, an order of all events through the moment. Nothing is cut short: it is
     /// written block by block.
     pub fn write_events<W: Sink>(&self, alloc: A, sink: &mut W) -> Result<(), ShowFault>
-        ensures { Showed result (W.state sink.old) (W.state sink.new) }
+        ensures showed { Showed result (W.state sink.old) (W.state sink.new) }
+        ensures told { OnOk result ((text : List ℕ) × AreEventsOf self.now text
+            × Takes text (W.state sink.old) (W.state sink.new)) }
     {
         show_events(alloc, self.logs.logs(), &self.moment, sink)
     }
@@ -118,6 +128,7 @@ impl<A: Allocator + Clone> ShownRing<A> {
     /// A picture of what happened at these columns, with a line at the moment where it isn't the end of the logs.
     pub fn picture(&self, alloc: A, columns: ColumnRange) -> Result<PageText<A>, DrawFault>
         ensures printable { IfOk result IsPrintable }
+        ensures drawing { IfOk result (IsPictureOf self.now columns.from columns.to) }
         ensures fault { IfErr result IsDrawFault }
         ensures events { (events : ℕ) → result ≡ Err (DrawFault.TooManyEvents events)
             → HasTooManyEvents self.now.logs columns.from columns.to events }

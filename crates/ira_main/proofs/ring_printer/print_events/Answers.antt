@@ -29,8 +29,8 @@ returns-in-Ok g c =
     let u = g.W.Sink.state c.write_events.new.sink in
     let status = c.of_differences.result in
     subst (λ w. PrintsRing c.args.ring.now w true s u (Ok status)) same
-    (printed_after c.args.ring.now d true s t u status c.in-Ok.ensures.0 printable c.of_differences.ensures front
-    c.in-Ok.ensures.1 (inl refl) c.in-Ok.ensures.2)
+    (printed_after c.args.ring.now d true s t u status c.in-Ok.ensures.showed.0 printable c.of_differences.ensures front
+    c.in-Ok.ensures.showed.1 (inl refl) c.in-Ok.ensures.showed.2)
 
 pub returns-in-Err-Write : goal.returns-in-Err-Write
 returns-in-Err-Write g c =
@@ -44,7 +44,7 @@ returns-in-Err-Write g c =
     let u = g.W.Sink.state c.write_events.new.sink in
     subst (λ w. PrintsRing c.args.ring.now w true s u (Err CannotWriteAnswer)) same
     (stopped_after c.args.ring.now d true s t u printable front (rw (c.in-Err-Write.is, c.in-Err-Write.field-0-is) at
-    c.write_events.ensures))
+    c.write_events.ensures.showed))
 
 pub returns-in-Err-OutOfMemory : goal.returns-in-Err-OutOfMemory
 returns-in-Err-OutOfMemory g c =
@@ -58,4 +58,4 @@ returns-in-Err-OutOfMemory g c =
     let u = g.W.Sink.state c.write_events.new.sink in
     subst (λ w. PrintsRing c.args.ring.now w true s u (Err OutOfMemory)) same
     (no_memory_after c.args.ring.now d s t u printable front (rw (c.in-Err-OutOfMemory.is, c.in-Err-OutOfMemory.field-0-is) at
-    c.write_events.ensures))
+    c.write_events.ensures.showed))

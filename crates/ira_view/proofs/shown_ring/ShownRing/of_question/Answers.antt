@@ -1,8 +1,9 @@
 use Rattle.std.proofs.Common.{◌≡◌, refl, subst}
 use Rattle.std.proofs.lemmas.Result.{err_from_is_err_and}
 use Rattle.ira_view_moment.specs.ChosenMoment.{IsMomentOf, cut_of}
+use Rattle.ira_view_draw.specs.Told.{told_of}
 use Rattle.ira_view.proofs.Moments.{no_question}
-use Rattle.ira_view.specs.FirstCut.{IsFirstCut}
+use Rattle.ira_view.specs.FirstCut.{IsFirstMoment}
 use Rattle.ira_view.proofs.shown_ring.ShownRing.of_question.Goals as goal
 
 pub returns-in_err-asked : goal.returns-in_err-asked
@@ -19,6 +20,6 @@ pub returns : goal.returns
 returns g c =
     let asked = c.in_ok-asked.asked in
     let same : asked.logs ≡ c.args.logs = c.in_ok-asked.ensures.0 in
-    let first = subst (λ logs. IsFirstCut logs asked.question.cases c.args.case (cut_of logs c.in_ok-moment.moment))
-    same c.in_ok-moment.ensures.first in
+    let first = subst (λ logs. IsFirstMoment logs asked.question.cases c.args.case (cut_of logs c.in_ok-moment.moment)
+    (told_of c.in_ok-moment.moment)) same c.in_ok-moment.ensures.first in
     (refl, (asked.question, c.in_ok-asked.ensures.1, c.in_ok-asked.ensures.2, first))
