@@ -176,7 +176,7 @@ impl<'a, A: Allocator + Clone> FaultyLink<'a, '_, A> {
     fn another_run(&self, other: u8) -> Result<Option<RingHint<'a>>, OutOfMemory> {
         let nodes = self.logs.size().get();
         if nodes == 2 {
-            if self.is_of_another_run(self.link)? || self.is_of_another_run(self.reader)? {
+            if self.is_of_another_run(self.link)? && self.is_of_another_run(self.reader)? {
                 return Ok(Some(RingHint::TwoRuns));
             }
             return Ok(None);

@@ -61,7 +61,7 @@ impl RowsHint {
                 "only this message differs: the link changed it, or one side recorded another.",
             ),
             RowsHint::RaisedByReader { reader } => {
-                text.words("each receipt from here on has the hop of its sending raised by one: ");
+                text.words("each receipt that differs has the hop of its sending raised by one: ");
                 numbered(text, "node ", u32::from(reader));
                 text.words(" records a message as it passes it on. Record it as it was ");
                 text.words("taken off the link.");
