@@ -2,18 +2,23 @@
 use Rattle.std.specs.Prelude.{◌≡◌, ◌<◌, ◌↔◌, ℕ, List, [], Contains, length}
 use Rattle.ira_event.specs.Log.{Log}
 use Rattle.ira_view_moment.specs.Moment.{AreLeaders, IsMoment, Moment, whole_cut}
-use Rattle.ira_view_show.specs.Leaders.{SomeNodeLeads}
+use Rattle.ira_view_show.specs.Leaders.{SomeNodeLeads, differences_text, missing_text}
+use Rattle.ira_view_show.specs.Summary.{leader_from}
 
 -- each node that is to lead is one of the ring
 abbrev pub ArePlaces : List Log → List ℕ → Type 0
 ArePlaces logs named = (place : ℕ) → Contains named place → place < length logs
 
--- there are no differences exactly where these nodes lead when the logs end, and no other
-abbrev pub AreDifferences : List Log → List ℕ → List ℕ → Type 0
-AreDifferences logs named differences =
-    (m : Moment) × IsMoment logs (whole_cut logs) m × ((differences ≡ []) ↔ AreLeaders m named)
+-- the lines on the differences when the logs end: none exactly where these nodes lead then, and no other
+pub record AreDifferences (logs : List Log) (named differences : List ℕ) : Type 0 where
+  pub moment : Moment
+  pub is_end : IsMoment logs (whole_cut logs) moment
+  pub text : differences ≡ differences_text named moment.nodes
+  pub none : (differences ≡ []) ↔ AreLeaders moment named
 
--- there are none exactly where some node leads then
-abbrev pub TellsOfLeader : List Log → List ℕ → Type 0
-TellsOfLeader logs differences =
-    (m : Moment) × IsMoment logs (whole_cut logs) m × ((differences ≡ []) ↔ SomeNodeLeads m)
+-- the line that no node leads when the logs end: none exactly where some node leads then
+pub record TellsOfLeader (logs : List Log) (differences : List ℕ) : Type 0 where
+  pub moment : Moment
+  pub is_end : IsMoment logs (whole_cut logs) moment
+  pub text : differences ≡ missing_text (leader_from 0 moment.nodes)
+  pub none : (differences ≡ []) ↔ SomeNodeLeads moment

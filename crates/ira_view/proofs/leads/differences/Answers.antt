@@ -16,5 +16,9 @@ returns-in_default g c =
 pub returns : goal.returns
 returns g c =
     let places = rw c.in-Some.is at c.in_ok-places.ensures in
-    let differ = rw (c.deref.ensures.value, places) at c.in_ok-leads_differ.ensures.none in
-    (c.in_ok-moment.moment, rw c.logs-logs.ensures.value at c.in_ok-moment.ensures, differ)
+    record {
+      moment = c.in_ok-moment.moment;
+      is_end = rw c.logs-logs.ensures.value at c.in_ok-moment.ensures;
+      text = rw (c.deref.ensures.value, places) at c.in_ok-leads_differ.ensures.text;
+      none = rw (c.deref.ensures.value, places) at c.in_ok-leads_differ.ensures.none;
+    }
