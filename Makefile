@@ -18,13 +18,14 @@ say = printf '%4d s  %s\n' $$(($$(date +%s) - $(START)))
 needs_kit = command -v rt > /dev/null && command -v rattle > /dev/null || \
 	{ echo 'The Rattle kit is missing, no rt and rattle on the PATH: README.md, "What you need", says what else is needed.'; exit 1; }
 
-.PHONY: help try ira run install dist test checks clean
+.PHONY: help try ira web run install dist test checks clean
 
 help:
 	@echo 'make try        builds the program with no proof, in minutes, leaves it at bin/ira-unproved, and judges examples with it'
 	@echo 'make ira        proves the program and the libraries that it rests on, and leaves it at bin/ira:'
 	@echo '                the first time 1 to 2 hours of processor time, over all cores; then the crates that'
 	@echo '                have changed, and those that rest on them'
+	@echo 'make web        makes ira, proves the module for a web page, and leaves it at bin/ira.wasm'
 	@echo 'make run        makes ira, judges the examples with it, types the commands of the pages, and compares what it prints'
 	@echo '                with what is expected'
 	@echo 'make install    copies bin/ira to $$(PREFIX)/bin, and its manual and completions below $$(PREFIX)/share; PREFIX is'
@@ -76,6 +77,12 @@ $(LIBRARIES:%=bin/%.proved) bin/ira.proved: bin/%.proved: build/prove.sh
 
 $(foreach it,$(LIBRARIES) ira,$(eval bin/$(it).proved: $(patsubst %,bin/%.proved,$(call uses,$(it))) \
 	$(shell find crates/$(it)/src crates/$(it)/specs crates/$(it)/proofs 2>/dev/null)))
+
+# The module for a web page, and the library that it alone uses.
+web: ira
+	@sh build/prove.sh ira_lent $(JOBS) > bin/ira_lent.log 2>&1 || { tail -20 bin/ira_lent.log; exit 1; }
+	@sh build/web.sh $(JOBS) > bin/ira_web.log 2>&1 || { tail -20 bin/ira_web.log; exit 1; }
+	@$(say) 'proved and built: bin/ira.wasm'
 
 # Runs the program, or the one that is named last, with some words, and compares its status and what it prints.
 judges = echo '$$ bin/$(or $(4),ira) $(1)'; \

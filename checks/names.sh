@@ -1,8 +1,8 @@
 #!/bin/sh
 # What pages name is there: the file and the heading that a link leads to, and in back quotes files and the items of code, as
-# `NodeLog`, `read_log` or `RingAudit::take`. And each crate has a user, but for programs and tests, and names each crate that
-# crates.txt puts it on. No type, trait or function that is public in a crate of views, runs or the program has the name of
-# another one there.
+# `NodeLog`, `read_log` or `RingAudit::take`. And each crate has a user, but for programs, the module and tests, and names
+# each crate that crates.txt puts it on. No type, trait or function that is public in a crate of views, runs or the program
+# has the name of another one there.
 #
 #     sh checks/names.sh
 
@@ -55,12 +55,12 @@ for page in $pages; do
         done
 done > "$made/files"
 
-sed -n 's/^\([a-z0-9_]*\):\(.*\)/\1 \2/p' crates.txt | awk '
+sed -n 's/^\([a-z0-9_]*\)\( staticlib\)\{0,1\}:\(.*\)/\1 \3/p' crates.txt | awk '
     { crate[NR] = $1; for (i = 2; i <= NF; i++) used[$i] = 1 }
-    END { for (n = 1; n <= NR; n++) if (!(crate[n] in used) && crate[n] !~ /^(ira|test_.*)$/) print crate[n] }' |
+    END { for (n = 1; n <= NR; n++) if (!(crate[n] in used) && crate[n] !~ /^(ira|ira_web|test_.*)$/) print crate[n] }' |
     sed 's/$/: no crate rests on it/' > "$made/crates"
 
-sed -n 's/^\([a-z0-9_]*\):\(.*\)/\1 \2/p' crates.txt | while read -r crate below; do
+sed -n 's/^\([a-z0-9_]*\)\( staticlib\)\{0,1\}:\(.*\)/\1 \3/p' crates.txt | while read -r crate below; do
     for other in $below; do
         grep -rqw --include='*.rt' --include='*.antt' "$other" "crates/$crate/src" "crates/$crate/specs" \
             "crates/$crate/proofs" 2> /dev/null || echo "crates.txt: no file of $crate names $other"

@@ -1,0 +1,26 @@
+-- What comes of a request.
+use Rattle.std.specs.Prelude.{◌≡◌, ℕ, List, [], ◌∷◌, length, map, take}
+use Rattle.std.specs.List.{flat_map}
+use Rattle.ira_audit.specs.Report.{report_line}
+use Rattle.ira_audit.specs.declared.answer.Answer.{Answer}
+use Rattle.ira_web.specs.Status.{answer_status}
+use Rattle.ira_web.specs.declared.status.Status.{Status}
+
+-- a status; and in parts what is printed on standard output, what on standard error, and each file that is written
+pub record Reply : Type 0 where
+  pub status : Status
+  pub parts : List (List ℕ)
+
+-- the line of the answer is printed, with its status
+abbrev pub IsAnswerReply : Answer → Reply → Type 0
+IsAnswerReply answer reply =
+    (reply.status ≡ answer_status answer) × (reply.parts ≡ report_line answer ∷ [] ∷ [])
+
+-- a list begins with these
+abbrev pub Begins : List ℕ → List ℕ → Type 0
+Begins front all = take (length front) all ≡ front
+
+-- bytes begin with the parts, one after another, and lengths with how many they are and how many bytes each is
+abbrev pub IsTold : List (List ℕ) → List ℕ → List ℕ → Type 0
+IsTold parts bytes lengths =
+    Begins (flat_map (λ part. part) parts) bytes × Begins (length parts ∷ map length parts) lengths

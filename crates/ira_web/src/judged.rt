@@ -1,0 +1,22 @@
+ghost use Rattle.std.specs.Prelude.{IfOk};
+ghost use Rattle.ira_audit.specs.Judged.{IsJudged};
+ghost use Rattle.ira_web.specs.Files.{texts_of};
+
+use ira_audit::{Judged, RingAudit};
+use ira_event::OutOfMemory;
+use ira_view_page::NamedText;
+use std::alloc::Allocator;
+
+/// What the texts of the logs of a ring are judged to be.
+pub(crate) fn judge<A: Allocator + Clone>(
+    alloc: A,
+    logs: &[NamedText<'_>],
+) -> Result<Judged<A>, OutOfMemory>
+    ensures { IfOk result (IsJudged (texts_of logs.now)) }
+{
+    let mut audit = RingAudit::new(alloc);
+    for log in logs {
+        audit.take(log.text)?;
+    }
+    audit.judge()
+}

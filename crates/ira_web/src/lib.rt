@@ -1,0 +1,12 @@
+//! The auditor for a web page, without threads and files: a request in memory that the page lends, and what the program
+//! would print and write of it.
+#![tactic(auto)]
+
+mod export;
+mod files;
+mod judged;
+mod logs;
+mod reply;
+mod request;
+mod serve;
+mod status;

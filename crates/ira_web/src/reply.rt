@@ -1,0 +1,109 @@
+ghost use Rattle.std.specs.Prelude.{◌≡◌, ◌≤◌, ◌+◌, ◌++◌, ◌∷◌, [], IfOk, IsTrue, length, map, take};
+ghost use Rattle.ira_audit.specs.Report.{IsReportable};
+ghost use Rattle.std.specs.List.{flat_map};
+ghost use Rattle.ira_web.specs.Reply.{Begins, IsAnswerReply, IsTold};
+
+use crate::status::Status;
+use ira_audit::{Answer, write_report};
+use ira_event::{MemorySink, OutOfMemory};
+use std::alloc::{AllocError, Allocator};
+use std::marker::Model;
+
+/// Writes how many parts there are, and how many bytes each of them is; whether there is room for that.
+fn write_lengths<A: Allocator>(parts: &[MemorySink<A>], lengths: &mut [usize]) -> bool
+    ensures { IsTrue result
+        → Begins (length parts.now ∷ map (λ part. length part.bytes) parts.now) lengths.new }
+{
+    if parts.len() >= lengths.len() {
+        return false;
+    }
+    lengths[0] = parts.len();
+    for (k, part) in parts.iter().enumerate() {
+        lengths[k + 1] = part.bytes().len();
+    }
+    true
+}
+
+/// Writes a text from a place on.
+fn write_at(text: &[u8], out: &mut [u8], at: usize)
+    requires { at + length text.now ≤ length out.old }
+    ensures text { take (at + length text.now) out.new ≡ take at out.old ++ text.now }
+    ensures size { length out.new ≡ length out.old }
+{
+    out[at..at + text.len()].copy_from_slice(text);
+}
+
+/// Writes the parts one after another; whether there is room for them.
+fn write_parts<A: Allocator>(parts: &[MemorySink<A>], out: &mut [u8]) -> bool
+    ensures { IsTrue result → Begins (flat_map (λ part. part.bytes) parts.now) out.new }
+{
+    let mut at = 0;
+    for part in parts {
+        let text = part.bytes();
+        if text.len() > out.len() - at {
+            return false;
+        }
+        write_at(text, out, at);
+        at += text.len();
+    }
+    true
+}
+
+/// What comes of a request, in parts: what the program would print on standard output, what on standard error, and each
+/// file that it would write.
+#[derive(Drop)]
+pub(crate) struct Reply<A: Allocator> {
+    status: Status,
+    parts: Vec<MemorySink<A>, A>,
+}
+
+impl<A: Allocator> Model for Reply<A> {
+    ghost use Rattle.std.specs.Prelude.{map};
+    ghost use Rattle.ira_web.specs.Reply.{Reply};
+
+    ghost Value = { Reply };
+
+    ghost view = { λ r. record { status = r.status; parts = map (λ part. part.bytes) r.parts.items } };
+}
+
+impl<A: Allocator + Clone> Reply<A> {
+    /// The line of an answer.
+    pub(crate) fn of_answer(alloc: A, answer: &Answer) -> Result<Reply<A>, OutOfMemory>
+        requires { IsReportable answer.now }
+        ensures { IfOk result (IsAnswerReply answer.now) }
+    {
+        let mut line = MemorySink::new(alloc.clone()?);
+        let Ok(()) = write_report(answer, &mut line) else {
+            return Err(OutOfMemory);
+        };
+        Ok(Reply::printed(alloc, Status::of_answer(answer), line)?)
+    }
+
+    /// What is printed on standard output, and nothing else.
+    pub(crate) fn printed(
+        alloc: A,
+        status: Status,
+        text: MemorySink<A>,
+    ) -> Result<Reply<A>, AllocError>
+        ensures { IfOk result (λ reply. reply ≡ record { status = status; parts = text.bytes ∷ [] ∷ [] }) }
+    {
+        let mut parts = Vec::with_capacity(alloc.clone()?, 2)?;
+        parts.push(text)?;
+        parts.push(MemorySink::new(alloc))?;
+        Ok(Reply { status, parts })
+    }
+
+    pub(crate) fn status(&self) -> Status
+        ensures { result ≡ self.now.status }
+    {
+        self.status
+    }
+
+    /// Writes the parts one after another into `out`, and into `lengths` how many they are and how many bytes each is;
+    /// whether both have room.
+    pub(crate) fn tell(&self, out: &mut [u8], lengths: &mut [usize]) -> bool
+        ensures { IsTrue result → IsTold self.now.parts out.new lengths.new }
+    {
+        write_lengths(&self.parts, lengths) && write_parts(&self.parts, out)
+    }
+}
