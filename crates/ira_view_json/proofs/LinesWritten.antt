@@ -1,6 +1,6 @@
 -- Lines that are written one after the other.
 use Rattle.std.proofs.Common.{◌≡◌, ◌∙◌, ℕ, List, [], ◌∷◌, ◌++◌, Option, Result, Ok, Err, IfOk, ap, inl, inr, refl}
-use Rattle.std.specs.Prelude.{codes}
+use Rattle.std.specs.Prelude.{OnOk, codes}
 use Rattle.serde_json.specs.Data.{Data, object}
 use Rattle.serde_json.specs.View.{members_view, view}
 use Rattle.serde_json.specs.declared.value.Value.{Value}
@@ -11,7 +11,9 @@ use Rattle.ira_view_page.specs.declared.show_fault.ShowFault.TheVariants.{OutOfM
 use Rattle.ira_view_json.specs.Line.{AreLines, IsLineOf, OfLines, WroteLine, WroteLines}
 use Rattle.ira_view_json.specs.Members.{with_number, with_words}
 use Rattle.ira_view_json.specs.Object.{Entries, Gives, Puts}
-use Rattle.ira_view_json.specs.ShownAnswer.{IsRingText, IsYes, OfRingText, WroteRing}
+use Rattle.ira_view_moment.specs.declared.chosen_moment.ChosenMoment.{ChosenMoment}
+use Rattle.ira_view_json.specs.ShownAnswer.{IsRingText, IsRingTextAt, IsYes, IsYesAt, OfRingText, WroteRing}
+use Rattle.ira_view_json.specs.ShownAnswer.{with_moment}
 use Rattle.ira_view_json.proofs.LineTexts.{lines_append, no_lines, one_line}
 
 pub none_are_lines : AreLines []
@@ -58,15 +60,24 @@ pub failed_then : {T : Type 0} (r : Result T ShowFault) (f : ShowFault) (s t u :
     → OfLines (λ text. Takes text s t) → WroteLines {T = T} (Err f) t u → WroteLines r s u
 failed_then {T} r f s t u is so_far more = rw is (wrote_then {T = T} (Err f) s t u so_far more)
 
--- an object that was told the status, and then that the answer is yes
-pub says_yes : {E : Type 0} {a b c : Option Entries} (r : Result Value E) (status : ℕ)
-    → Puts (with_number (codes "status") status) a b → Puts (with_words (codes "answer") (codes "yes")) b c → Gives c r
-    → IfOk r (λ value. IsYes status (view value))
-says_yes (Ok value) status p q gives =
+-- an object that was told the moment, the status, and then that the answer is yes
+pub says_yes_at : {A : Type 0} {E : Type 0} {a b c d : Option Entries} (r : Result Value E) (status : ℕ)
+    (moment : ChosenMoment A) → Puts (with_moment moment) a b → Puts (with_number (codes "status") status) b c
+    → Puts (with_words (codes "answer") (codes "yes")) c d → Gives d r
+    → IfOk r (λ value. IsYesAt status moment (view value))
+says_yes_at (Ok value) status moment m p q gives =
     let r = q.ends gives.0 gives.1 in
     let s = p.ends r.0 r.1 in
-    (members_view s.0, gives.2 ∙ ap object (r.2 ∙ ap (with_words (codes "answer") (codes "yes")) s.2))
-says_yes (Err e) status p q gives = tt
+    let t = m.ends s.0 s.1 in (
+      members_view t.0,
+      gives.2 ∙ ap object (r.2 ∙ ap (with_words (codes "answer") (codes "yes"))
+          (s.2 ∙ ap (with_number (codes "status") status) t.2)),
+    )
+says_yes_at (Err e) status moment m p q gives = tt
+
+pub yes_at : {A : Type 0} (status : ℕ) (moment : ChosenMoment A) (value : Data) → IsYesAt status moment value
+    → IsYes status value
+yes_at status moment value is = (with_moment moment is.0, is.1)
 
 -- the answer alone
 answer_text : (status : ℕ) (value : Data) (line : List ℕ) → IsYes status value → IsLineOf value line
@@ -108,3 +119,27 @@ ring_then (Err Write) status s t u so_far more = (
   ring_text status so_far.0 more.0 so_far.1 more.1,
   Takes-StopsIn s t u so_far.0 more.0 so_far.2 more.2,
 )
+
+-- the same with the moment that is told
+pub answered_at : {A : Type 0} {T : Type 0} (r : Result T ShowFault) (status : ℕ) (moment : ChosenMoment A)
+    (value : Data) (s t : SinkState) → IsYesAt status moment value → WroteLine r value s t
+    → OnOk r ((text : List ℕ) × IsRingTextAt status moment text × Takes text s t)
+answered_at (Ok v) status moment value s t says is =
+    (is.0, record { first = value; rest = []; answer = says; lines = one_line value is.0 is.1 }, is.2)
+answered_at (Err e) status moment value s t says is = tt
+
+pub ring_then_at : {A : Type 0} {T : Type 0} (r : Result T ShowFault) (status : ℕ) (moment : ChosenMoment A)
+    (s t u : SinkState) → (text : List ℕ) × IsRingTextAt status moment text × Takes text s t → WroteLines r t u
+    → OnOk r ((text : List ℕ) × IsRingTextAt status moment text × Takes text s u)
+ring_then_at (Ok v) status moment s t u so_far more =
+    let is = so_far.1 in (
+      so_far.0 ++ more.0,
+      record {
+        first = is.first;
+        rest = is.rest ++ more.1.0;
+        answer = is.answer;
+        lines = lines_append (is.first ∷ is.rest) more.1.0 so_far.0 more.0 is.lines more.1.1;
+      },
+      Takes-append s t u so_far.0 more.0 so_far.2 more.2,
+    )
+ring_then_at (Err e) status moment s t u so_far more = tt

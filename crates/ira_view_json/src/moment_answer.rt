@@ -1,8 +1,10 @@
-ghost use Rattle.std.specs.Prelude.{IfOk};
+ghost use Rattle.std.specs.Prelude.{ℕ, IfOk, List, OnOk};
 ghost use Rattle.serde_json.specs.View.{view};
 ghost use Rattle.ira_order.specs.Matching.{Matches};
 ghost use Rattle.ira_order.specs.Run.{AreLocalRuns};
-ghost use Rattle.ira_view_json.specs.ShownAnswer.{IsYes, WroteRing};
+ghost use Rattle.ira_event.specs.Sink.{Takes};
+ghost use Rattle.ira_view_json.specs.Object.{Puts};
+ghost use Rattle.ira_view_json.specs.ShownAnswer.{IsRingTextAt, IsYesAt, WroteRing, with_moment};
 
 use crate::line::write_line;
 use crate::object::Object;
@@ -45,7 +47,9 @@ impl Object {
     }
 
     /// Puts which moment is told; nothing at the end of the logs.
-    fn moment<A: Allocator>(&mut self, chosen: &ChosenMoment<A>) {
+    fn moment<A: Allocator>(&mut self, chosen: &ChosenMoment<A>)
+        ensures { Puts (with_moment chosen.now) self.old self.new }
+    {
         match chosen {
             ChosenMoment::AtEnd => {}
             ChosenMoment::AtCut(cut) => self.value("cut", numbers_value(self.alloc(), cut)),
@@ -65,14 +69,14 @@ fn shown_value<A: Allocator>(
     chosen: &ChosenMoment<A>,
     answer: ShownAnswer<'_>,
 ) -> Result<Value, OutOfMemory>
-    ensures { IfOk result (λ value. IsYes answer.entry.status (view value)) }
+    ensures { IfOk result (λ value. IsYesAt answer.entry.status chosen.now (view value)) }
 {
     let mut object = Object::of(alloc, "answer");
     object.totals(end);
-    object.moment(chosen);
     if let Some(named) = answer.named {
         object.value("named", places_value(alloc, named));
     }
+    object.moment(chosen);
     object.number("status", answer.status as u64);
     object.words("answer", "yes");
     object.finish()
@@ -89,7 +93,9 @@ pub(crate) fn write_answer<A: Allocator + Clone, W: Sink>(
 ) -> Result<(), ShowFault>
     requires matches { Matches logs.now }
     requires local { AreLocalRuns logs.now }
-    ensures { WroteRing answer.entry.status result (W.state sink.old) (W.state sink.new) }
+    ensures wrote { WroteRing answer.entry.status result (W.state sink.old) (W.state sink.new) }
+    ensures told { OnOk result ((text : List ℕ) × IsRingTextAt answer.entry.status chosen.now text
+        × Takes text (W.state sink.old) (W.state sink.new)) }
 {
     let end = Moment::at_end(alloc, logs)?;
     write_line(text, &shown_value(text, &end, chosen, answer)?, sink)

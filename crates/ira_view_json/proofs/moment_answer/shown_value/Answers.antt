@@ -1,5 +1,7 @@
-use Rattle.ira_view_json.proofs.LinesWritten.{says_yes}
+use Rattle.ira_view_json.proofs.LinesWritten.{says_yes_at}
 use Rattle.ira_view_json.proofs.moment_answer.shown_value.Goals as goal
 
 pub returns : goal.returns
-returns g c = says_yes c.finish.result c.args.answer.status c.number.ensures c.words.ensures c.finish.ensures
+returns g c =
+    says_yes_at c.finish.result c.args.answer.status c.args.chosen.now c.moment.ensures c.number.ensures
+    c.words.ensures c.finish.ensures
