@@ -25,12 +25,13 @@ help:
 	@echo 'make ira        proves the program and the libraries that it rests on, and leaves it at bin/ira:'
 	@echo '                the first time 1 to 2 hours of processor time, over all cores; then the crates that'
 	@echo '                have changed, and those that rest on them'
-	@echo 'make web        makes ira, proves the module for a web page, and leaves it at bin/ira.wasm'
+	@echo 'make web        makes ira, proves the module for a browser, and leaves the auditor as one page at bin/ira.html'
 	@echo 'make run        makes ira, judges the examples with it, types the commands of the pages, and compares what it prints'
 	@echo '                with what is expected'
 	@echo 'make install    copies bin/ira to $$(PREFIX)/bin, and its manual and completions below $$(PREFIX)/share; PREFIX is'
 	@echo '                $(PREFIX) if not given'
-	@echo 'make dist       makes ira, and packs it with its manual, completions, examples and pages, for machines without the kit'
+	@echo 'make dist       makes ira, and packs it with its manual, completions, examples and pages, and with bin/ira.html if it'
+	@echo '                was made, for machines without the kit'
 	@echo 'make test       the gate: all proofs from nothing, the edits that must be refused, all tests and'
 	@echo '                programs: `N passed, 0 failed`; and the checks but for the last two. CONTRIBUTING.md says what makes it costly'
 	@echo 'make checks     makes ira, and holds it against what no proof speaks of; CHECKS="A B" runs these alone:'
@@ -43,6 +44,7 @@ help:
 	@echo '    version     the logic that the version, README.md and the toolchain name'
 	@echo '    pictures    pictures of the examples and of recorded rings, read back and held against the logs'
 	@echo '    page        pages to move in, opened in a headless Chromium, in the same way; and how fast a large one moves'
+	@echo '    web         answers of bin/ira.html in a headless Chromium, those of the program; hostile names and texts'
 	@echo '    json        lines of JSON, in the same way'
 	@echo '    plain       plain pages of show and explain, in the same way'
 	@echo '    refusals    the first growths of memory and each start of a thread refused in turn, of a few command lines'
@@ -78,11 +80,12 @@ $(LIBRARIES:%=bin/%.proved) bin/ira.proved: bin/%.proved: build/prove.sh
 $(foreach it,$(LIBRARIES) ira,$(eval bin/$(it).proved: $(patsubst %,bin/%.proved,$(call uses,$(it))) \
 	$(shell find crates/$(it)/src crates/$(it)/specs crates/$(it)/proofs 2>/dev/null)))
 
-# The module for a web page, and the library that it alone uses.
+# The module for a browser, the library that it alone uses, and the page of web/ with both.
 web: ira
 	@sh build/prove.sh ira_lent $(JOBS) > bin/ira_lent.log 2>&1 || { tail -20 bin/ira_lent.log; exit 1; }
 	@sh build/web.sh $(JOBS) > bin/ira_web.log 2>&1 || { tail -20 bin/ira_web.log; exit 1; }
-	@$(say) 'proved and built: bin/ira.wasm'
+	@sh build/web_page.sh
+	@$(say) 'proved and built: bin/ira.html'
 
 # Runs the program, or the one that is named last, with some words, and compares its status and what it prints.
 judges = echo '$$ bin/$(or $(4),ira) $(1)'; \

@@ -9,7 +9,7 @@ ira=$(realpath "$1") || exit 2
 [ -x "$ira" ] || { echo "checks: no program at $1"; exit 2; }
 cd "$(dirname "$0")" || exit 2
 shift
-all='definitions names examples limits pages completions version pictures page json plain refusals recorders sweep'
+all='definitions names examples limits pages completions version pictures page web json plain refusals recorders sweep'
 said=$(mktemp) || exit 2
 trap 'rm -f "$said"' EXIT
 
@@ -23,10 +23,13 @@ done
 # What a check needs and isn't there.
 lacks() {
     case $1 in
-    pictures | page | json | plain | refusals | sweep) command -v python3 > /dev/null || { echo 'no python3'; return; } ;;
+    pictures | page | web | json | plain | refusals | sweep) command -v python3 > /dev/null || { echo 'no python3'; return; } ;;
     esac
     case $1 in
-    page) command -v chromium > /dev/null && command -v chromedriver > /dev/null || echo 'no chromium and chromedriver' ;;
+    page | web)
+        command -v chromium > /dev/null && command -v chromedriver > /dev/null || { echo 'no chromium and chromedriver'; return; }
+        [ "$1" = page ] || [ -f ../bin/ira.html ] || echo 'no bin/ira.html: make web'
+        ;;
     refusals | sweep)
         [ -f "$ira.o" ] || ldd "$ira" > /dev/null 2>&1 || { echo 'a static program, without the object file that make ira leaves'; return; }
         command -v rt > /dev/null || echo 'no Rattle kit'
@@ -45,6 +48,7 @@ check() {
     examples | limits | pages | completions | version | recorders) sh "$1.sh" "$ira" ;;
     pictures) python3 -B pictures.py "$ira" ;;
     page) python3 -B page.py "$ira" ;;
+    web) python3 -B web.py "$ira" ;;
     json) python3 -B json_lines.py "$ira" ;;
     plain) python3 -B plain_pages.py "$ira" ;;
     refusals) python3 -B sweep.py --short "$(of_ira)" ;;

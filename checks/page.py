@@ -94,6 +94,9 @@ class Browser:
                     times[stat] = sum(map(int, words.read().rpartition(') ')[2].split()[11:13])) / os.sysconf('SC_CLK_TCK')
         return times
 
+    def devtools(self, command, **values):
+        self.call('POST', '/goog/cdp/execute', {'cmd': command, 'params': values})
+
     def act(self, kind, *actions):
         self.call('POST', '/actions', {'actions': [{'type': kind, 'id': kind, 'actions': list(actions)}]})
 
@@ -393,9 +396,9 @@ class Check:
         assert {'alone', 'fold', 'search', '-', '+', 'w', '0', '?', 'view', 'play', '[', ']', 'steps', 'Escape'} <= set(reached.values()), reached
         seen = 'return ["page", "picture"].map(id => document.getElementById(id).getBoundingClientRect().height > 99)'
         assert browser.run(seen) == [True, False]
-        browser.call('POST', '/goog/cdp/execute', {'cmd': 'Emulation.setEmulatedMedia', 'params': {'media': 'print'}})
+        browser.devtools('Emulation.setEmulatedMedia', media='print')
         assert browser.run(seen) == [False, True]
-        browser.call('POST', '/goog/cdp/execute', {'cmd': 'Emulation.setEmulatedMedia', 'params': {'media': ''}})
+        browser.devtools('Emulation.setEmulatedMedia', media='')
         assert not (faults := browser.faults()), faults
 
     def hostile(self, temp, example):

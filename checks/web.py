@@ -1,0 +1,351 @@
+"""Opens bin/ira.html in a headless Chromium, driven over loopback by its driver, and holds what it answers against what
+the program prints and writes of the same files, byte for byte: each row of examples/README.md and all commands of each
+folder, hostile names and texts, logs of a large ring, as far as the module has the command. Loads files as a user does,
+saves, writes questions; looks at what is said of a browser without 64-bit memory and of a damaged page; and that nothing
+is fetched.
+
+    python3 checks/web.py PROGRAM [PAGE]      PAGE is bin/ira.html if not given; chromium and chromedriver are on the PATH
+"""
+import base64
+import http.server
+import json
+import os
+import subprocess
+import sys
+import tempfile
+import threading
+import time
+
+from page import Browser
+from pictures import HERE
+
+EXAMPLES = os.path.realpath(os.path.join(HERE, '..', 'examples'))
+COMMANDS = ('the log of a node', 'logs', 'explain of a log', 'explain', 'explain --question', 'explain --cert', 'show',
+            'show --events', 'draw', 'decide', 'check', 'pairs', 'run', 'upgrade', 'mend')
+LOG, LOGS, EXPLAIN_LOG, EXPLAIN, EXPLAIN_QUESTION, EXPLAIN_CERT, SHOW, EVENTS, DRAW, DECIDE, CHECK, PAIRS, RUN, UPGRADE, \
+    MEND = range(15)
+ALL = (0, 2 ** 64 - 1)
+TOLD = '''
+const piece = it => ['h2', '.command', 'pre'].map(part => it.querySelector(part)?.textContent);
+return [$('answer').textContent, $('fault').textContent, [...document.querySelectorAll('#answers section')].map(piece)];'''
+ASKS = '''
+const [command, values, files, done] = arguments, bytes = text => Uint8Array.from(atob(text), c => c.charCodeAt(0));
+const written = bytes => btoa(Array.from(bytes, byte => String.fromCharCode(byte)).join(''));
+send({values: [command, ...values.map(BigInt)], files: files.map(([name, text]) => ({name, text: bytes(text)}))})
+  .then(({status, parts}) => done([status, (parts || []).map(written)]), why => done([why.message]));'''
+
+
+def text_of(name):
+    with open(name, 'rb') as file:
+        return file.read()
+
+
+def in_order(names):
+    return sorted(names, key=lambda name: (len(name), name))
+
+
+class Check:
+    def __init__(self, program, page, browser, temp):
+        self.program, self.page, self.browser, self.temp = program, page, browser, temp
+        self.answers, self.folders, self.has = 0, 0, set()
+
+    def wait(self, script, seconds=60):
+        for _ in range(seconds * 10):
+            found = self.browser.run(script)
+            if found:
+                return found
+            time.sleep(.1)
+        raise AssertionError(f'not within {seconds} s: {script}')
+
+    def open(self, link='', page=None):
+        self.browser.open(page or self.page, link)
+
+    def ready(self):
+        self.wait('return worker && !asked.size')
+
+    def ask(self, command, values, files):
+        files = [(name, base64.b64encode(text).decode()) for name, text in files]
+        arguments = [command, [str(value) for value in values], files]
+        status, *parts = self.browser.call('POST', '/execute/async', {'script': ASKS, 'args': arguments})
+        assert parts, status
+        return status, [base64.b64decode(part) for part in parts[0]]
+
+    def run(self, words, files, wrote=None, stdin=None):
+        """What the program prints of files in a folder of its own, and writes as one file, or as logs in a folder."""
+        self.folders += 1
+        folder = os.path.join(self.temp, f'run{self.folders}')
+        os.makedirs(os.path.join(folder, 'out'))
+        for name, text in files:
+            with open(os.path.join(folder, name), 'wb') as file:
+                file.write(text)
+        told = subprocess.run([self.program, *words], cwd=folder, input=stdin or b'', capture_output=True, check=False)
+        made = [os.path.join(folder, wrote)] if wrote else [os.path.join(folder, 'out', f'{i}.log') for i in range(255)]
+        return told.returncode, [told.stdout, told.stderr] + [text_of(name) for name in made if os.path.exists(name)]
+
+    def same(self, what, command, values, files, run):
+        """Holds an answer of the module against what a run of the program gives."""
+        if command not in self.has:
+            return
+        found, wanted = self.ask(command, values, files), run()
+        assert found == wanted, (what, found, wanted)
+        self.answers += 1
+
+    def known(self):
+        """The commands that the module has: of others it says that they are no requests."""
+        logs = [(f'{i}.log', text_of(os.path.join(EXAMPLES, 'two_node_election', f'{i}.log'))) for i in range(2)]
+        ask, cert = (('q', text_of(os.path.join(EXAMPLES, 'two_node_election', f'two_leaders.{kind}'))) for kind in ('ask', 'cert'))
+        files = {LOG: logs[:1], EXPLAIN_LOG: logs[:1], EXPLAIN_QUESTION: [ask, *logs], DECIDE: [ask, *logs], PAIRS: [], RUN: [],
+                 EXPLAIN_CERT: [ask, cert, *logs], CHECK: [ask, cert, *logs]}
+        values = {DRAW: ALL, PAIRS: [2], RUN: [2, 2, 1, 64, 99, 1], MEND: [0]}
+        self.has = {command for command in range(15) if self.ask(command, values.get(command, []), files.get(command, logs))[0] != 4}
+        lacks = [name for command, name in enumerate(COMMANDS) if command not in self.has]
+        if lacks:
+            print('skipped: web of', ', '.join(lacks), '(not in the module)')
+        assert LOGS in self.has
+
+    def all_commands(self, what, logs):
+        """All that can be asked of logs alone."""
+        names = [name for name, _ in logs]
+
+        def ask(command, values, words, wrote=None):
+            self.same((what, words), command, values, logs, lambda: self.run(words + names, logs, wrote))
+
+        ask(LOGS, [], ['logs'])
+        ask(EXPLAIN, [], ['explain'])
+        for command, words in ((SHOW, ['show']), (EVENTS, ['show', '--events'])):
+            ask(command, [], words)
+            for cut in ([0] * len(logs), [1] * len(logs), [9] * len(logs)):
+                ask(command, [1, *cut], words + ['--at', ','.join(map(str, cut))])
+        ask(DRAW, ALL, ['draw', '--out', 'out/ring.svg'], 'out/ring.svg')
+        ask(DRAW, (2, 4), ['draw', '--from', '2', '--to', '4', '--out', 'out/ring.svg'], 'out/ring.svg')
+        ones = ','.join('1' * len(logs))
+        ask(DRAW, [*ALL, 1] + [1] * len(logs), ['draw', '--at', ones, '--out', 'out/ring.svg'], 'out/ring.svg')
+        ask(UPGRADE, [], ['upgrade', '--out', 'out'])
+        for start in ('passive', 'initiator'):
+            ask(MEND, [int(start == 'initiator')], ['mend', '--start', start, '--out', 'out'])
+        for name, text in logs:
+            self.same((what, name), LOG, [], [(name, text)], lambda: self.run([], [], stdin=text))
+            self.same((what, name), EXPLAIN_LOG, [], [('-', text)], lambda: self.run(['explain'], [], stdin=text))
+
+    def asked(self, what, logs, question, cert=None):
+        """All that can be asked of logs with a question."""
+        names, files = [name for name, _ in logs], [('q.ask', question), *logs]
+
+        def ask(command, values, words, wrote=None):
+            self.same((what, words), command, values, files, lambda: self.run(words + names, files, wrote))
+
+        of = ['--question', 'q.ask']
+        ask(DECIDE, [], ['decide', *of, '--out', 'out/q.cert'], 'out/q.cert')
+        ask(EXPLAIN_QUESTION, [], ['explain', *of])
+        ask(EXPLAIN_QUESTION, [0], ['explain', *of, '--case', '0'])
+        ask(SHOW, [2], ['show', *of])
+        ask(EVENTS, [2, 0], ['show', '--events', *of, '--case', '0'])
+        ask(DRAW, [*ALL, 2], ['draw', *of, '--out', 'out/ring.svg'], 'out/ring.svg')
+        if cert is not None:
+            files.insert(1, ('q.cert', cert))
+            ask(CHECK, [], ['check', *of, '--cert', 'q.cert'])
+            ask(EXPLAIN_CERT, [], ['explain', *of, '--cert', 'q.cert'])
+
+    def examples(self):
+        for folder in sorted(os.listdir(EXAMPLES)):
+            at = os.path.join(EXAMPLES, folder)
+            if not os.path.isdir(at) or not any(name.endswith('.log') for name in os.listdir(at)):
+                continue
+            texts = {name: text_of(os.path.join(at, name)) for name in os.listdir(at)}
+            logs = [(name, texts[name]) for name in in_order(texts) if name.endswith('.log')]
+            self.all_commands(folder, logs)
+            for name in in_order(texts):
+                if name.endswith('.ask'):
+                    self.asked((folder, name), logs, texts[name], texts.get(name.replace('.ask', '.cert')))
+        for nodes in (2, 3, 64, 255, 0, 1, 256):
+            self.same(('pairs', nodes), PAIRS, [nodes], [], lambda: self.run(['pairs', str(nodes)], []))
+        names = ('--nodes', '--initiators', '--seed', '--draws', '--cap', '--terms')
+        for values in ((2, 2, 17, 64, 10000, 2), (5, 1, 3, 64, 10000, 1), (8, 8, 2, 0, 9, 1), (3, 0, 1, 64, 99, 1)):
+            words = ['run', '--alone', '--out', 'out', *(str(word) for pair in zip(names, values) for word in pair)]
+            self.same(words, RUN, values, [], lambda: self.run(words, []))
+
+    def hostile(self):
+        """Names and texts that would be tags, or aren't what they should be."""
+        good = [text_of(os.path.join(EXAMPLES, 'receipts_exchanged', f'{i}.log')) for i in range(2)]
+        elements = None
+        names = ('plain', '<img src=x onerror=document.title=0>', '"\'&amp;<!--', 'h\u00f6he \u2028\u4e2d', 'line\nfeed\t', '-')
+        for i, name in enumerate(names):
+            names = [f'{name}{k}.log' for k in range(2)]
+            logs = list(zip(names, good))
+            self.same(name, EXPLAIN, [], logs, lambda: self.run(['explain', '--', *names], logs))
+            self.load(logs, f'hostile{i}')
+            told = self.browser.run("return [document.title, document.querySelectorAll('body *').length, $('logs').textContent]")
+            elements = elements or told[1]
+            assert told[:2] == ['ira', elements] and all(name in told[2] for name in names), told
+        for text in (b'', b'\0', b'\xff' * 99, b'irlog 1\nnodes 2\n' + b'<b>' * 9 + b'\n', b'irlog 1\n' * 9, b'x' * 200_000,
+                     b'\r\n', good[0][:-1], good[0] + b'\0'):
+            self.all_commands(text[:40], [('0.log', text), ('1.log', good[1])])
+            self.asked(text[:40], [('0.log', good[0]), ('1.log', good[1])], text, text)
+
+    def load(self, logs, folder):
+        """Chooses files as a user does."""
+        at = os.path.join(self.temp, folder)
+        os.makedirs(at, exist_ok=True)
+        for name, text in logs:
+            with open(os.path.join(at, name), 'wb') as file:
+                file.write(text)
+        if any('\n' in name for name, _ in logs):
+            # the driver takes names on lines
+            texts = [(name, base64.b64encode(text).decode()) for name, text in logs]
+            self.browser.run('const bytes = text => Uint8Array.from(atob(text), c => c.charCodeAt(0)); '
+                             'take(arguments[0].map(([name, text]) => ({name, text: bytes(text)})), true)', texts)
+        else:
+            names = '\n'.join(os.path.join(at, name) for name, _ in logs)
+            element = self.browser.run("return $('files')")
+            self.browser.call('POST', f'/element/{next(iter(element.values()))}/value', {'text': names})
+        self.wait(f"return logs.length == {len(logs)}")
+        self.ready()
+
+    def told(self):
+        return self.browser.run(TOLD)
+
+    def shows(self, wanted):
+        """Waits until a piece of the page has these words."""
+        self.wait(f"return $('answers').textContent.includes({json.dumps(wanted)})")
+        self.ready()
+
+    def set(self, control, value):
+        self.browser.run('const it = $(arguments[0]); it.value = arguments[1]; it.onchange()', control, value)
+
+    def used(self):
+        """What the page shows of files, an example, texts pasted, questions, moments, and what it saves."""
+        browser = self.browser
+        logs = [(f'{i}.log', text_of(os.path.join(EXAMPLES, 'two_node_election', f'{i}.log'))) for i in range(2)]
+        self.open()
+        self.ready()
+        self.load(logs, 'used')
+        answer, fault, pieces = self.told()
+        assert (answer, fault) == ('yes', ''), (answer, fault)
+        for title, line, text in pieces:
+            if 'draw' not in line:
+                _, (out, _, *_) = self.run(line.split()[2:], logs)
+                assert text == out.decode().rstrip('\n'), (title, line, text, out)
+        for dropped, wanted in ((['lost_record'], 'no: link 1: receipt 2 has no sending'), (['lost_record/1.log'], 'yes, by itself'),
+                                (['circle_of_two/1.log', 'circle_of_two/0.log'], 'no: circle')):
+            files = [os.path.join(EXAMPLES, name) for name in dropped]
+            for kind in ('dragEnter', 'dragOver', 'drop'):
+                browser.devtools('Input.dispatchDragEvent', type=kind, x=150, y=200,
+                                 data={'items': [], 'files': files, 'dragOperationsMask': 1})
+            self.wait(f"return $('answer').textContent == {wanted!r}")
+            self.ready()
+        for example, wanted in (('receipts_exchanged', 'no: link 1: receipt 1 differs'), ('killed_ring', 'no: log 1: cut'),
+                                ('circle_of_two', 'no: circle'), ('one_bad_log', 'no: node 0: event 1: draw range, by itself')):
+            self.open(f'#{example}')
+            self.wait(f"return $('answer').textContent == {wanted!r}")
+            self.ready()
+        browser.run("$('pasted').value = arguments[0]; $('paste').click()", ''.join(text.decode() for _, text in logs))
+        self.wait("return logs.length == 2 && $('answer').textContent == 'yes'")
+        self.ready()
+        if DRAW in self.has:
+            drawn = browser.run("return document.querySelector('.picture').shadowRoot.querySelectorAll('[data-at]').length")
+            assert drawn == 8 and browser.run("return !!document.querySelector('a[download=\"ring.svg\"]')"), drawn
+        if {DECIDE, PAIRS} <= self.has:
+            self.set('kind', 'pairs')
+            self.shows('case 0: absent, 0 steps, node 1 spent')
+            assert browser.run("return !!document.querySelector('a[download=\"question.cert\"]')")
+            self.set('kind', 'leads')
+            self.shows('case 0: present at 4 4\ncase 1: absent, 0 steps, node 1 spent')
+            self.set('question', text_of(os.path.join(EXAMPLES, 'two_node_election', 'active_beside_passive.ask')).decode())
+            self.shows('case 0: present at 2 3')
+        if {DECIDE, SHOW} <= self.has:
+            self.set('moment', 'first')
+            self.shows('The first moment of case 0')
+            self.set('moment', 'at')
+            self.set('at', '1,1')
+            self.shows('--at 1,1')
+            self.set('at', '1,x')
+            self.wait("return $('fault').textContent.includes('numbers')")
+        if MEND in self.has:
+            self.set('moment', 'end')
+            self.set('examples', 'killed_ring')
+            self.wait("return $('answer').textContent == 'no: log 1: cut'")
+            self.ready()
+            browser.run("$('mend').click()")
+            self.wait("return !!document.querySelector('a[download=\"1.log\"]')")
+            browser.run("[...document.querySelectorAll('#answers button')].find(it => it.textContent.includes('Go on')).click()")
+            self.wait("return $('answer').textContent == 'yes'")
+            self.ready()
+        assert not (faults := browser.faults()), faults
+
+    def large(self):
+        """A ring that needs more memory than is lent at first."""
+        folder = os.path.join(self.temp, 'large')
+        os.makedirs(folder)
+        words = ['run', '--alone', '--nodes', '128', '--seed', '5', '--terms', '3', '--out', folder]
+        subprocess.run([self.program, *words], check=True, stdout=subprocess.DEVNULL)
+        logs = [(f'{i}.log', text_of(os.path.join(folder, f'{i}.log'))) for i in range(128)]
+        for command, words in ((LOGS, ['logs']), (SHOW, ['show'])):
+            self.same(words, command, [], logs, lambda: self.run(words + [name for name, _ in logs], logs))
+
+    def refused(self):
+        """A browser without 64-bit memory, and a damaged page: a line says so, and nothing else happens."""
+        browser, page = self.browser, text_of(self.page).decode()
+        begins = page.index('id="module"')
+        at = page.index('\n', page.index('\n', begins) + 1) + 20
+        damaged = os.path.join(self.temp, 'damaged.html')
+        lacking = page.replace('WebAssembly.validate(SMALLEST)', 'WebAssembly.validate(SMALLEST.slice(1))')
+        for text, wanted in ((page[:at] + ('A' if page[at] != 'A' else 'B') + page[at + 1:], 'damaged'),
+                             (page[:at] + '!' + page[at + 1:], 'damaged'), (page[:at] + page[at + 400:], 'damaged'),
+                             (lacking, 'Memory64')):
+            with open(damaged, 'w') as file:
+                file.write(text)
+            self.open('#two_node_election', damaged)
+            told = self.wait("return $('fault').textContent")
+            assert wanted in told and self.told()[0] == 'No logs yet.', told
+
+    def silent(self):
+        """Nothing is fetched, and the policy of the page allows nothing."""
+        met = []
+
+        class Server(http.server.BaseHTTPRequestHandler):
+            def do_GET(self):
+                met.append(self.path)
+                self.send_response(200)
+                self.end_headers()
+
+            def log_message(self, *_):
+                pass
+
+        server = http.server.HTTPServer(('127.0.0.1', 0), Server)
+        threading.Thread(target=server.serve_forever, daemon=True).start()
+        self.open('#two_node_election')
+        self.wait("return $('answer').textContent == 'yes'")
+        self.ready()
+        fetched = self.browser.run("return performance.getEntriesByType('resource').map(it => it.name)")
+        assert all(name.startswith('blob:') for name in fetched), fetched
+        self.browser.faults()
+        self.browser.run('fetch(arguments[0]).catch(() => 0); new Image().src = arguments[0]; navigator.sendBeacon(arguments[0])',
+                         f'http://127.0.0.1:{server.server_port}/')
+        time.sleep(1)
+        server.shutdown()
+        assert not met and self.browser.faults(), met
+
+
+def main():
+    program = os.path.abspath(sys.argv[1])
+    page = os.path.abspath(sys.argv[2] if len(sys.argv) > 2 else os.path.join(HERE, '..', 'bin', 'ira.html'))
+    browser = Browser()
+    try:
+        with tempfile.TemporaryDirectory() as temp:
+            check = Check(program, page, browser, temp)
+            check.refused()
+            check.silent()
+            check.open()
+            check.ready()
+            check.known()
+            check.examples()
+            check.hostile()
+            check.large()
+            check.used()
+            print(f'{check.answers} answers of the page are those of the program')
+    finally:
+        browser.close()
+
+
+if __name__ == '__main__':
+    main()

@@ -1,0 +1,347 @@
+'use strict';
+const $ = id => document.getElementById(id);
+const encoder = new TextEncoder, decoder = new TextDecoder;
+const byPlace = new Intl.Collator('en', {numeric: true}).compare;
+
+function tag(name, more, ...children) {
+  const made = Object.assign(document.createElement(name), more);
+  made.append(...children.flat(9).filter(child => child != null && child !== false));
+  return made;
+}
+function fault(words) {
+  $('fault').textContent = words || '';
+  $('fault').hidden = !words;
+}
+
+// ---- the auditor ----
+// The smallest module with a memory of 64 bit.
+const SMALLEST = Uint8Array.of(0, 97, 115, 109, 1, 0, 0, 0, 5, 3, 1, 4, 1);
+let worker, asked = new Map, count = 0, bytes;
+
+async function readModule() {
+  if (!globalThis.WebAssembly || !WebAssembly.validate(SMALLEST)) {
+    throw new Error('This browser lacks 64-bit memory for WebAssembly (Memory64), which the auditor needs. Chrome, '
+      + 'Chromium and Edge from 133 on and Firefox from 134 on have it.');
+  }
+  const damaged = new Error('The auditor in this page is damaged: get the page anew.');
+  try {
+    bytes = Uint8Array.from(atob($('module').textContent.trim()), c => c.charCodeAt(0));
+  } catch {
+    throw damaged;
+  }
+  const digest = globalThis.crypto?.subtle && new Uint8Array(await crypto.subtle.digest('SHA-256', bytes));
+  const hex = digest && [...digest].map(byte => byte.toString(16).padStart(2, '0')).join('');
+  if (hex && hex != $('module').dataset.sha256) throw damaged;
+}
+
+// A worker that has the module. What an older one was asked is dropped.
+function begin() {
+  worker?.terminate();
+  for (const {reject} of asked.values()) reject(new Dropped);
+  asked = new Map;
+  worker = new Worker(URL.createObjectURL(new Blob([$('worker').textContent], {type: 'text/javascript'})));
+  worker.onmessage = ({data: {id, fault: words, ...answer}}) => {
+    const {resolve, reject} = asked.get(id);
+    asked.delete(id);
+    if (words) reject(new Error(words));
+    else resolve(answer);
+  };
+  worker.onerror = () => fault('The auditor could not be started in this browser.');
+  return send({module: bytes});
+}
+class Dropped extends Error {}
+function send(message) {
+  const id = count++;
+  worker.postMessage({id, ...message});
+  return new Promise((resolve, reject) => asked.set(id, {resolve, reject}));
+}
+
+const [LOG, LOGS, EXPLAIN_LOG, EXPLAIN, EXPLAIN_QUESTION, EXPLAIN_CERT, SHOW, EVENTS, DRAW, DECIDE, CHECK, PAIRS, RUN,
+  UPGRADE, MEND] = Array(15).keys();
+
+// The status of a command, and what it prints and writes; nothing of one that the module doesn't have.
+async function ask(command, values, files) {
+  const {status, parts} = await send({values: [command, ...values], files});
+  if (status > 2) return null;
+  return {status, out: decoder.decode(parts[0]), err: decoder.decode(parts[1]), files: parts.slice(2)};
+}
+
+// ---- what is given ----
+let rings = new Map, logs = [], question = null, cert = null;
+
+const kindOf = ({name, text}) => [['ask', 'irask '], ['cert', 'ircert '], ['log', 'irlog ']].find(([suffix, begins]) =>
+  name.endsWith(`.${suffix}`) || decoder.decode(text.subarray(0, begins.length)) == begins)?.[0];
+const folderOf = name => name.slice(0, name.lastIndexOf('/') + 1);
+
+// Files of one folder or several. Others than logs, questions and certificates count where they were chosen one by one.
+function take(files, areChosen) {
+  rings = new Map;
+  for (const file of files.sort((a, b) => byPlace(a.name, b.name))) {
+    const kind = kindOf(file) ?? (areChosen && 'log'), folder = folderOf(file.name);
+    if (!kind) continue;
+    if (!rings.has(folder)) rings.set(folder, {log: [], ask: [], cert: []});
+    rings.get(folder)[kind].push(file);
+  }
+  const folders = [...rings.keys()].filter(folder => rings.get(folder).log.length);
+  $('ring').replaceChildren(...folders.map(folder => tag('option', {}, folder || '.')));
+  $('rings').hidden = folders.length < 2;
+  if (!folders.length && rings.size && logs.length) takeQuestions([...rings.values()]);
+  else takeRing(rings.get(folders[0]));
+}
+function takeRing(ring) {
+  [logs, question, cert] = [ring?.log ?? [], null, null];
+  takeQuestions(ring ? [ring] : []);
+}
+function takeQuestions(groups) {
+  for (const old of $('kind').querySelectorAll('.given')) old.remove();
+  const questions = groups.flatMap(group => group.ask);
+  $('kind').append(...questions.map(file => Object.assign(tag('option', {className: 'given', value: 'given'},
+    file.name), {file})));
+  certs = groups.flatMap(group => group.cert);
+  $('kind').value = '';
+  if (questions.length == 1) $('kind').selectedIndex = $('kind').options.length - 1;
+  pickQuestion();
+}
+let certs = [];
+
+async function pickQuestion() {
+  const kind = $('kind').value, {file} = $('kind').selectedOptions[0];
+  cert = file && certs.find(({name}) => name.replace(/\.cert$/, '') == file.name.replace(/\.ask$/, '')) || null;
+  question = null;
+  if (kind == 'given') question = file;
+  if (kind == 'leads') question = {name: 'leads.ask', text: encoder.encode(leads(logs.length))};
+  if (kind == 'pairs' && logs.length > 1) {
+    const {out} = await told(() => ask(PAIRS, [logs.length], [])) ?? {};
+    if (out) question = {name: 'two_leaders.ask', text: encoder.encode(out)};
+  }
+  if (kind == 'hand') question = {name: 'question.ask',
+    text: encoder.encode($('question').value || leads(logs.length))};
+  $('question').hidden = !question;
+  if (question) $('question').value = decoder.decode(question.text);
+  judge();
+}
+const leads = nodes =>
+  `irask 1\nnodes ${nodes}\n${Array.from({length: nodes}, (_, i) => `case\n${i}: leader\n`).join('')}end\n`;
+
+function showGiven() {
+  const row = (file, i) => tag('li', {}, file.name, ' ', tag('small', {}, `${file.text.length} bytes`),
+    i > 0 && tag('button', {ariaLabel: `${file.name}: one place earlier`, onclick: () => {
+      logs.splice(i - 1, 2, file, logs[i - 1]);
+      judge();
+    }}, '\u2191'),
+    tag('button', {ariaLabel: `${file.name}: leave out`, onclick: () => {
+      logs.splice(i, 1);
+      judge();
+    }}, '\u00d7'));
+  $('logs').replaceChildren(...logs.map(row));
+  $('certified').hidden = !cert;
+  $('cert').textContent = cert?.name;
+  $('at').hidden = $('moment').value != 'at';
+}
+
+// ---- what is answered ----
+// What comes of some work, or nothing, where a fault is told or the work was dropped.
+async function told(work) {
+  try {
+    return await work();
+  } catch (why) {
+    if (!(why instanceof Dropped)) fault(why.message);
+  }
+}
+const number = (text, none) => /^\d{1,19}$/.test(text.trim()) ? BigInt(text.trim()) : text.trim() ? null : none;
+
+// The values of the moment, its question, and its words on a command line; nothing where it isn't one.
+function momentAsked() {
+  const kind = $('moment').value;
+  if (kind == 'first' && question) return {values: [2], files: [question], words: `--question ${question.name} `};
+  if (kind != 'at') return {values: [], files: [], words: ''};
+  const cut = $('at').value.split(',').map(text => number(text, null));
+  return cut.includes(null) ? null : {values: [1, ...cut], files: [], words: `--at ${cut} `};
+}
+
+const url = (bytes, type = 'text/plain') => URL.createObjectURL(new Blob([bytes], {type}));
+const save = (name, bytes, type) => tag('a', {href: url(bytes, type), download: name}, name);
+
+// What a command printed, under its line, and files to save.
+function piece(title, line, answer, ...more) {
+  if (!answer) return [];
+  const {out, err} = answer;
+  return tag('section', {}, tag('h2', {}, title), tag('p', {className: 'command'}, `$ ira ${line}`),
+    out && tag('pre', {tabIndex: 0}, out.replace(/\n$/, '')),
+    err && tag('pre', {className: 'bad', tabIndex: 0}, err.replace(/\n$/, '')), more);
+}
+// A picture in a tree of its own, in which its style stays.
+function picture(bytes) {
+  const place = tag('div', {className: 'picture', tabIndex: 0, role: 'group', ariaLabel: 'Picture of the ring'});
+  const drawn = new DOMParser().parseFromString(decoder.decode(bytes), 'image/svg+xml').documentElement;
+  place.attachShadow({mode: 'open'}).append(document.importNode(drawn, true));
+  return [place, tag('p', {}, 'Save: ', save('ring.svg', bytes, 'image/svg+xml'))];
+}
+
+let turn = 0;
+async function judge() {
+  const mine = ++turn, isNow = () => mine == turn;
+  fault();
+  showGiven();
+  $('answers').replaceChildren();
+  $('answer').className = '';
+  if (!logs.length) return $('answer').textContent = 'No logs yet.';
+  $('answer').textContent = '\u2026';
+  await told(async () => {
+    if (asked.size) await begin();
+    const add = piece => isNow() && $('answers').append(...[piece].flat()), isOne = logs.length == 1;
+    const names = logs.map(({name}) => name).join(' '), moment = momentAsked();
+    const {status, out, err} = await ask(isOne ? LOG : LOGS, [], logs);
+    if (!isNow()) return;
+    $('answer').textContent = (out || err).trim() + (isOne ? ', by itself' : '');
+    $('answer').className = status ? 'bad' : 'yes';
+    add(piece('Why', isOne ? `explain < ${names}` : `explain ${names}`,
+      await ask(isOne ? EXPLAIN_LOG : EXPLAIN, [], logs)));
+    if (isOne) return;
+    if (question) await answerQuestion(names, add);
+    const [from, to] = [number($('from').value, 0n), number($('to').value, 2n ** 64n - 1n)];
+    if (!moment) return fault('A moment is numbers with commas between them.');
+    if (from == null || to == null) return fault('A column is a number.');
+    const files = [...moment.files, ...logs];
+    const columns = `${$('from').value && `--from ${from} `}${$('to').value && `--to ${to} `}`;
+    const drawn = await ask(DRAW, [from, to, ...moment.values], files);
+    if (drawn?.files[0] || drawn?.err) add(piece('Picture', `draw ${moment.words}${columns}--out ring.svg ${names}`,
+      {...drawn, out: ''}, drawn.files[0] && picture(drawn.files[0])));
+    if (status) return;
+    add(piece('Who leads, and what is on its way', `show ${moment.words}${names}`,
+      await ask(SHOW, moment.values, files)));
+    add(piece('An order of all events', `show --events ${moment.words}${names}`,
+      await ask(EVENTS, moment.values, files)));
+  });
+}
+async function answerQuestion(names, add) {
+  const decided = await ask(DECIDE, [], [question, ...logs]), found = decided?.files[0];
+  add(piece('The question', `decide --question ${question.name} --out question.cert ${names}`, decided,
+    found && tag('p', {}, 'Save: ', save('question.cert', found), ', the certificate that no moment held it')));
+  add(piece('The question, explained', `explain --question ${question.name} ${names}`,
+    await ask(EXPLAIN_QUESTION, [], [question, ...logs])));
+  if (!cert) return;
+  const line = `--question ${question.name} --cert ${cert.name} ${names}`, files = [question, cert, ...logs];
+  add(piece('The certificate', `check ${line}`, await ask(CHECK, [], files)));
+  add(piece('The certificate, explained', `explain ${line}`, await ask(EXPLAIN_CERT, [], files)));
+}
+
+// An archive of files, each at most 8 GB.
+function archive(files) {
+  const blocks = files.flatMap(({name, text}) => {
+    const head = new Uint8Array(512), put = (at, words) => head.set(encoder.encode(words), at);
+    put(0, name);
+    put(100, '0000644\0' + '0000000\0'.repeat(2));
+    put(124, text.length.toString(8).padStart(11, '0') + '\0' + '00000000000\0        0');
+    put(257, 'ustar\0' + '00');
+    put(148, head.reduce((sum, byte) => sum + byte).toString(8).padStart(6, '0') + '\0 ');
+    return [head, text, new Uint8Array(-text.length & 511)];
+  });
+  return new Blob([...blocks, new Uint8Array(1024)]);
+}
+// Logs that a command wrote: to save, or to go on with.
+async function write(title, line, command, values, files) {
+  fault();
+  await told(async () => {
+    const made = await ask(command, values, files), written = made.files.map((text, i) => ({name: `${i}.log`, text}));
+    const links = written[0] && tag('p', {}, 'Save: ', save('logs.tar', archive(written), 'application/x-tar'),
+      written.map(({name, text}) => [', ', save(name, text)]),
+      ' ', tag('button', {onclick: () => take(written)}, 'Go on with these'));
+    $('answers').prepend(piece(title, line, made, links));
+  });
+}
+
+// ---- what is done ----
+// The files of what was dropped: by a handle, or by an entry where a browser has no handles.
+async function filesOf(it, folder = '') {
+  const name = folder + it.name;
+  if (it.getFile) return read(await it.getFile(), name);
+  if (it.isFile) return read(await new Promise((resolve, reject) => it.file(resolve, reject)), name);
+  const found = [];
+  if (it.values) for await (const inside of it.values()) found.push(inside);
+  else {
+    const reader = it.createReader(), more = () => new Promise((resolve, reject) => reader.readEntries(resolve, reject));
+    for (let some = await more(); some.length; some = await more()) found.push(...some);
+  }
+  return (await Promise.all(found.map(inside => filesOf(inside, `${name}/`)))).flat();
+}
+const read = async (file, name = file.webkitRelativePath || file.name) =>
+  ({name, text: new Uint8Array(await file.arrayBuffer())});
+for (const input of [$('folder'), $('files')]) input.onchange = () => told(async () => {
+  take(await Promise.all([...input.files].map(file => read(file))), input == $('files'));
+  input.value = '';
+});
+document.ondragover = event => (event.preventDefault(), $('drop').classList.add('over'));
+document.ondragleave = () => $('drop').classList.remove('over');
+document.ondrop = event => {
+  event.preventDefault();
+  $('drop').classList.remove('over');
+  const dropped = [...event.dataTransfer.items].filter(item => item.kind == 'file')
+    .map(item => item.getAsFileSystemHandle?.() ?? item.webkitGetAsEntry());
+  told(async () => {
+    const found = await Promise.all(dropped);
+    take((await Promise.all(found.map(it => filesOf(it)))).flat(), found.every(it => it.isFile || it.kind == 'file'));
+  });
+};
+$('paste').onclick = () => {
+  const texts = $('pasted').value.split(/^(?=irlog |irask |ircert )/m).filter(text => text.trim());
+  let place = 0;
+  const nameOf = text => text.startsWith('irask ') ? 'pasted.ask' : text.startsWith('ircert ') ? 'pasted.cert'
+    : `${place++}.log`;
+  take(texts.map(text => ({name: nameOf(text),
+    text: encoder.encode(text)})), true);
+};
+const examples = [...document.querySelectorAll('[data-example]')].map(({dataset: {example}, textContent}) =>
+  ({name: example, text: encoder.encode(textContent)}));
+const folders = new Set(examples.map(({name}) => folderOf(name).slice(0, -1)));
+$('examples').append(...[...folders].map(name => tag('option', {}, name)));
+$('examples').onchange = () => take(examples.filter(({name}) => folderOf(name) == `${$('examples').value}/`));
+$('ring').onchange = () => takeRing([...rings.values()].filter(({log}) => log.length)[$('ring').selectedIndex]);
+$('kind').onchange = pickQuestion;
+$('question').onchange = () => {
+  [$('kind').value, cert] = ['hand', null];
+  pickQuestion();
+};
+$('uncertified').onclick = () => {
+  cert = null;
+  judge();
+};
+for (const input of [$('moment'), $('at'), $('from'), $('to')]) input.onchange = judge;
+const names = () => logs.map(({name}) => name).join(' ');
+$('mend').onclick = () => write('Mended', `mend --start ${$('start').value} --out mended ${names()}`, MEND,
+  [+($('start').value == 'initiator')], logs);
+$('upgrade').onclick = () => write('Upgraded', `upgrade --out upgraded ${names()}`, UPGRADE, [], logs);
+$('record').onsubmit = event => {
+  event.preventDefault();
+  const {nodes, initiators, seed, terms} = Object.fromEntries([...$('record').elements].map(({name, value}) =>
+    [name, value]));
+  const values = [number(nodes, null), number(initiators, number(nodes, null)), number(seed, 1n), 64n, 10000n,
+    number(terms, 1n)];
+  if (values.includes(null)) return fault('Nodes, initiators, seed and terms are numbers.');
+  const some = `--nodes ${values[0]} --initiators ${values[1]} --seed ${values[2]} --terms ${values[5]}`;
+  write('Recorded', `run --alone ${some} --out ring`, RUN, values, []);
+};
+
+// Shows what the module can be asked for: it knows no other request.
+async function showKnown() {
+  const nodes = [0, 1].map(i =>
+    ({name: '', text: encoder.encode(`irlog 1\nnodes 2\nplace ${i}\nstart initiator\nend 0\n`)}));
+  const file = {name: '', text: encoder.encode(leads(2))};
+  const requests = [['question', [DECIDE], [file, ...nodes]], ['moment', [SHOW], nodes],
+    ['columns', [DRAW, 0, 2n ** 64n - 1n], nodes],
+    ['mending', [MEND, 0], nodes], ['recording', [RUN, 2, 2, 1, 64, 9, 1], []]];
+  for (const [name, values, files] of requests) {
+    const {status} = await send({values, files});
+    for (const part of document.querySelectorAll(`.${name}`)) part.hidden = status > 2;
+  }
+}
+
+told(async () => {
+  await readModule();
+  await begin();
+  await showKnown();
+  const name = decodeURIComponent(location.hash.slice(1));
+  if (!examples.some(file => folderOf(file.name) == `${name}/`)) return;
+  $('examples').value = name;
+  $('examples').onchange();
+});

@@ -1,0 +1,60 @@
+// Asks the module. Memory that is lent doesn't come back, so each request has an instance of its own.
+const PAGE = 65536, FIRST = 8 * 2 ** 20, MOST = 2 ** 30, PARTS = 258;
+const encoder = new TextEncoder;
+let compiled;
+
+// So many bytes behind what a memory has: where they begin.
+function grown(memory, bytes) {
+  const at = memory.buffer.byteLength, pages = Math.ceil((bytes + 1) / PAGE);
+  try {
+    memory.grow(BigInt(pages));
+  } catch (fault) {
+    if (!(fault instanceof TypeError)) throw fault;
+    memory.grow(pages);
+  }
+  return at;
+}
+
+// One request with so much memory, and so much room for what comes of it.
+function served(values, pieces, lent, room) {
+  const {memory, ira_serve: serve} = new WebAssembly.Instance(compiled, {}).exports;
+  const total = pieces.reduce((sum, piece) => sum + piece.length, 0);
+  const [atLent, atValues, atTexts, atLengths, atOut, atParts] =
+    [lent, 8 * values.length, total, 8 * pieces.length, room, 8 * PARTS].map(bytes => grown(memory, bytes));
+  const view = new DataView(memory.buffer), write = (at, numbers) =>
+    numbers.forEach((number, k) => view.setBigUint64(at + 8 * k, BigInt(number), true));
+  write(atValues, values);
+  write(atLengths, pieces.map(piece => piece.length));
+  pieces.reduce((at, piece) => (new Uint8Array(memory.buffer).set(piece, at), at + piece.length), atTexts);
+  const status = serve(...[atLent, lent, atValues, values.length, atTexts, total, atLengths, pieces.length, atOut,
+    room, atParts, PARTS].map(BigInt));
+  if (status > 2) return {status};
+  const told = new DataView(memory.buffer), length = k => Number(told.getBigUint64(atParts + 8 * k, true)), parts = [];
+  for (let k = 1, at = atOut; k <= length(0); at += length(k++)) parts.push(new Uint8Array(memory.buffer, at,
+    length(k)).slice());
+  return {status, parts};
+}
+
+// Lends more where that was too little, up to what may be lent.
+function ask(values, files) {
+  const pieces = files.flatMap(({name, text}) => [encoder.encode(name), text]);
+  for (let lent = FIRST, room = 2 ** 20; lent + room <= MOST;) {
+    const answer = served(values, pieces, lent, room);
+    if (answer.status == 3) lent *= 2;
+    else if (answer.status == 5) room *= 2;
+    else return answer;
+  }
+  return {fault: 'This takes more memory than the 1 GB that the page lends: use the program.'};
+}
+
+onmessage = async ({data: {id, module, values, files}}) => {
+  try {
+    if (module) compiled = await WebAssembly.compile(module);
+    if (module && WebAssembly.Module.imports(compiled).length) throw new TypeError('imports');
+    postMessage({id, ...module ? {} : ask(values, files)});
+  } catch (fault) {
+    postMessage({id, fault: module ? `The auditor in this page is damaged (${fault.message}): get the page anew.`
+      : fault instanceof RangeError ? 'The browser gives the page no more memory: use the program.'
+        : `The auditor stopped: ${fault.message}.`});
+  }
+};
