@@ -153,12 +153,15 @@ const number = (text, none) => /^\d{1,19}$/.test(text.trim()) ? BigInt(text.trim
 // The values of the moment, its question, and its words on a command line; nothing where it isn't one.
 function momentAsked() {
   const kind = $('moment').value;
-  if (kind == 'first' && question) return {values: [2], files: [question], words: `--question ${question.name} `};
+  if (kind == 'first' && question) return {values: [2], files: [question], words: `--question ${quoted(question)} `};
   if (kind != 'at') return {values: [], files: [], words: ''};
   const cut = $('at').value.split(',').map(text => number(text, null));
   return cut.includes(null) ? null : {values: [1, ...cut], files: [], words: `--at ${cut} `};
 }
 
+// A name as a shell takes it.
+const quoted = ({name}) => /^[\w./][\w./-]*$/.test(name) ? name : `'${name.replaceAll("'", "'\\''")}'`;
+const namesOf = files => files.map(quoted).join(' ');
 const url = (bytes, type = 'text/plain') => URL.createObjectURL(new Blob([bytes], {type}));
 const save = (name, bytes, type) => tag('a', {href: url(bytes, type), download: name}, name);
 
@@ -190,7 +193,7 @@ async function judge() {
   await told(async () => {
     if (asked.size) await begin();
     const add = piece => isNow() && $('answers').append(...[piece].flat()), isOne = logs.length == 1;
-    const names = logs.map(({name}) => name).join(' '), moment = momentAsked();
+    const names = namesOf(logs), moment = momentAsked();
     const {status, out, err} = await ask(isOne ? LOG : LOGS, [], logs);
     if (!isNow()) return;
     $('answer').textContent = (out || err).trim() + (isOne ? ', by itself' : '');
@@ -216,12 +219,12 @@ async function judge() {
 }
 async function answerQuestion(names, add) {
   const decided = await ask(DECIDE, [], [question, ...logs]), found = decided?.files[0];
-  add(piece('The question', `decide --question ${question.name} --out question.cert ${names}`, decided,
+  add(piece('The question', `decide --question ${quoted(question)} --out question.cert ${names}`, decided,
     found && tag('p', {}, 'Save: ', save('question.cert', found), ', the certificate that no moment held it')));
-  add(piece('The question, explained', `explain --question ${question.name} ${names}`,
+  add(piece('The question, explained', `explain --question ${quoted(question)} ${names}`,
     await ask(EXPLAIN_QUESTION, [], [question, ...logs])));
   if (!cert) return;
-  const line = `--question ${question.name} --cert ${cert.name} ${names}`, files = [question, cert, ...logs];
+  const line = `--question ${quoted(question)} --cert ${quoted(cert)} ${names}`, files = [question, cert, ...logs];
   add(piece('The certificate', `check ${line}`, await ask(CHECK, [], files)));
   add(piece('The certificate, explained', `explain ${line}`, await ask(EXPLAIN_CERT, [], files)));
 }
@@ -260,7 +263,8 @@ async function filesOf(it, folder = '') {
   const found = [];
   if (it.values) for await (const inside of it.values()) found.push(inside);
   else {
-    const reader = it.createReader(), more = () => new Promise((resolve, reject) => reader.readEntries(resolve, reject));
+    const reader = it.createReader();
+    const more = () => new Promise((resolve, reject) => reader.readEntries(resolve, reject));
     for (let some = await more(); some.length; some = await more()) found.push(...some);
   }
   return (await Promise.all(found.map(inside => filesOf(inside, `${name}/`)))).flat();
@@ -307,10 +311,9 @@ $('uncertified').onclick = () => {
   judge();
 };
 for (const input of [$('moment'), $('at'), $('from'), $('to')]) input.onchange = judge;
-const names = () => logs.map(({name}) => name).join(' ');
-$('mend').onclick = () => write('Mended', `mend --start ${$('start').value} --out mended ${names()}`, MEND,
+$('mend').onclick = () => write('Mended', `mend --start ${$('start').value} --out mended ${namesOf(logs)}`, MEND,
   [+($('start').value == 'initiator')], logs);
-$('upgrade').onclick = () => write('Upgraded', `upgrade --out upgraded ${names()}`, UPGRADE, [], logs);
+$('upgrade').onclick = () => write('Upgraded', `upgrade --out upgraded ${namesOf(logs)}`, UPGRADE, [], logs);
 $('record').onsubmit = event => {
   event.preventDefault();
   const {nodes, initiators, seed, terms} = Object.fromEntries([...$('record').elements].map(({name, value}) =>
