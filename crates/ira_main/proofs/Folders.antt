@@ -1,5 +1,5 @@
 -- What comes of some folders, one after another.
-use Rattle.std.proofs.Common.{◌≡◌, ◌∙◌, ◌<◌, ◌+◌, ℕ, zero, suc, Bool, List, [], ◌∷◌, ◌++◌, ap, append-nil}
+use Rattle.std.proofs.Common.{◌≡◌, ◌∙◌, ◌<◌, ◌+◌, ℕ, zero, suc, Bool, List, [], ◌∷◌, ◌++◌, Option, Some, None, IfSome, ap, append-nil, drop}
 use Rattle.std.proofs.Common.{append_assoc, arith, length, refl, subst, sym, take}
 use Rattle.std.proofs.lemmas.List.{take_more}
 use Rattle.std.specs.Borrow.{Bor}
@@ -7,7 +7,8 @@ use Rattle.std.specs.List.{AllZip}
 use Rattle.std.specs.Prelude.{slice_get, slice_index_or}
 use Rattle.ira_audit.proofs.Zipped.{zipped_more}
 use Rattle.ira_main_files.specs.Shelf.{Reading}
-use Rattle.ira_main.specs.Each.{AreFolderTexts, AreTellable, IsFolderAnswer, IsFolderText, IsTellable}
+use Rattle.ira_audit.specs.declared.answer.Answer.{Answer}
+use Rattle.ira_main.specs.Each.{AreAnswersOf, AreFolderTexts, AreTellable, IsAnswerOf, IsFolderAnswer, IsFolderText, IsTellable}
 use Rattle.ira_main.specs.declared.folder_answer.FolderAnswer.{FolderAnswer}
 use Rattle.ira_main.specs.declared.folder_answer.FolderAnswer.TheVariants.{Judged, Unread}
 
@@ -61,3 +62,21 @@ all_tellable reads shelf (f ∷ folders) (a ∷ answers) are zero answer at =
     subst IsTellable same (tellable reads shelf f a are.0)
 all_tellable reads shelf (f ∷ folders) (a ∷ answers) are (suc i) answer at =
     all_tellable reads shelf folders answers are.1 i answer at
+
+-- the answer of a folder, where it is known
+pub known_answer : {S : Type 0} (reads : Reading S) (shelf : S) (folders : List (Bor (List ℕ)))
+    (answers : List (Option Answer)) (i : ℕ) (folder : Bor (List ℕ)) (answer : Option Answer)
+    → AreAnswersOf reads shelf folders answers → slice_get answers i ≡ Some answer → slice_get folders i ≡ Some folder
+    → IfSome answer (IsAnswerOf reads shelf folder)
+known_answer reads shelf folders answers i folder None are at there = tt
+known_answer reads shelf folders answers i folder (Some answer) are at there = are i answer at folder there
+
+-- what was lent whole and is back
+pub lent_whole : {X : Type 0} (n : ℕ) (news olds : List X) → n ≡ length olds → length news ≡ length olds
+    → take n (news ++ drop (length news) olds) ≡ news
+lent_whole zero [] olds many same = refl
+lent_whole (suc n) [] olds many same = absurd (omega (arith, many, same))
+lent_whole n (y ∷ ys) [] many same = absurd (omega (arith, same))
+lent_whole zero (y ∷ ys) (x ∷ xs) many same = absurd (omega (arith, many))
+lent_whole (suc n) (y ∷ ys) (x ∷ xs) many same =
+    ap (λ zs. y ∷ zs) (lent_whole n ys xs (omega (arith, many)) (omega (arith, same)))

@@ -71,7 +71,7 @@ fn settled<'a, A: Allocator + Clone, F: TextSource>(
     folder: &'a str,
     shelf: &F,
 ) -> Result<FolderAnswer<'a>, OutOfMemory>
-    requires { IfSome answer (IsAnswerOf F.reads shelf.now folder.entry) }
+    requires { IfSome answer (IsAnswerOf F.reads shelf.now folder) }
     ensures { IfOk result (IsFolderAnswer F.reads shelf.now folder.entry) }
 {
     match answer {

@@ -29,6 +29,6 @@ returns-in-Refused g c = λ texts judged.
 pub report-requires : goal.report-requires
 report-requires g c = (rw c.in-NoRing.is at c.requires.1).2
 
-pub returns-in-NoRing : goal.returns-in-NoRing
-returns-in-NoRing g c = λ texts judged.
+pub returns : goal.returns
+returns g c = λ texts judged.
     inl (no_ring c.in-NoRing.reason (rw c.in-NoRing.is at judged) refl c.report.ensures)

@@ -1,13 +1,16 @@
-use Rattle.std.proofs.Common.{◌≡◌, ap, inl, inr, length, refl, sym, ◌∙◌}
+use Rattle.std.proofs.Common.{◌≡◌, Err, ap, inl, inr, length, refl, sym, ◌∙◌}
+use Rattle.std.proofs.lemmas.Result.{err_from_is_err_and}
 use Rattle.ira_main.proofs.Showing.{against, no_cut, reportable, ring_of}
 use Rattle.ira_main.specs.Show.TellsRing.{no_moment, no_place, refused, shown}
 use Rattle.ira_main.proofs.show_files.show_good.Goals as goal
 
 pub returns-in_err-differences : goal.returns-in_err-differences
 returns-in_err-differences g c = λ texts good.
+    let p = err_from_is_err_and c.from_residual-in_err-differences.result
+    c.from_residual-in_err-differences.ensures.1 in
     elim c.in_err-differences.ensures [
-      | inl none ↦ inl (no_place c.args.logs good none.1 refl (rw none.0 refl))
-      | inr full ↦ inr (refl, rw full refl)
+      | inl none ↦ inl (no_place c.args.logs good none.1 refl (p.1 ∙ ap (λ f. Err f) (p.2 ∙ none.0)))
+      | inr full ↦ inr (refl, p.1 ∙ ap (λ f. Err f) (p.2 ∙ full))
     ]
 
 pub print_ring-requires : goal.print_ring-requires
