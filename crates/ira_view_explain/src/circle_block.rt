@@ -1,11 +1,12 @@
-ghost use Rattle.ira_order.specs.Matching.{Matches};
+ghost use Rattle.std.specs.Prelude.{IfOk};
+ghost use Rattle.ira_view_explain.specs.Refused.{AreParts, AreStuckTold};
 
-use crate::numbered::{numbered, numbered_page};
+use crate::numbered::numbered_page;
 use crate::ring_files::RingFiles;
 use ira_event::{Event, OutOfMemory};
 use ira_order::FaultyEvent;
 use ira_view_evidence::{CircleEvidence, StuckAt};
-use ira_view_page::{Emphasis, ExplanationDraft, Page, Row, Table, file_of, line_of};
+use ira_view_page::{Emphasis, Evidence, ExplanationDraft, Page, Row, Table, file_of, line_of};
 use std::alloc::Allocator;
 
 /// The line of the receipt at which a node is stuck; nothing where the place has none.
@@ -18,7 +19,7 @@ fn stuck_line(stuck: &[StuckAt], place: u8) -> usize {
 
 /// Adds how many events can be put in order.
 fn add_ordered<A: Allocator>(text: &mut Page<A>, ordered: u32, events: usize) {
-    numbered(text, "So none of them can come first. ", ordered);
+    text.numbered("So none of them can come first. ", ordered);
     text.words(" of ");
     text.number(events as u64);
     text.words(" events can be put in order; these come next.");
@@ -26,8 +27,8 @@ fn add_ordered<A: Allocator>(text: &mut Page<A>, ordered: u32, events: usize) {
 
 /// Adds a node's first event without a step.
 fn add_faulty<A: Allocator>(text: &mut Page<A>, event: FaultyEvent) {
-    numbered(text, "Besides, node ", u32::from(event.at.place));
-    numbered(text, " has no step for event ", event.at.position);
+    text.numbered("Besides, node ", u32::from(event.at.place));
+    text.numbered(" has no step for event ", event.at.position);
     text.words(": ");
     text.fault(event.fault);
     text.words(".");
@@ -58,45 +59,49 @@ impl<'l, A: Allocator + Clone> RingFiles<'_, 'l, A> {
         row
     }
 
-    /// Adds the receipts that wait for one another, and the sendings that they wait for.
-    fn add_stuck(&self, draft: &mut ExplanationDraft<A>, stuck: &[StuckAt]) {
-        let mut table = Table::new(self.alloc);
+    /// What receipts rest on that wait for one another: each, and the sending that it waits for.
+    pub(crate) fn stuck_evidence(
+        &self,
+        stuck: &[StuckAt],
+    ) -> Result<Vec<Evidence<A>, A>, OutOfMemory>
+        ensures { IfOk result (λ told. AreParts (AreStuckTold self.now.files.now) stuck.now told.items) }
+    {
+        let mut told = Vec::new(self.alloc.clone()?);
         for at in stuck {
-            table.add(Emphasis::Plain, self.stuck_row(stuck, *at));
-            draft.received(file_of(self.files, at.receipt.place), at.receipt, at.load);
-            draft.sent(file_of(self.files, at.sending.place), at.sending, at.load);
+            told.push(Evidence::Received(self.record(at.receipt, Event::Got(at.load))?))?;
+            told.push(Evidence::Sent(self.record(at.sending, Event::Sent(at.load))?))?;
+        }
+        Ok(told)
+    }
+
+    /// Adds the receipts that wait for one another, and an event without a step, if there is one.
+    pub(crate) fn print_circle(
+        &self,
+        draft: &mut ExplanationDraft<A>,
+        circle: &CircleEvidence<A>,
+        faulty: Option<FaultyEvent>,
+    ) {
+        draft.page.paragraph(
+            "Each of these receipts waits for a sending that its sender made only after its own such receipt:",
+        );
+        draft.page.blank();
+        let mut table = Table::new(self.alloc);
+        for at in &circle.stuck {
+            table.add(Emphasis::Plain, self.stuck_row(&circle.stuck, *at));
         }
         draft.page.table(&table);
-    }
-}
-
-/// Adds the receipts that wait for one another, and an event without a step, if there is one.
-pub(crate) fn explain_circle<A: Allocator + Clone>(
-    ring: &RingFiles<'_, '_, A>,
-    draft: &mut ExplanationDraft<A>,
-    faulty: Option<FaultyEvent>,
-) -> Result<(), OutOfMemory>
-    requires { Matches ring.now.logs.now }
-{
-    let Some(evidence) = CircleEvidence::find(ring.alloc.clone()?, ring.logs)? else {
-        return Ok(());
-    };
-    draft.page.paragraph(
-        "Each of these receipts waits for a sending that its sender made only after its own such receipt:",
-    );
-    draft.page.blank();
-    ring.add_stuck(draft, &evidence.stuck);
-    draft.page.blank();
-    let mut text = Page::new(ring.alloc);
-    add_ordered(&mut text, evidence.ordered, ring.logs.number_of_events());
-    draft.page.paragraph_of(&text);
-    if let Some(event) = faulty {
-        let mut text = Page::new(ring.alloc);
-        add_faulty(&mut text, event);
+        draft.page.blank();
+        let mut text = Page::new(self.alloc);
+        add_ordered(&mut text, circle.ordered, self.logs.number_of_events());
         draft.page.paragraph_of(&text);
+        if let Some(event) = faulty {
+            let mut text = Page::new(self.alloc);
+            add_faulty(&mut text, event);
+            draft.page.paragraph_of(&text);
+        }
+        draft.hint(
+            "records that are not in the order of the node: two threads write one log, or records were sorted by a \
+             clock.",
+        );
     }
-    draft.hint(
-        "records that are not in the order of the node: two threads write one log, or records were sorted by a clock.",
-    );
-    Ok(())
 }

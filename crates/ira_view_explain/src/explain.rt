@@ -5,20 +5,21 @@ ghost use Rattle.ira_audit.specs.Refusal.{IsRingReason};
 ghost use Rattle.ira_audit.specs.RefusedLogs.{AreRefused};
 ghost use Rattle.ira_audit.specs.Report.{IsReportable};
 ghost use Rattle.ira_view_explain.specs.Counts.{counts, ring_of};
+ghost use Rattle.ira_view_explain.specs.Refused.{IsRefusedTold, IsTold};
 ghost use Rattle.ira_view_page.specs.Page.{Added};
 ghost use Rattle.ira_view_page.specs.Told.{evidence_of};
 
-use crate::circle_block::explain_circle;
 use crate::good_block::{explain_end_alone, explain_run};
 use crate::heads_block::explain_heads;
-use crate::link_block::explain_link;
-use crate::node_block::{explain_log_alone, explain_node};
+use crate::refused_finding::RefusedFinding;
 use crate::ring_files::RingFiles;
+use crate::stopped_log::StoppedLog;
 use crate::text_block::NoLog;
 use ira_audit::{Answer, Judged, Reason, RefusedLogs};
-use ira_event::{LogFault, Logs, OutOfMemory, read_log};
+use ira_event::{LogFault, Logs, NodeLog, OutOfMemory, read_log};
+use ira_order::EventAt;
 use ira_replay::{ReplayFault, replay};
-use ira_view_page::{Explanation, ExplanationDraft, NamedText, RingCounts};
+use ira_view_page::{Evidence, Explanation, ExplanationDraft, NamedText, RecordAt, RingCounts};
 use std::alloc::Allocator;
 
 /// What follows an answer about these logs of a ring.
@@ -49,27 +50,27 @@ pub fn draft_run<A: Allocator + Clone>(
 }
 
 /// What stands against the logs of a ring.
-fn draft_refused<A: Allocator + Clone>(
+fn explain_refused<A: Allocator + Clone>(
     alloc: A,
     files: &[NamedText<'_>],
     refused: &RefusedLogs<A>,
-) -> Result<ExplanationDraft<A>, OutOfMemory>
+) -> Result<Explanation<A>, OutOfMemory>
     requires { AreRefused refused.now }
+    ensures { IfOk result (λ explanation.
+        IsRefusedTold files.now refused.now explanation.state_before explanation.evidence.items) }
 {
-    let (logs, faulty) = (refused.logs(), refused.faulty_events());
     let mut draft = ExplanationDraft::after_answer(alloc.clone()?)?;
     let ring = RingFiles {
         alloc: &alloc,
         files,
-        logs,
+        logs: refused.logs(),
     };
-    match (refused.reason(), faulty.first()) {
-        (Reason::Match(fault), _) => explain_link(&ring, &mut draft, fault)?,
-        (Reason::Circle, first) => explain_circle(&ring, &mut draft, first.copied())?,
-        (Reason::Replay { .. }, Some(named)) => explain_node(&ring, &mut draft, faulty, *named)?,
-        _ => {}
-    }
-    Ok(draft)
+    let finding = RefusedFinding::find(&ring, refused)?;
+    finding.print(&ring, &mut draft);
+    let mut explanation = draft.finish()?;
+    explanation.state_before = finding.state_before();
+    explanation.evidence = finding.evidence(&ring)?;
+    Ok(explanation)
 }
 
 /// Why texts aren't those of the logs of one ring.
@@ -112,15 +113,36 @@ pub fn explain_logs<A: Allocator + Clone>(
     judged: &Judged<A>,
 ) -> Result<Explanation<A>, OutOfMemory>
     requires { IsJudged (map (λ file. file.text.now) files.now) judged.now }
-    ensures { IfOk result (λ explanation. explanation.ring ≡ ring_of judged.now) }
+    ensures ring { IfOk result (λ explanation. explanation.ring ≡ ring_of judged.now) }
+    ensures told { IfOk result
+        (λ explanation. IsTold files.now judged.now explanation.state_before explanation.evidence.items) }
 {
-    let mut draft = match judged {
-        Judged::Good(logs) => draft_run(alloc, logs.logs())?,
-        Judged::Refused(refused) => draft_refused(alloc, files, refused)?,
-        Judged::NoRing(reason) => draft_no_ring(alloc, files, *reason)?,
+    let mut explanation = match judged {
+        Judged::Good(logs) => draft_run(alloc, logs.logs())?.finish()?,
+        Judged::Refused(refused) => explain_refused(alloc, files, refused)?,
+        Judged::NoRing(reason) => draft_no_ring(alloc, files, *reason)?.finish()?,
     };
-    draft.ring = ring_of(judged);
-    draft.finish()
+    explanation.ring = ring_of(judged);
+    Ok(explanation)
+}
+
+/// Why an event of a log that is judged alone has no step.
+fn explain_log_alone<A: Allocator + Clone>(
+    alloc: &A,
+    draft: &mut ExplanationDraft<A>,
+    file: &str,
+    log: &NodeLog<A>,
+) -> Result<(), OutOfMemory> {
+    if let Some(found) = StoppedLog::find(alloc, file, log)? {
+        let (place, position) = (log.place(), found.evidence.fault.position);
+        let at = EventAt { place, position };
+        let event = RecordAt::new(alloc.clone()?, file, at, found.stopped.event)?;
+        draft.tell(Evidence::Faulty(event));
+        draft.state_before = Some(found.stopped.state);
+        found.print(&mut draft.page);
+        found.hint(draft);
+    }
+    Ok(())
 }
 
 /// Judges the text of one log alone, and says why the answer is as it is.

@@ -1,6 +1,8 @@
-ghost use Rattle.std.specs.Prelude.{◌<◌, length};
+ghost use Rattle.std.specs.Prelude.{◌<◌, IfOk, length};
 ghost use Rattle.ira_order.specs.MatchFault.{IsMatchFault};
+ghost use Rattle.ira_view_evidence.specs.LinkEvidence.{IsLinkEvidence};
 
+use crate::link_hint::LinkHint;
 use crate::ring_files::RingFiles;
 use ira_event::{Logs, OutOfMemory};
 use ira_order::{MatchFault, successor};
@@ -26,6 +28,8 @@ pub(crate) struct FaultyLink<'a, 'l, A: Allocator> {
     pub(crate) sending: Option<Exchange>,
     /// All that its nodes recorded of it.
     pub(crate) sides: LinkSides<&'l A>,
+    /// The usual causes that explain it.
+    pub(crate) hints: Vec<LinkHint<'a, &'l A>, &'l A>,
     ghost writer_is_there: { link < length logs.now },
     ghost reader_is_there: { reader < length logs.now },
 }
@@ -40,20 +44,22 @@ fn receipt_of<A: Allocator>(logs: &Logs<A>, fault: MatchFault) -> (u8, u32)
     }
 }
 
-impl<'a, 'l, A: Allocator> FaultyLink<'a, 'l, A> {
+impl<'a, 'l, A: Allocator + Clone> FaultyLink<'a, 'l, A> {
     /// The one that a fault of the logs names.
     pub(crate) fn of_fault(
         ring: &RingFiles<'a, 'l, A>,
         fault: MatchFault,
     ) -> Result<FaultyLink<'a, 'l, A>, OutOfMemory>
         requires { IsMatchFault ring.now.logs.now fault }
+        ensures { IfOk result (λ link. IsLinkEvidence ring.now.logs.now fault
+            (record { receipt = link.receipt; sending = link.sending })) }
     {
         let logs = ring.logs;
         let LinkEvidence { receipt, sending } = LinkEvidence::of_fault(logs, fault);
         let (link, k) = receipt_of(logs, fault);
         let reader = successor(logs.size().get(), link);
         let sides = LinkSides::of_link(ring.alloc, logs, link)?;
-        Ok(FaultyLink {
+        let mut link = FaultyLink {
             alloc: ring.alloc,
             logs,
             link,
@@ -64,6 +70,9 @@ impl<'a, 'l, A: Allocator> FaultyLink<'a, 'l, A> {
             receipt,
             sending,
             sides,
-        })
+            hints: Vec::new(ring.alloc),
+        };
+        link.hints = link.find_hints()?;
+        Ok(link)
     }
 }

@@ -1,4 +1,4 @@
-use crate::numbered::{numbered, numbered_page};
+use crate::numbered::numbered_page;
 use ira_event::{Event, Load, Logs, NodeLog};
 use ira_node::{NodeState, Phase};
 use ira_replay::replay;
@@ -75,7 +75,7 @@ pub(crate) fn explain_end_alone<A: Allocator>(
     end: NodeState,
 ) {
     let mut text = numbered_page(alloc, "The log of place ", u32::from(log.place()));
-    numbered(&mut text, " of ", u32::from(log.nodes().get()));
+    text.numbered(" of ", u32::from(log.nodes().get()));
     text.words(": ");
     text.number_of(log.len(), "event");
     text.words(", each has a step. At its end: ");

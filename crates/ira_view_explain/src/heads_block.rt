@@ -1,37 +1,25 @@
 ghost use Rattle.std.specs.Prelude.{◌≤◌};
 ghost use Rattle.ira_view_page.specs.Printable.{IsPrintable};
 
-use crate::numbered::{numbered, numbered_page};
+use crate::numbered::numbered_page;
 use ira_event::{HeadFault, OutOfMemory, open_log};
-use ira_view_page::{Emphasis, ExplanationDraft, NamedText, Page, shown_width};
+use ira_view_page::{Emphasis, Evidence, ExplanationDraft, HeadRow, NamedText, Page, shown_width};
 use std::alloc::Allocator;
 
 /// The most files that are all shown.
 const ALL: usize = 12;
 
-/// A log of a table of heads.
-#[derive(Clone, Copy)]
-struct LogHeadRow<'a> {
-    /// The number of the log, counted from 0.
-    log: usize,
-    /// The name of its file.
-    file: &'a str,
-    version: u8,
-    nodes: u8,
-    place: u8,
-}
-
 /// The rows of the logs, in their order.
-fn read_rows<'a, A: Allocator>(
-    alloc: A,
-    files: &[NamedText<'a>],
-) -> Result<Vec<LogHeadRow<'a>, A>, OutOfMemory> {
-    let mut rows = Vec::with_capacity(alloc, files.len())?;
+fn read_rows<A: Allocator + Clone>(
+    alloc: &A,
+    files: &[NamedText<'_>],
+) -> Result<Vec<HeadRow<A>, A>, OutOfMemory> {
+    let mut rows = Vec::with_capacity(alloc.clone()?, files.len())?;
     for (log, file) in files.iter().enumerate() {
         if let Ok((head, _)) = open_log(file.text) {
-            rows.push(LogHeadRow {
+            rows.push(HeadRow {
                 log,
-                file: file.name,
+                file: String::from_str(alloc.clone()?, file.name)?,
                 version: head.version,
                 nodes: head.nodes.get(),
                 place: head.place,
@@ -55,8 +43,8 @@ pub(crate) fn explain_heads<A: Allocator + Clone>(
         HeadFault::Place(i) => explain_place(alloc, draft, &rows, usize::from(i)),
         HeadFault::Version(i) => explain_version(draft, &rows, usize::from(i)),
     }
-    for row in &rows {
-        draft.head(row.log, row.file, row.version, row.nodes, row.place);
+    for row in rows {
+        draft.tell(Evidence::Head(row));
     }
     Ok(())
 }
@@ -65,7 +53,7 @@ pub(crate) fn explain_heads<A: Allocator + Clone>(
 fn add_said<A: Allocator>(
     page: &mut Page<A>,
     log: &str,
-    row: LogHeadRow<'_>,
+    row: &HeadRow<A>,
     line: usize,
     word: &str,
     n: u8,
@@ -76,7 +64,7 @@ fn add_said<A: Allocator>(
     page.words(log);
     page.number(row.log as u64);
     page.words(" (");
-    page.place(row.file, line);
+    page.place(&row.file, line);
     page.words(") says `");
     page.words(word);
     page.number(n as u64);
@@ -86,7 +74,7 @@ fn add_said<A: Allocator>(
 fn explain_number<A: Allocator + Clone>(
     alloc: &A,
     draft: &mut ExplanationDraft<A>,
-    rows: &[LogHeadRow<'_>],
+    rows: &[HeadRow<A>],
 ) {
     let page = &mut draft.page;
     let Some(first) = rows.first() else {
@@ -96,7 +84,7 @@ fn explain_number<A: Allocator + Clone>(
     page.begin(Emphasis::Plain);
     page.number_of(rows.len(), "file");
     page.words(" given; ");
-    add_said(page, "log ", *first, 2, "nodes ", first.nodes);
+    add_said(page, "log ", first, 2, "nodes ", first.nodes);
     page.words(", so ");
     page.number(first.nodes as u64);
     page.words(" are due.");
@@ -115,12 +103,16 @@ fn explain_number<A: Allocator + Clone>(
 }
 
 /// Whether a log of this place is there.
-fn has_place(rows: &[LogHeadRow<'_>], place: u8) -> bool {
+fn has_place<A: Allocator>(rows: &[HeadRow<A>], place: u8) -> bool {
     rows.iter().any(|row| row.place == place)
 }
 
 /// Adds which places have no log, the first eight.
-fn add_missing_places<A: Allocator>(text: &mut Page<A>, rows: &[LogHeadRow<'_>], nodes: u8) {
+fn add_missing_places<P: Allocator, A: Allocator>(
+    text: &mut Page<P>,
+    rows: &[HeadRow<A>],
+    nodes: u8,
+) {
     text.words("no file is of place ");
     let mut count = 0u8;
     for place in 0..nodes {
@@ -135,7 +127,7 @@ fn add_missing_places<A: Allocator>(text: &mut Page<A>, rows: &[LogHeadRow<'_>],
 fn add_missing_place<A: Allocator>(text: &mut Page<A>, place: u8, before: u8) {
     match before {
         0 => text.number(place as u64),
-        1..=7 => numbered(text, ", ", u32::from(place)),
+        1..=7 => text.numbered(", ", u32::from(place)),
         8 => text.words(", .."),
         _ => {}
     }
@@ -146,8 +138,8 @@ fn add_contrast<A: Allocator>(
     page: &mut Page<A>,
     line: usize,
     word: &str,
-    named: (LogHeadRow<'_>, u8),
-    first: (LogHeadRow<'_>, u8),
+    named: (&HeadRow<A>, u8),
+    first: (&HeadRow<A>, u8),
 )
     requires { IsPrintable word.now }
 {
@@ -160,16 +152,16 @@ fn add_contrast<A: Allocator>(
     page.blank();
 }
 
-fn explain_size<A: Allocator>(page: &mut Page<A>, rows: &[LogHeadRow<'_>], named: usize) {
+fn explain_size<A: Allocator>(page: &mut Page<A>, rows: &[HeadRow<A>], named: usize) {
     if let (Some(first), Some(row)) = (rows.first(), rows.get(named)) {
-        add_contrast(page, 2, "nodes ", (*row, row.nodes), (*first, first.nodes));
+        add_contrast(page, 2, "nodes ", (row, row.nodes), (first, first.nodes));
         add_table(page, rows, Some(named), false);
     }
 }
 
 fn explain_version<A: Allocator + Clone>(
     draft: &mut ExplanationDraft<A>,
-    rows: &[LogHeadRow<'_>],
+    rows: &[HeadRow<A>],
     named: usize,
 ) {
     if let (Some(first), Some(row)) = (rows.first(), rows.get(named)) {
@@ -177,8 +169,8 @@ fn explain_version<A: Allocator + Clone>(
             &mut draft.page,
             1,
             "irlog ",
-            (*row, row.version),
-            (*first, first.version),
+            (row, row.version),
+            (first, first.version),
         );
         add_table(&mut draft.page, rows, Some(named), true);
         draft.hint_apart(
@@ -190,7 +182,7 @@ fn explain_version<A: Allocator + Clone>(
 fn explain_place<A: Allocator + Clone>(
     alloc: &A,
     draft: &mut ExplanationDraft<A>,
-    rows: &[LogHeadRow<'_>],
+    rows: &[HeadRow<A>],
     named: usize,
 ) {
     let Some(row) = rows.get(named) else {
@@ -198,7 +190,7 @@ fn explain_place<A: Allocator + Clone>(
     };
     let page = &mut draft.page;
     page.begin(Emphasis::Plain);
-    add_said(page, "Log ", *row, 3, "place ", row.place);
+    add_said(page, "Log ", row, 3, "place ", row.place);
     page.words("; log number ");
     page.number(named as u64);
     page.words(" is to be that of place ");
@@ -221,7 +213,7 @@ fn explain_place<A: Allocator + Clone>(
 }
 
 /// The place of the first log whose place another one has too.
-fn repeated_place(rows: &[LogHeadRow<'_>]) -> Option<u8> {
+fn repeated_place<A: Allocator>(rows: &[HeadRow<A>]) -> Option<u8> {
     for i in 0..rows.len() {
         let place = rows[i].place;
         if has_place(&rows[i + 1..], place) {
@@ -232,7 +224,7 @@ fn repeated_place(rows: &[LogHeadRow<'_>]) -> Option<u8> {
 }
 
 /// How wide the column of names is.
-fn names_width(rows: &[LogHeadRow<'_>]) -> usize
+fn names_width<A: Allocator>(rows: &[HeadRow<A>]) -> usize
     ensures { result ≤ 1000 }
 {
     let mut width = 4;
@@ -250,7 +242,7 @@ fn is_shown(row: usize, named: Option<usize>) -> bool {
 /// Adds the table of heads, its named row marked.
 fn add_table<A: Allocator>(
     page: &mut Page<A>,
-    rows: &[LogHeadRow<'_>],
+    rows: &[HeadRow<A>],
     named: Option<usize>,
     with_versions: bool,
 ) {
@@ -267,7 +259,7 @@ fn add_table<A: Allocator>(
     for row in rows {
         if rows.len() <= ALL || is_shown(row.log, named) {
             skips = false;
-            add_row(page, *row, named == Some(row.log), width, with_versions);
+            add_row(page, row, named == Some(row.log), width, with_versions);
         } else if !skips {
             skips = true;
             page.line(Emphasis::Plain, "..");
@@ -277,7 +269,7 @@ fn add_table<A: Allocator>(
 
 fn add_row<A: Allocator>(
     page: &mut Page<A>,
-    row: LogHeadRow<'_>,
+    row: &HeadRow<A>,
     is_named: bool,
     width: usize,
     with_versions: bool,

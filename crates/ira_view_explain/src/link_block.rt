@@ -1,11 +1,12 @@
-ghost use Rattle.ira_order.specs.MatchFault.{IsMatchFault};
+ghost use Rattle.std.specs.Prelude.{IfOk};
+ghost use Rattle.ira_view_explain.specs.Refused.{AreSidesTold};
 
 use crate::faulty_link::FaultyLink;
-use crate::numbered::{numbered, numbered_page};
+use crate::numbered::numbered_page;
 use crate::ring_files::RingFiles;
-use ira_event::OutOfMemory;
-use ira_order::MatchFault;
-use ira_view_page::{ExplanationDraft, Page};
+use ira_event::{Event, OutOfMemory};
+use ira_view_evidence::Exchange;
+use ira_view_page::{Evidence, ExplanationDraft, Page};
 use std::alloc::Allocator;
 
 impl<A: Allocator + Clone> FaultyLink<'_, '_, A> {
@@ -14,7 +15,7 @@ impl<A: Allocator + Clone> FaultyLink<'_, '_, A> {
         let mut text = numbered_page(self.alloc, "Node ", u32::from(self.link));
         text.words(" made ");
         text.number_of(self.sides.sent.len(), "sending");
-        numbered(&mut text, ", node ", u32::from(self.reader));
+        text.numbered(", node ", u32::from(self.reader));
         text.words(" ");
         text.number_of(self.sides.received.len(), "receipt");
         text.words(".");
@@ -23,9 +24,9 @@ impl<A: Allocator + Clone> FaultyLink<'_, '_, A> {
 
     /// Adds that the receipts of a link take its sendings one by one.
     fn add_rule(&self, text: &mut Page<&A>) {
-        numbered(text, "Link ", u32::from(self.link));
-        numbered(text, " leads from node ", u32::from(self.link));
-        numbered(text, " to node ", u32::from(self.reader));
+        text.numbered("Link ", u32::from(self.link));
+        text.numbered(" leads from node ", u32::from(self.link));
+        text.numbered(" to node ", u32::from(self.reader));
         text.words(", first in, first out: its ");
         text.ordinal(self.k);
         text.words(" receipt takes the ");
@@ -33,33 +34,38 @@ impl<A: Allocator + Clone> FaultyLink<'_, '_, A> {
         text.words(" sending.");
     }
 
-    /// Adds what both sides have around the receipt, and both to the evidence.
-    fn explain_exchange(&self, draft: &mut ExplanationDraft<A>) {
+    /// Adds what both sides have around the receipt, and the usual causes.
+    pub(crate) fn print(&self, draft: &mut ExplanationDraft<A>) {
         let mut text = Page::new(self.alloc);
         self.add_rule(&mut text);
         draft.page.paragraph_of(&text);
         draft.page.blank();
         draft.page.table(&self.exchange_table());
         draft.page.blank();
-        if let Some(sending) = self.sending {
-            draft.sent(self.writer_file, sending.at, sending.load);
+        if self.sending.is_none() {
+            self.explain_number(&mut draft.page);
         }
-        draft.received(self.reader_file, self.receipt.at, self.receipt.load);
+        for hint in &self.hints {
+            let mut text = Page::new(self.alloc);
+            hint.print(&mut text);
+            draft.hint_of(&text);
+        }
     }
-}
 
-/// Adds both sides of the link that has the fault.
-pub(crate) fn explain_link<A: Allocator + Clone>(
-    ring: &RingFiles<'_, '_, A>,
-    draft: &mut ExplanationDraft<A>,
-    fault: MatchFault,
-) -> Result<(), OutOfMemory>
-    requires { IsMatchFault ring.now.logs.now fault }
-{
-    let link = FaultyLink::of_fault(ring, fault)?;
-    link.explain_exchange(draft);
-    if link.sending.is_none() {
-        link.explain_number(&mut draft.page);
+    /// What it rests on: the sending, where there is one, and the receipt.
+    pub(crate) fn evidence(
+        &self,
+        ring: &RingFiles<'_, '_, A>,
+    ) -> Result<Vec<Evidence<A>, A>, OutOfMemory>
+        ensures { IfOk result
+            (λ told. AreSidesTold ring.now.files.now self.now.sending self.now.receipt told.items) }
+    {
+        let mut told = Vec::new(ring.alloc.clone()?);
+        if let Some(Exchange { at, load }) = self.sending {
+            told.push(Evidence::Sent(ring.record(at, Event::Sent(load))?))?;
+        }
+        let Exchange { at, load } = self.receipt;
+        told.push(Evidence::Received(ring.record(at, Event::Got(load))?))?;
+        Ok(told)
     }
-    link.explain_cause(draft)
 }

@@ -1,6 +1,5 @@
 ghost use Rattle.ira_view_page.specs.Printable.{IsPrintable};
 
-use crate::numbered::numbered;
 use crate::ring_hint::RingHint;
 use crate::rows_hint::RowsHint;
 use ira_event::Load;
@@ -9,9 +8,9 @@ use ira_view_page::Page;
 use std::alloc::Allocator;
 
 /// A usual cause why a link doesn't match: it explains all that the two nodes recorded of the link.
-#[derive(Clone, Copy)]
-pub(crate) enum LinkHint<'a> {
-    Ring(RingHint<'a>),
+#[derive(Drop)]
+pub(crate) enum LinkHint<'a, A: Allocator> {
+    Ring(RingHint<A>),
     Rows(RowsHint),
     /// The sender's log ends where it owes what was received.
     OwedAtEnd {
@@ -91,57 +90,54 @@ fn add_numbers<A: Allocator>(text: &mut Page<A>, one: &str, several: &str, first
     requires several { IsPrintable several.now }
 {
     if count == 1 {
-        numbered(text, one, first);
+        text.numbered(one, first);
     } else {
-        numbered(text, several, first);
-        numbered(text, " to ", last_of(first, count));
+        text.numbered(several, first);
+        text.numbered(" to ", last_of(first, count));
     }
 }
 
-impl LinkHint<'_> {
+impl<A: Allocator> LinkHint<'_, A> {
     /// Whether it is likelier than that a node is missing on the link, where that explains it too.
-    pub(crate) fn is_sure(self) -> bool {
+    pub(crate) fn is_sure(&self) -> bool {
         match self {
-            LinkHint::NoReceipt { count, .. } | LinkHint::NoSending { count, .. } => count == 1,
+            LinkHint::NoReceipt { count, .. } | LinkHint::NoSending { count, .. } => *count == 1,
             LinkHint::Rows(RowsHint::RaisedHop) => false,
             _ => true,
         }
     }
 
     /// Adds its sentence.
-    pub(crate) fn print<A: Allocator>(self, text: &mut Page<A>) {
+    pub(crate) fn print<P: Allocator>(&self, text: &mut Page<P>) {
         match self {
             LinkHint::Ring(hint) => hint.print(text),
             LinkHint::Rows(hint) => hint.print(text),
             LinkHint::OwedAtEnd { writer, file, line } => {
-                numbered(text, "the log of node ", u32::from(writer));
+                text.numbered("the log of node ", u32::from(*writer));
                 text.words(" ends (");
-                text.place(file, line);
+                text.place(file, *line);
                 text.words(
-                    ") where it owes exactly this message: its sending is not recorded. Where the ",
+                    ") where it owes exactly this message: its sending is not recorded. Where the node was killed \
+                     before it wrote that, `ira mend --out DIR` ends the logs where they fit together.",
                 );
-                text.words(
-                    "node was killed before it wrote that, `ira mend --out DIR` ends the logs where ",
-                );
-                text.words("they fit together.");
             }
             LinkHint::Dropped {
                 reader,
                 state,
                 load,
             } => {
-                numbered(text, "node ", u32::from(reader));
+                text.numbered("node ", u32::from(*reader));
                 text.words(" was then ");
-                text.state(&state);
+                text.state(state);
                 text.words(", so it drops ");
-                text.load(load);
+                text.load(*load);
                 text.words(
                     " for its lesser pair: a dropped message is a receipt too, and is recorded.",
                 );
             }
             LinkHint::Resets { node, is_writer } => {
-                numbered(text, "node ", u32::from(node));
-                text.words(if is_writer {
+                text.numbered("node ", u32::from(*node));
+                text.words(if *is_writer {
                     " records no reset that it sends"
                 } else {
                     " records no reset that it receives"
@@ -151,21 +147,21 @@ impl LinkHint<'_> {
                 );
             }
             LinkHint::PassedOn { writer } => {
-                numbered(text, "node ", u32::from(writer));
+                text.numbered("node ", u32::from(*writer));
                 text.words(
                     " records the messages that it begins, and none that it passes on: record each sending.",
                 );
             }
             LinkHint::NoReceipt { first, count } => {
-                numbered(text, "from receipt ", first);
-                if count == 1 {
+                text.numbered("from receipt ", *first);
+                if *count == 1 {
                     text.words(" on each is the sending after its own: ");
                 } else {
-                    numbered(text, " on each is the sending ", count);
+                    text.numbered(" on each is the sending ", *count);
                     text.words(" after its own: ");
                 }
-                add_numbers(text, "sending ", "sendings ", first, count);
-                text.words(if count == 1 {
+                add_numbers(text, "sending ", "sendings ", *first, *count);
+                text.words(if *count == 1 {
                     " was lost, or its receipt is not recorded."
                 } else {
                     " were lost, or their receipts are not recorded."
@@ -173,32 +169,26 @@ impl LinkHint<'_> {
             }
             LinkHint::SeveralLost { count } => {
                 text.words("each receipt is a sending, in their order, and ");
-                text.number(count as u64);
+                text.number(*count as u64);
                 text.words(
                     " sendings between them have none: they were lost, or their receipts are not recorded.",
                 );
             }
             LinkHint::CameTwice { receipt, writer } => {
-                numbered(text, "from receipt ", receipt);
-                numbered(
-                    text,
+                text.numbered("from receipt ", *receipt);
+                text.numbered(
                     " on each is the sending before its own: message ",
                     receipt.saturating_sub(1),
                 );
-                numbered(
-                    text,
-                    " came twice, or a sending of node ",
-                    u32::from(writer),
-                );
+                text.numbered(" came twice, or a sending of node ", u32::from(*writer));
                 text.words(" is not recorded.");
             }
             LinkHint::SeveralTwice { count, writer } => {
-                text.number(count as u64);
-                numbered(
-                    text,
+                text.number(*count as u64);
+                text.numbered(
                     " receipts are of the load before them, and all others are the sendings, one by one: \
                      messages came twice, or sendings of node ",
-                    u32::from(writer),
+                    u32::from(*writer),
                 );
                 text.words(" are not recorded.");
             }
@@ -208,15 +198,15 @@ impl LinkHint<'_> {
                 writer,
             } => {
                 text.words("without ");
-                add_numbers(text, "receipt ", "receipts ", first, count);
+                add_numbers(text, "receipt ", "receipts ", *first, *count);
                 text.words(" all others are sendings, in their order: ");
-                text.words(if count == 1 {
+                text.words(if *count == 1 {
                     "a sending of node "
                 } else {
                     "sendings of node "
                 });
-                text.number(writer as u64);
-                text.words(if count == 1 {
+                text.number(*writer as u64);
+                text.words(if *count == 1 {
                     " is not recorded."
                 } else {
                     " are not recorded."
@@ -224,30 +214,30 @@ impl LinkHint<'_> {
             }
             LinkHint::Turned { first } => {
                 let next = first.saturating_add(1);
-                numbered(text, "receipts ", first);
-                numbered(text, " and ", next);
-                numbered(text, " are sendings ", next);
-                numbered(text, " and ", first);
+                text.numbered("receipts ", *first);
+                text.numbered(" and ", next);
+                text.numbered(" are sendings ", next);
+                text.numbered(" and ", *first);
                 text.words(": the link changed their order, or the records were sorted.");
             }
             LinkHint::HeldBack { sending, receipt } => {
-                numbered(text, "sending ", sending);
-                numbered(text, " is receipt ", receipt);
+                text.numbered("sending ", *sending);
+                text.numbered(" is receipt ", *receipt);
                 text.words(
                     ", after later ones: the link changed their order, or the records were sorted.",
                 );
             }
             LinkHint::CameEarly { receipt, sending } => {
-                numbered(text, "receipt ", receipt);
-                numbered(text, " is sending ", sending);
+                text.numbered("receipt ", *receipt);
+                text.numbered(" is sending ", *sending);
                 text.words(
                     ", before earlier ones: the link changed their order, or the records were sorted.",
                 );
             }
             LinkHint::NeverSent { writer, load } => {
-                numbered(text, "by its log node ", u32::from(writer));
+                text.numbered("by its log node ", u32::from(*writer));
                 text.words(" never sent ");
-                text.load(load);
+                text.load(*load);
                 text.words(".");
             }
         }

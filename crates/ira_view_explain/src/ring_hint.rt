@@ -1,16 +1,15 @@
-use crate::numbered::numbered;
 use ira_view_page::Page;
 use std::alloc::Allocator;
 
 /// A usual cause why a link doesn't match that speaks of the ring: it explains all links.
-#[derive(Clone, Copy)]
-pub(crate) enum RingHint<'a> {
+#[derive(Drop)]
+pub(crate) enum RingHint<A: Allocator> {
     /// Numbered the other way round all links match.
     Backwards,
     /// With these two nodes in each other's place all links match.
     Exchanged(u8, u8),
     /// In this order of the places all links match.
-    OtherOrder(&'a [u8]),
+    OtherOrder(Vec<u8, A>),
     /// The logs of a ring of two that are local runs and don't fit.
     TwoRuns,
     /// The log of this place fits neither neighbour, and with another log there all links would match.
@@ -90,27 +89,27 @@ fn is_backwards(order: &[u8]) -> bool {
     true
 }
 
-impl<'a> RingHint<'a> {
+impl<A: Allocator> RingHint<A> {
     /// Of an order from place 0 on in which all links match.
-    pub(crate) fn of_order(order: &'a [u8]) -> RingHint<'a> {
-        if is_backwards(order) {
+    pub(crate) fn of_order(order: Vec<u8, A>) -> RingHint<A> {
+        if is_backwards(&order) {
             return RingHint::Backwards;
         }
-        match exchange_of(order) {
+        match exchange_of(&order) {
             Some((a, b)) => RingHint::Exchanged(a, b),
             None => RingHint::OtherOrder(order),
         }
     }
 
     /// Adds its sentence.
-    pub(crate) fn print<A: Allocator>(self, text: &mut Page<A>) {
+    pub(crate) fn print<P: Allocator>(&self, text: &mut Page<P>) {
         match self {
             RingHint::Backwards => text.words(
                 "numbered the other way round, all links match: your node I sends to node I-1.",
             ),
             RingHint::Exchanged(a, b) => {
-                numbered(text, "with nodes ", u32::from(a));
-                numbered(text, " and ", u32::from(b));
+                text.numbered("with nodes ", u32::from(*a));
+                text.numbered(" and ", u32::from(*b));
                 text.words(
                     " in each other's place all links match: their logs, or their places, are exchanged.",
                 );
@@ -128,13 +127,12 @@ impl<'a> RingHint<'a> {
                 before,
                 after,
             } => {
-                numbered(text, "the log of node ", u32::from(place));
-                numbered(
-                    text,
+                text.numbered("the log of node ", u32::from(*place));
+                text.numbered(
                     " is that of a node, and fits neither what node ",
-                    u32::from(before),
+                    u32::from(*before),
                 );
-                numbered(text, " sent nor what node ", u32::from(after));
+                text.numbered(" sent nor what node ", u32::from(*after));
                 text.words(
                     " received; the others fit one another, with another log there: it is of another run.",
                 );
@@ -144,12 +142,11 @@ impl<'a> RingHint<'a> {
                 reader,
                 nodes,
             } => {
-                numbered(text, "with one node more between node ", u32::from(writer));
-                numbered(text, " and node ", u32::from(reader));
-                numbered(
-                    text,
+                text.numbered("with one node more between node ", u32::from(*writer));
+                text.numbered(" and node ", u32::from(*reader));
+                text.numbered(
                     " all links match: a log may be missing there, of a ring of ",
-                    nodes,
+                    *nodes,
                 );
                 text.words(" nodes.");
             }

@@ -1,6 +1,5 @@
 ghost use Rattle.ira_view_page.specs.Printable.{IsPrintable};
 
-use crate::numbered::numbered;
 use ira_view_evidence::LoadField;
 use ira_view_page::Page;
 use std::alloc::Allocator;
@@ -53,24 +52,24 @@ impl RowsHint {
                 text.words("only the ");
                 text.words(noun_of(field));
                 text.words(
-                    " of this message differs: the link changed it, or one side recorded it ",
+                    " of this message differs: the link changed it, or one side recorded it wrongly.",
                 );
-                text.words("wrongly.");
             }
             RowsHint::OneMessage => text.words(
                 "only this message differs: the link changed it, or one side recorded another.",
             ),
             RowsHint::RaisedByReader { reader } => {
                 text.words("each receipt that differs has the hop of its sending raised by one: ");
-                numbered(text, "node ", u32::from(reader));
-                text.words(" records a message as it passes it on. Record it as it was ");
-                text.words("taken off the link.");
+                text.numbered("node ", u32::from(reader));
+                text.words(
+                    " records a message as it passes it on. Record it as it was taken off the link.",
+                );
             }
             RowsHint::UnraisedByWriter { writer } => {
-                numbered(text, "node ", u32::from(writer));
-                text.words(" records its sendings before the hop is raised: by its log it sends ");
+                text.numbered("node ", u32::from(writer));
                 text.words(
-                    "on with the hop of the receipt. Record a message as it was put on the link.",
+                    " records its sendings before the hop is raised: by its log it sends on with the hop of the \
+                     receipt. Record a message as it was put on the link.",
                 );
             }
             RowsHint::HopOfOneSide => text.words(

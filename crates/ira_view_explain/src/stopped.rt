@@ -1,9 +1,10 @@
-ghost use Rattle.std.specs.Prelude.{◌≡◌, IfSome};
+ghost use Rattle.std.specs.Prelude.{◌≡◌, List, ◌∷◌, [], ◌++◌, IfSome, Some};
 ghost use Rattle.ira_node.specs.NodeStep.{NodeStep};
 ghost use Rattle.ira_node.specs.declared.node_state.NodeState.{NodeState};
+ghost use Rattle.ira_order.specs.Ring.{numbered};
+ghost use Rattle.ira_view_evidence.specs.NodeEvidence.{IsNodeEvidence};
 ghost use Rattle.ira_view_page.specs.Printable.{IsPrintable};
 
-use crate::numbered::numbered;
 use crate::rule::Rule;
 use ira_event::{Event, Load, Msg, NodeLog, RingSize};
 use ira_node::{NodeState, Phase, StepFault};
@@ -34,20 +35,26 @@ pub(crate) struct Stopped {
 
 impl Stopped {
     /// What the evidence of a log says.
-    pub(crate) fn of<A: Allocator>(
-        log: &NodeLog<A>,
-        evidence: &NodeEvidence<A>,
-    ) -> Option<Stopped> {
+    pub(crate) fn of<A: Allocator>(log: &NodeLog<A>, evidence: &NodeEvidence<A>) -> Stopped
+        requires { IsNodeEvidence log.now evidence.now.fault evidence.now.first evidence.now.states.items }
+        ensures event { numbered log.now.events evidence.now.fault.position ≡ Some result.event }
+        ensures state { (earlier : List NodeState) × (evidence.now.states.items ≡ earlier ++ result.state ∷ []) }
+    {
         let position = evidence.fault.position;
-        let (state, earlier) = evidence.states.as_slice().split_last()?;
+        let (Some((state, earlier)), Some(event)) = (
+            evidence.states.as_slice().split_last(),
+            event_of(log, position),
+        ) else {
+            unreachable!()
+        };
         let last = match (earlier.last(), event_of(log, position.saturating_sub(1))) {
             (Some(before), Some(event)) => Some((*before, event)),
             _ => None,
         };
-        Some(Stopped {
+        Stopped {
             nodes: log.nodes().get(),
             position,
-            event: event_of(log, position)?,
+            event,
             fault: evidence.fault.fault,
             state: *state,
             last,
@@ -55,7 +62,7 @@ impl Stopped {
             called: called_for(log, *state, position.saturating_add(1)),
             sent_later: sending_after(log, position, state.owed),
             first_clean: first_clean_start(log),
-        })
+        }
     }
 
     /// Adds what is due in place of the event, or why it can't be there.
@@ -63,7 +70,7 @@ impl Stopped {
         match self.fault {
             StepFault::Owes | StepFault::NotOwed => self.add_debt(text),
             StepFault::NotChoosing => text.words("only a choosing node draws"),
-            StepFault::DrawRange => numbered(text, "an ID is 1 to ", u32::from(self.nodes)),
+            StepFault::DrawRange => text.numbered("an ID is 1 to ", u32::from(self.nodes)),
             StepFault::MustDraw => text.words("`draw` is due"),
             StepFault::Ended => text.words("it leads"),
             StepFault::HopPast => self.add_past(text),
@@ -77,7 +84,7 @@ impl Stopped {
     }
 
     fn add_due_reset<A: Allocator>(&self, text: &mut Page<A>) {
-        numbered(text, "`recv reset ", u32::from(self.nodes));
+        text.numbered("`recv reset ", u32::from(self.nodes));
         text.words("` is due");
     }
 
@@ -99,21 +106,20 @@ impl Stopped {
 
     fn add_past<A: Allocator>(&self, text: &mut Page<A>) {
         if let Event::Got(Load::Msg(message)) = self.event {
-            numbered(text, "its own pair with hop ", message.hop);
+            text.numbered("its own pair with hop ", message.hop);
             text.words(", and ");
         }
-        numbered(text, "N is ", u32::from(self.nodes));
+        text.numbered("N is ", u32::from(self.nodes));
     }
 
     fn add_reset<A: Allocator>(&self, text: &mut Page<A>) {
         let nodes = u32::from(self.nodes);
         match self.state.phase {
-            Phase::Passive => numbered(
-                text,
+            Phase::Passive => text.numbered(
                 "a passive node takes a reset with a hop below ",
                 nodes,
             ),
-            Phase::Yielding => numbered(text, "its reset comes back with hop ", nodes),
+            Phase::Yielding => text.numbered("its reset comes back with hop ", nodes),
             _ => text.words("an active node takes no reset"),
         }
     }
@@ -179,8 +185,7 @@ impl Stopped {
         match (self.fault, self.event, self.state.phase) {
             (StepFault::NotOwed, Event::Sent(sent), _) => return self.add_sending_cause(text, sent),
             (StepFault::NotChoosing, _, Phase::Yielding) => {
-                numbered(
-                    text,
+                text.numbered(
                     "its reset is not back yet: the node draws after `recv reset ",
                     nodes,
                 );
@@ -196,7 +201,7 @@ impl Stopped {
                 text.words("after a reset each node draws, initiator or not.");
             }
             (StepFault::DrawRange, _, _) => {
-                numbered(text, "IDs are 1 to N, and N is ", nodes);
+                text.numbered("IDs are 1 to N, and N is ", nodes);
                 text.words(" (line 2).");
             }
             (StepFault::Ended, Event::Got(_), _) => {
@@ -312,7 +317,7 @@ impl Stopped {
                 None => return false,
             },
             (None, Phase::Choosing { .. }, Load::Msg(Msg { id, hop: 1, .. })) => {
-                numbered(text, "a draw of ", id);
+                text.numbered("a draw of ", id);
                 text.words(" may not be recorded, or stands after its sending.");
             }
             (None, Phase::Choosing { .. }, Load::Reset(_)) => {

@@ -1,7 +1,7 @@
 ghost use Rattle.std.specs.Prelude.{IfSome};
 ghost use Rattle.ira_view_page.specs.Printable.{IsPrintable};
 
-use crate::numbered::{numbered, page_of};
+use crate::numbered::page_of;
 use crate::slip::Slip;
 use crate::text_block::NoLog;
 use ira_event::{MAX_NODES, MAX_VERSION, MAX_VERSION_1_NODES, scan_number, skip_word};
@@ -39,7 +39,7 @@ impl HeadLine {
                 text.number(most as u64);
             }
             HeadLine::Place { nodes } => {
-                numbered(text, "`place I` with I from 0 to ", nodes.saturating_sub(1));
+                text.numbered("`place I` with I from 0 to ", nodes.saturating_sub(1));
             }
             HeadLine::Start => text.words("`start initiator` or `start passive`"),
         }

@@ -37,7 +37,10 @@ pub fn explain_found<A: Allocator + Clone>(
         asked,
     };
     if let Findings::Cases { found, .. } = findings {
-        ring.explain_found(&mut draft, found, case.map(|number| number as usize))?;
+        match case {
+            Some(number) => ring.explain_case(&mut draft, found, number as usize)?,
+            None => ring.explain_first(&mut draft, found)?,
+        }
     }
     draft.finish()
 }
@@ -109,7 +112,9 @@ pub fn explain_unsound<A: Allocator + Clone>(
     };
     match reason {
         Reason::Section { case, .. } => {
-            ring.explain_section(&mut draft, certificate.name, sections, case)?;
+            if let Some(case) = ring.case(case) {
+                case.explain_section(&mut draft, certificate.name, sections)?;
+            }
         }
         _ => ring.count_sections(&mut draft, certificate.name, sections.len()),
     }

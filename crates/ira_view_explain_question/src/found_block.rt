@@ -53,8 +53,7 @@ fn add_loads<A: Allocator>(page: &mut Page<A>, moment: &Moment<A>) {
             }
             if told < MOST_LOADS {
                 page.load(*load);
-                page.words(" from node ");
-                page.number(u64::from(link));
+                page.numbered(" from node ", u32::from(link));
             }
             told = told.saturating_add(1);
         }
@@ -170,14 +169,12 @@ impl<A: Allocator + Clone> ExplainedCase<'_, A> {
         let had_states = absence.eliminations.iter().any(|e| e.node == spent);
         begin_inner(page);
         if had_states {
-            page.words("Each state of node ");
-            page.number(u64::from(spent));
+            page.numbered("Each state of node ", u32::from(spent));
             page.words(" that meets `");
             self.add_clause(page, spent);
             page.words("` is ruled out:");
         } else {
-            page.words("Node ");
-            page.number(u64::from(spent));
+            page.numbered("Node ", u32::from(spent));
             page.words(" never met `");
             self.add_clause(page, spent);
             page.words("`.");
@@ -202,13 +199,11 @@ impl<A: Allocator + Clone> ExplainedCase<'_, A> {
             other_pos,
         } = elimination;
         begin_inner(page);
-        page.words("node ");
-        page.number(u64::from(node));
+        page.numbered("node ", u32::from(node));
         if first == last {
             page.words(" state ");
         } else {
-            page.words(" states ");
-            page.number(u64::from(first));
+            page.numbered(" states ", first);
             page.words(" to ");
         }
         page.number(u64::from(last));
@@ -222,10 +217,8 @@ impl<A: Allocator + Clone> ExplainedCase<'_, A> {
         page.words(",");
         page.end();
         begin_inner(page);
-        page.words("  which happened before event ");
-        page.number(u64::from(other_pos));
-        page.words(" of node ");
-        page.number(u64::from(other));
+        page.numbered("  which happened before event ", other_pos);
+        page.numbered(" of node ", u32::from(other));
         let by = EventAt {
             place: other,
             position: other_pos,

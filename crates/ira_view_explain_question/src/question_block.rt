@@ -168,8 +168,7 @@ impl<A: Allocator + Clone> AskedText<'_, A> {
     fn add_places_hint(&self, draft: &mut ExplanationDraft<A>) {
         if let Some((nodes, _)) = self.nodes() {
             let mut hint = Page::new(self.alloc);
-            hint.words("places count from 0, and N is ");
-            hint.number(u64::from(nodes));
+            hint.numbered("places count from 0, and N is ", nodes);
             hint.words(".");
             draft.hint_apart_of(&hint);
         }

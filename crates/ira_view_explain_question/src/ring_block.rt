@@ -8,7 +8,6 @@ use crate::asked_files::AskedFiles;
 use crate::asked_lines::AskedLines;
 use crate::explained_case::ExplainedCase;
 use ira_audit::AskedQuestion;
-use ira_cert::Section;
 use ira_elim::Found;
 use ira_event::{Logs, OutOfMemory};
 use ira_view_page::{Emphasis, ExplanationDraft, Page};
@@ -35,7 +34,7 @@ impl<'a, A: Allocator + Clone> AskedRing<'a, A> {
     }
 
     /// The case of a number, where there is one.
-    fn case(&'a self, number: usize) -> Option<ExplainedCase<'a, A>>
+    pub(crate) fn case(&'a self, number: usize) -> Option<ExplainedCase<'a, A>>
         ensures ring { IfSome result (λ case. case.ring.now.asked.now ≡ self.now.asked.now) }
         ensures case { IfSome result
             (λ case. slice_get self.now.asked.now.question.cases number ≡ Some case.case.now) }
@@ -52,24 +51,8 @@ impl<'a, A: Allocator + Clone> AskedRing<'a, A> {
         })
     }
 
-    /// Adds what was found for the case of a number, or for the first ones: those that are present, or all where none
-    /// is.
-    pub(crate) fn explain_found(
-        &self,
-        draft: &mut ExplanationDraft<A>,
-        found: &[Found<A>],
-        case: Option<usize>,
-    ) -> Result<(), OutOfMemory>
-        requires { AllZip (IsFound self.now.asked.now.logs) self.now.asked.now.question.cases found.now }
-    {
-        match case {
-            Some(number) => self.explain_case(draft, found, number),
-            None => self.explain_first(draft, found),
-        }
-    }
-
-    /// Adds what was found for the first cases.
-    fn explain_first(
+    /// Adds what was found for the first cases: those that are present, or all where none is.
+    pub(crate) fn explain_first(
         &self,
         draft: &mut ExplanationDraft<A>,
         found: &[Found<A>],
@@ -99,7 +82,7 @@ impl<'a, A: Allocator + Clone> AskedRing<'a, A> {
     }
 
     /// Adds what was found for the case of a number, where there is one.
-    fn explain_case(
+    pub(crate) fn explain_case(
         &self,
         draft: &mut ExplanationDraft<A>,
         found: &[Found<A>],
@@ -129,20 +112,6 @@ impl<'a, A: Allocator + Clone> AskedRing<'a, A> {
         page.number_of(self.asked.cases().len(), "case");
         page.words(", counted from 0.");
         page.end();
-    }
-
-    /// Adds why the section of a certificate for the case of a number isn't sound.
-    pub(crate) fn explain_section(
-        &self,
-        draft: &mut ExplanationDraft<A>,
-        certificate: &str,
-        sections: &[Section<A>],
-        number: usize,
-    ) -> Result<(), OutOfMemory> {
-        match self.case(number) {
-            Some(case) => case.explain_section(draft, certificate, sections),
-            None => Ok(()),
-        }
     }
 
     /// Adds that a certificate has so many sections, and how many are due.

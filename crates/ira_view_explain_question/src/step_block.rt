@@ -10,55 +10,31 @@ use ira_event::{Listed, OutOfMemory};
 use ira_node::NodeState;
 use ira_order::HappenedBefore;
 use ira_view_evidence::{SectionEvidence, UnsoundStep, Unspent, state_after};
-use ira_view_page::{Emphasis, ExplanationDraft, Front, Page, line_of, log_at};
+use ira_view_page::{Emphasis, Evidence, ExplanationDraft, Front, Page, line_of, log_at};
 use std::alloc::Allocator;
 
 /// At most so many candidates left are told.
 const MOST_LEFT: usize = 5;
 
-/// Begins a line of a certificate, as the one that the answer speaks of.
-fn begin_named<A: Allocator>(page: &mut Page<A>, file: &str, line: usize) {
+/// Adds the line of a certificate that has this step, as the one that the answer speaks of.
+fn print_step<A: Allocator>(page: &mut Page<A>, file: &str, line: usize, step: CertStep) {
     page.begin(Emphasis::Named);
     page.place(file, line);
-    page.words(": ");
-}
-
-/// Adds the line of a certificate that has this step.
-fn add_step<A: Allocator + Clone>(
-    draft: &mut ExplanationDraft<A>,
-    file: &str,
-    line: usize,
-    step: CertStep,
-) {
-    let page = &mut draft.page;
-    begin_named(page, file, line);
-    page.words("drop ");
-    page.number(u64::from(step.node));
-    page.words(" ");
-    page.number(u64::from(step.pos));
-    page.words(" by ");
-    page.number(u64::from(step.other));
-    page.words(" ");
-    page.number(u64::from(step.other_pos));
+    page.numbered(": drop ", u32::from(step.node));
+    page.numbered(" ", step.pos);
+    page.numbered(" by ", u32::from(step.other));
+    page.numbered(" ", step.other_pos);
     page.end();
     page.blank();
-    draft.step(file, line, step);
 }
 
-/// Adds the line of a certificate that says that a node is spent.
-fn add_spent<A: Allocator + Clone>(
-    draft: &mut ExplanationDraft<A>,
-    file: &str,
-    line: usize,
-    node: u8,
-) {
-    let page = &mut draft.page;
-    begin_named(page, file, line);
-    page.words("spent ");
-    page.number(u64::from(node));
+/// Adds the line of a certificate that says that a node is spent, as the one that the answer speaks of.
+fn print_spent<A: Allocator>(page: &mut Page<A>, file: &str, line: usize, node: u8) {
+    page.begin(Emphasis::Named);
+    page.place(file, line);
+    page.numbered(": spent ", u32::from(node));
     page.end();
     page.blank();
-    draft.spent(file, line, node);
 }
 
 /// The line of a certificate on which the steps of its section of a number begin.
@@ -74,8 +50,7 @@ fn first_step<A: Allocator>(sections: &[Section<A>], number: usize) -> usize {
 /// Adds the state of a node after so many events.
 fn add_position<A: Allocator>(page: &mut Page<A>, position: u32, node: u8) {
     page.number(u64::from(position));
-    page.words(" of node ");
-    page.number(u64::from(node));
+    page.numbered(" of node ", u32::from(node));
 }
 
 impl<A: Allocator + Clone> ExplainedCase<'_, A> {
@@ -98,14 +73,20 @@ impl<A: Allocator + Clone> ExplainedCase<'_, A> {
         match SectionEvidence::find(alloc.clone()?, dependencies, &mut queues, section)? {
             Some(SectionEvidence::Unsound(unsound)) => {
                 let line = first.saturating_add(unsound.number);
-                add_step(draft, file, line, unsound.step);
+                let step = unsound.step;
+                print_step(&mut draft.page, file, line, step);
+                let file = String::from_str(alloc.clone()?, file)?;
+                draft.tell(Evidence::Step { file, line, step });
                 self.add_fronts(draft, &mut queues, unsound);
                 self.add_fault(&mut draft.page, unsound);
                 self.add_outcome(&mut draft.page, false)
             }
             Some(SectionEvidence::NotSpent(unspent)) => {
                 let line = first.saturating_add(steps);
-                add_spent(draft, file, line, unspent.place);
+                let node = unspent.place;
+                print_spent(&mut draft.page, file, line, node);
+                let file = String::from_str(alloc.clone()?, file)?;
+                draft.tell(Evidence::Spent { file, line, node });
                 self.add_unspent(draft, steps, &unspent);
                 self.add_outcome(&mut draft.page, true)
             }
@@ -161,8 +142,7 @@ impl<A: Allocator + Clone> ExplainedCase<'_, A> {
     fn add_front(&self, draft: &mut ExplanationDraft<A>, node: u8, front: Option<Front>) {
         let page = &mut draft.page;
         page.begin(Emphasis::Plain);
-        page.words("node ");
-        page.number(u64::from(node));
+        page.numbered("node ", u32::from(node));
         page.words("  ");
         match clause_at(self.case, node) {
             Some(n) => {
@@ -180,14 +160,13 @@ impl<A: Allocator + Clone> ExplainedCase<'_, A> {
         if let Some(front) = front {
             match front.first {
                 Some((position, state)) => {
-                    page.words("first candidate left ");
-                    page.number(u64::from(position));
+                    page.numbered("first candidate left ", position);
                     page.words(": ");
                     page.state(&state);
                 }
                 None => page.words("no candidate left"),
             }
-            draft.front(front);
+            draft.tell(Evidence::Front(front));
         }
         draft.page.end();
     }
@@ -256,8 +235,7 @@ impl<A: Allocator + Clone> ExplainedCase<'_, A> {
             self.add_event_of(&mut text, pos.saturating_add(1), node);
             text.words(" happened before event ");
             self.add_event_of(&mut text, other_pos, other);
-            text.words(". But of node ");
-            text.number(u64::from(node));
+            text.numbered(". But of node ", u32::from(node));
             text.words(" only ");
             text.number_of(dependencies.count(other, other_pos, node) as usize, "event");
             text.words(" happened before that one.");
@@ -282,8 +260,7 @@ impl<A: Allocator + Clone> ExplainedCase<'_, A> {
             Some(left) => {
                 page.words("After ");
                 page.number_of(steps, "step");
-                page.words(" node ");
-                page.number(u64::from(node));
+                page.numbered(" node ", u32::from(node));
                 page.words(" has ");
                 page.number_of(left.len(), "candidate");
                 page.words(" left, where it meets `");
@@ -296,13 +273,12 @@ impl<A: Allocator + Clone> ExplainedCase<'_, A> {
                 self.add_states(page, node, left);
                 let first = left.first().and_then(|first| self.state_at(node, *first));
                 let left = left.len();
-                draft.front(Front { node, left, first });
+                draft.tell(Evidence::Front(Front { node, left, first }));
             }
             None => {
                 page.words("Case ");
                 page.number(self.number as u64);
-                page.words(" asks nothing of node ");
-                page.number(u64::from(node));
+                page.numbered(" asks nothing of node ", u32::from(node));
                 page.words(".");
                 page.end();
             }
@@ -314,8 +290,7 @@ impl<A: Allocator + Clone> ExplainedCase<'_, A> {
     fn add_states(&self, page: &mut Page<A>, node: u8, states: &[u32]) {
         for position in states.iter().take(MOST_LEFT) {
             page.begin(Emphasis::Plain);
-            page.words("  state ");
-            page.number(u64::from(*position));
+            page.numbered("  state ", *position);
             page.words(", after ");
             page.place(self.file_of(node), line_of(*position));
             if let Some((_, state)) = self.state_at(node, *position) {
@@ -347,8 +322,7 @@ impl<A: Allocator + Clone> ExplainedCase<'_, A> {
                 if with_steps {
                     text.words(" (");
                     text.number_of(section.steps.len(), "step");
-                    text.words(", node ");
-                    text.number(u64::from(section.spent));
+                    text.numbered(", node ", u32::from(section.spent));
                     text.words(" spent)");
                 }
                 text.words(".");

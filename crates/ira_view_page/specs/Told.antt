@@ -1,13 +1,9 @@
 -- What the calls of a draft add to its values.
 use Rattle.std.specs.Prelude.{◌≡◌, ℕ, ◌⊎◌, false, List, ◌∷◌, [], ◌++◌, Option, None, Some, String, string_bytes}
-use Rattle.ira_event.specs.declared.event.Event.{Event}
-use Rattle.ira_order.specs.declared.event_at.EventAt.{EventAt}
 use Rattle.ira_view_page.specs.Page.{kept}
 use Rattle.ira_view_page.specs.declared.evidence.Evidence.{Evidence}
 use Rattle.ira_view_page.specs.declared.explanation.Explanation.{Explanation}
 use Rattle.ira_view_page.specs.declared.explanation_draft.ExplanationDraft.{ExplanationDraft}
-use Rattle.ira_view_page.specs.declared.head_row.HeadRow.{HeadRow}
-use Rattle.ira_view_page.specs.declared.record_at.RecordAt.{RecordAt}
 
 -- the evidence of a draft, while it is whole
 abbrev pub evidence_of : {A : Type 0} → ExplanationDraft A → Option (List (Evidence A))
@@ -23,15 +19,6 @@ pub record AddedOf {A X : Type 0} (bytes : List ℕ) (made : String A → X) (ol
       (all : List X) → new ≡ Some all
       → (before : List X) × (text : String A) × (old ≡ Some before) × (string_bytes text ≡ bytes)
       × (all ≡ before ++ made text ∷ [])
-
--- an event of the log in the file of this name
-abbrev pub record_at : {A : Type 0} → EventAt → Event → String A → RecordAt A
-record_at at event file = record { file = file; at = at; event = event }
-
--- what the head of the log in the file of this name says
-abbrev pub head_row : {A : Type 0} → ℕ → ℕ → ℕ → ℕ → String A → HeadRow A
-head_row log version nodes place file =
-    record { log = log; file = file; version = version; nodes = nodes; place = place }
 
 -- an explanation has what its draft has
 pub record IsDrafted {A : Type 0} (draft : ExplanationDraft A) (explanation : Explanation A) : Type 0 where

@@ -1,28 +1,20 @@
 ghost use Rattle.std.specs.Prelude.{◌≡◌, ◌∷◌, [], false, IfNone, IfOk, IfSome, MatchResult, Ok, Some};
 ghost use Rattle.std.specs.Prelude.{codes, string_bytes};
-ghost use Rattle.ira_event.specs.declared.event.Event.TheVariants.{Got, Sent as EventSent};
 ghost use Rattle.ira_view_page.specs.Page.{Added, AddedSome};
-ghost use Rattle.ira_view_page.specs.Told.{AddedOf, IsDrafted, IsRefused, evidence_of, head_row, hints_of, record_at};
-ghost use Rattle.ira_view_page.specs.declared.evidence.Evidence.TheVariants.{Faulty, Front as FrontOf, Head};
-ghost use Rattle.ira_view_page.specs.declared.evidence.Evidence.TheVariants.{OtherFaulty, Received, Sent, Spent};
-ghost use Rattle.ira_view_page.specs.declared.evidence.Evidence.TheVariants.{Step, Text};
+ghost use Rattle.ira_view_page.specs.Told.{AddedOf, IsDrafted, IsRefused, evidence_of, hints_of};
+ghost use Rattle.ira_view_page.specs.declared.evidence.Evidence.TheVariants.{Text};
 
 use crate::asked_case::{AskedCase, AskedNode};
 use crate::evidence::Evidence;
 use crate::explanation::Explanation;
-use crate::front::Front;
-use crate::head_row::HeadRow;
 use crate::named_text::NamedText;
 use crate::page::{Emphasis, Page};
 use crate::quote::quoted_column;
 use crate::quoted_line::{Carets, QuotedLine};
-use crate::record_at::RecordAt;
 use crate::remark::Remark;
 use crate::ring_counts::RingCounts;
-use ira_cert_text::CertStep;
-use ira_event::{Event, Load, MAX_TEXT, OutOfMemory};
-use ira_node::{NodeState, StepFault};
-use ira_order::EventAt;
+use ira_event::{MAX_TEXT, OutOfMemory};
+use ira_node::NodeState;
 use std::alloc::Allocator;
 
 /// An explanation while it is put together: what a call adds to the page it adds as a value too. It keeps whether a
@@ -35,7 +27,7 @@ pub struct ExplanationDraft<A: Allocator> {
     pub ring: Option<RingCounts>,
     /// The state in which the event that the answer names has no step.
     pub state_before: Option<NodeState>,
-    evidence: Vec<Evidence<A>, A>,
+    pub evidence: Vec<Evidence<A>, A>,
     hints: Vec<String<A>, A>,
     cases: Vec<AskedCase<A>, A>,
     is_whole: bool,
@@ -214,112 +206,6 @@ impl<A: Allocator + Clone> ExplanationDraft<A> {
         }
     }
 
-    /// Adds a sending to the evidence.
-    pub fn sent(&mut self, file: &str, at: EventAt, load: Load)
-        ensures page { self.new.page ≡ self.old.page }
-        ensures evidence { AddedOf file.now
-            (λ name. Sent (record_at at (EventSent load) name)) (evidence_of self.old) (evidence_of self.new) }
-    {
-        if let Some(file) = self.own(file) {
-            let event = Event::Sent(load);
-            self.tell(Evidence::Sent(RecordAt { file, at, event }));
-        }
-    }
-
-    /// Adds a receipt to the evidence.
-    pub fn received(&mut self, file: &str, at: EventAt, load: Load)
-        ensures page { self.new.page ≡ self.old.page }
-        ensures evidence { AddedOf file.now
-            (λ name. Received (record_at at (Got load) name)) (evidence_of self.old) (evidence_of self.new) }
-    {
-        if let Some(file) = self.own(file) {
-            let event = Event::Got(load);
-            self.tell(Evidence::Received(RecordAt { file, at, event }));
-        }
-    }
-
-    /// Adds the event without a step that the answer names to the evidence.
-    pub fn faulty(&mut self, file: &str, at: EventAt, event: Event)
-        ensures page { self.new.page ≡ self.old.page }
-        ensures evidence { AddedOf file.now
-            (λ name. Faulty (record_at at event name)) (evidence_of self.old) (evidence_of self.new) }
-    {
-        if let Some(file) = self.own(file) {
-            self.tell(Evidence::Faulty(RecordAt { file, at, event }));
-        }
-    }
-
-    /// Adds another node's first event without a step to the evidence.
-    pub fn other_faulty(
-        &mut self,
-        file: &str,
-        at: EventAt,
-        event: Event,
-        fault: StepFault,
-        happened_before: bool,
-    )
-        ensures page { self.new.page ≡ self.old.page }
-        ensures evidence { AddedOf file.now
-            (λ name. OtherFaulty (record_at at event name) fault happened_before)
-            (evidence_of self.old) (evidence_of self.new) }
-    {
-        if let Some(file) = self.own(file) {
-            let event = RecordAt { file, at, event };
-            self.tell(Evidence::OtherFaulty {
-                event,
-                fault,
-                happened_before,
-            });
-        }
-    }
-
-    /// Adds what a log's head says to the evidence.
-    pub fn head(&mut self, log: usize, file: &str, version: u8, nodes: u8, place: u8)
-        ensures page { self.new.page ≡ self.old.page }
-        ensures evidence { AddedOf file.now
-            (λ name. Head (head_row log version nodes place name)) (evidence_of self.old) (evidence_of self.new) }
-    {
-        if let Some(file) = self.own(file) {
-            self.tell(Evidence::Head(HeadRow {
-                log,
-                file,
-                version,
-                nodes,
-                place,
-            }));
-        }
-    }
-
-    /// Adds the line of a certificate with a step that isn't sound to the evidence.
-    pub fn step(&mut self, file: &str, line: usize, step: CertStep)
-        ensures page { self.new.page ≡ self.old.page }
-        ensures evidence { AddedOf file.now (λ name. Step name line step)
-            (evidence_of self.old) (evidence_of self.new) }
-    {
-        if let Some(file) = self.own(file) {
-            self.tell(Evidence::Step { file, line, step });
-        }
-    }
-
-    /// Adds the line of a certificate that says of a node that it is spent to the evidence.
-    pub fn spent(&mut self, file: &str, line: usize, node: u8)
-        ensures page { self.new.page ≡ self.old.page }
-        ensures evidence { AddedOf file.now (λ name. Spent name line node)
-            (evidence_of self.old) (evidence_of self.new) }
-    {
-        if let Some(file) = self.own(file) {
-            self.tell(Evidence::Spent { file, line, node });
-        }
-    }
-
-    /// Adds what is left of a node's candidates to the evidence.
-    pub fn front(&mut self, front: Front)
-        ensures page { self.new.page ≡ self.old.page }
-        ensures evidence { Added (evidence_of self.old) (FrontOf front ∷ []) (evidence_of self.new) }
-    {
-        self.tell(Evidence::Front(front));
-    }
-
     /// Adds a case that is explained, counted from 0.
     pub fn case(&mut self, number: usize)
         ensures page { self.new.page ≡ self.old.page }
@@ -363,7 +249,8 @@ impl<A: Allocator + Clone> ExplanationDraft<A> {
         self.is_whole = self.is_whole && kept;
     }
 
-    fn tell(&mut self, evidence: Evidence<A>)
+    /// Adds one thing that the answer rests on.
+    pub fn tell(&mut self, evidence: Evidence<A>)
         ensures page { self.new.page ≡ self.old.page }
         ensures evidence { Added (evidence_of self.old) (evidence ∷ []) (evidence_of self.new) }
     {

@@ -104,6 +104,15 @@ impl<A: Allocator> Page<A> {
         self.words(buffer.format(n));
     }
 
+    /// Adds words, and a number after them.
+    pub fn numbered(&mut self, words: &str, n: u32)
+        requires { IsPrintable words.now }
+        ensures { Added self.old (words.now ++ decimal n) self.new }
+    {
+        self.words(words);
+        self.number(n as u64);
+    }
+
     /// Adds a line of these words.
     pub fn line(&mut self, mark: Emphasis, words: &str)
         requires { IsPrintable words.now }

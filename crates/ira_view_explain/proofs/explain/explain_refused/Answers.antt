@@ -1,0 +1,9 @@
+use Rattle.ira_view_explain.proofs.explain.explain_refused.Goals as goal
+
+pub returns : goal.returns
+returns g c = record {
+  finding = c.in_ok-finding.finding;
+  is_finding = c.in_ok-finding.ensures;
+  are_told = c.in_ok-explanation-2.ensures;
+  state_is = c.state_before-explanation.ensures;
+}
