@@ -83,7 +83,7 @@ $(foreach it,$(LIBRARIES) ira,$(eval bin/$(it).proved: $(patsubst %,bin/%.proved
 # The module for a browser, the library that it alone uses, and the page of web/ with both.
 web: ira
 	@sh build/prove.sh ira_lent $(JOBS) > bin/ira_lent.log 2>&1 || { tail -20 bin/ira_lent.log; exit 1; }
-	@sh build/web.sh $(JOBS) > bin/ira_web.log 2>&1 || { tail -20 bin/ira_web.log; exit 1; }
+	@sh build/prove.sh ira_web $(JOBS) > bin/ira_web.log 2>&1 || { tail -20 bin/ira_web.log; exit 1; }
 	@sh build/web_page.sh
 	@$(say) 'proved and built: bin/ira.html'
 

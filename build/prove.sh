@@ -1,12 +1,13 @@
 #!/bin/sh
 # sh build/prove.sh NAME JOBS  proves the crate NAME with so many jobs, as the gate does: from nothing, over the statements of
-# what it uses, which is proved by then. What others need of a library is left at bin/NAME.rlib, a program at bin/NAME.
+# what it uses, which is proved by then. What others need of a library is left at bin/NAME.rlib, a program at bin/NAME; a
+# static library is proved as a module for a web page, for wasm64, and left at bin/ira.wasm.
 set -e
 name=$1 jobs=$2 here=$PWD
 kit=$(dirname "$(dirname "$(realpath "$(command -v rattle)")")")
 
 set -- --extern "std=$kit/rlibs/std.rlib"
-for it in $(sed -n "s/^$name://p" crates.txt); do
+for it in $(sed -n "s/^$name\( staticlib\)\{0,1\}://p" crates.txt); do
     if test -d "crates/$it"; then rlib=$here/bin/$it.rlib; else rlib=$kit/rlibs/$it.rlib; fi
     set -- "$@" --extern "$it=$rlib"
 done
@@ -14,6 +15,12 @@ set -- "$@" -L "dependency=$kit/rlibs" -L "dependency=$here/bin" --links "$name=
     --antt-project "$kit/rattle/logic/antt-project.json" --logic-built "$kit/logic_built"
 
 cd "crates/$name"
+if grep -q "^$name staticlib:" "$here/crates.txt"; then
+    target=wasm64-unknown-unknown
+    rattle build --crate-name "$name" src/lib.rt --crate-type staticlib "$@" --toolchain "$kit/toolchain" \
+        --target "$target" -o "$here/bin/$name.a"
+    exec "$kit/bin/rattle-link" --target "$target" --toolchain "$kit/toolchain" -o "$here/bin/ira.wasm" "$here/bin/$name.a"
+fi
 if test -f src/lib.rt; then
     exec rattle build --crate-name "$name" src/lib.rt "$@" --statements -o "$here/bin/$name.rlib"
 fi
