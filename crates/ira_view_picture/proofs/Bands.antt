@@ -1,17 +1,19 @@
 -- Bands, mark by mark.
-use Rattle.std.proofs.Common.{◌≡◌, ℕ, ◌<◌, ◌≤◌, inl, inr, List, [], ◌∷◌, ◌++◌, Some, None, length, refl, sym, ◌∙◌, ap}
+use Rattle.std.proofs.Common.{◌≡◌, ◌≢◌, ◌⊎◌, ℕ, ◌+◌, ◌<◌, ◌≤◌, inl, inr, List, [], ◌∷◌, ◌++◌, Some, None, length, refl, sym, ◌∙◌, ap}
 use Rattle.std.proofs.Common.{subst}
 use Rattle.std.proofs.Common.{arith}
 use Rattle.std.specs.Prelude.{slice_get}
 use Rattle.std.proofs.lemmas.Bool.{cases_lt}
+use Rattle.std.proofs.lemmas.List.{length-append}
 use Rattle.std.proofs.lemmas.Option.{slice_get_within}
-use Rattle.ira_order.proofs.Pushed.{pushed_cases, pushed_last, pushed_old}
+use Rattle.ira_order.proofs.Pushed.{pushed_cases, pushed_last, pushed_old, rises_pushed}
+use Rattle.ira_order.specs.FaultyEvent.{Rises}
 use Rattle.ira_view_picture.specs.declared.after.After.{After}
 use Rattle.ira_view_picture.specs.declared.band.Band.{Band}
 use Rattle.ira_view_picture.specs.declared.band.BandKind.{BandKind}
 use Rattle.ira_view_picture.specs.declared.mark.Mark.{Mark}
-use Rattle.ira_view_picture.specs.Band.{AreBands, Covers, kind_of, known_at}
-use Rattle.ira_view_picture.proofs.Known.{StandUpTo, known_before, known_from}
+use Rattle.ira_view_picture.specs.Band.{AreBands, Covers, IsFilled, kind_of, known_at}
+use Rattle.ira_view_picture.proofs.Known.{StandBefore, StandUpTo, known_before, known_from, stand_up_to}
 
 -- a band that is left of column `from`, of the kind of what is known there
 pub record IsBandBefore (start : After) (first : ℕ) (marks : List Mark) (from : ℕ) (b : Band) : Type 0 where
@@ -19,6 +21,7 @@ pub record IsBandBefore (start : After) (first : ℕ) (marks : List Mark) (from 
   pub end : ℕ
   pub end_is : b.span.to ≡ Some end
   pub end_left : end ≤ from
+  pub filled : b.span.from < end
   pub kind : (c : ℕ) → b.span.from ≤ c → c < end → b.kind ≡ kind_of (known_at start marks c)
 
 -- the bands up to column `from`, from which on the node is of this kind
@@ -32,6 +35,10 @@ pub record AreBandsBefore (start : After) (first : ℕ) (marks : List Mark) (fro
       → (k : ℕ) × (b : Band) × (slice_get bands k ≡ Some b) × Covers b.span c
   pub apart : (k h c : ℕ) (a b : Band) → k < h → slice_get bands k ≡ Some a → slice_get bands h ≡ Some b
       → Covers a.span c → ¬ (Covers b.span c)
+  pub rise : Rises (λ b. b.span.from) bands
+  pub change : (k : ℕ) (a b : Band) → slice_get bands k ≡ Some a → slice_get bands (k + 1) ≡ Some b → a.kind ≢ b.kind
+  pub last : (k : ℕ) (b : Band) → slice_get bands k ≡ Some b → k + 1 ≡ length bands → b.kind ≢ kind
+  pub stands : (bands ≡ []) ⊎ ((k : ℕ) × (x : Mark) × (slice_get marks k ≡ Some x) × (x.column ≡ from))
 
 -- a band that ends at a column covers none from there on
 not_from : (start : After) (first : ℕ) (marks : List Mark) (from c : ℕ) (b : Band)
@@ -48,11 +55,43 @@ no_bands start first = record {
   each = λ k b at. absurd cc;
   all = λ c from before. absurd (omega (arith, from, before));
   apart = λ k h c a b less at there covers. absurd cc;
+  rise = λ k h a b less at there. absurd cc;
+  change = λ k a b at there. absurd cc;
+  last = λ k b at here. absurd cc;
+  stands = inl refl;
 }
 
+-- with one more that differs from the last one
+change_more : (bands : List Band) (kind : BandKind)
+    → ((k : ℕ) (a b : Band) → slice_get bands k ≡ Some a → slice_get bands (k + 1) ≡ Some b → a.kind ≢ b.kind)
+    → ((k : ℕ) (b : Band) → slice_get bands k ≡ Some b → k + 1 ≡ length bands → b.kind ≢ kind)
+    → (b : Band) → b.kind ≡ kind → (k : ℕ) (x y : Band)
+    → slice_get (bands ++ b ∷ []) k ≡ Some x → slice_get (bands ++ b ∷ []) (k + 1) ≡ Some y → x.kind ≢ y.kind
+change_more bands kind change last b is k x y at there same = elim (pushed_cases bands b y (k + 1) there) [
+  | inl old_y ↦ elim (pushed_cases bands b x k at) [
+    | inl old_x ↦ change k x y old_x old_y same
+    | inr new_x ↦ absurd (omega (arith, new_x.0, slice_get_within bands (k + 1) y old_y))
+  ]
+  | inr new_y ↦ elim (pushed_cases bands b x k at) [
+    | inl old_x ↦ last k x old_x new_y.0 (same ∙ ap (λ (z : Band). z.kind) (sym new_y.1) ∙ is)
+    | inr new_x ↦ absurd (omega (arith, new_x.0, new_y.0))
+  ]
+]
+
+-- and one more that begins where these have ended
+rise_more : (start : After) (first : ℕ) (marks : List Mark) (from : ℕ) (bands : List Band)
+    → ((k : ℕ) (b : Band) → slice_get bands k ≡ Some b → IsBandBefore start first marks from b)
+    → Rises (λ b. b.span.from) bands → (b : Band) → b.span.from ≡ from → Rises (λ b. b.span.from) (bands ++ b ∷ [])
+rise_more start first marks from bands each rise b is =
+    rises_pushed (λ x. x.span.from) bands b rise (λ k x at.
+        let before = each k x at in omega (arith, before.filled, before.end_left, is))
+
 module _ (start : After) (first : ℕ) (marks : List Mark) (from : ℕ) (kind : BandKind) (bands : List Band)
-    (are : AreBandsBefore start first marks from kind bands) (m : Mark) (in_turn : StandUpTo m.column marks)
+    (are : AreBandsBefore start first marks from kind bands) (m : Mark) (before : StandBefore m.column marks)
     (right : first ≤ m.column) where
+  in_turn : StandUpTo m.column marks
+  in_turn = stand_up_to m.column marks before
+
   begun : from ≤ m.column
   begun = are.least m.column right in_turn
 
@@ -63,6 +102,7 @@ module _ (start : After) (first : ℕ) (marks : List Mark) (from : ℕ) (kind : 
     end = is.end;
     end_is = is.end_is;
     end_left = is.end_left;
+    filled = is.filled;
     kind = λ c low high. is.kind c low high ∙ ap kind_of (sym (known_before start marks m c
         (omega (arith, high, is.end_left, begun))));
   }
@@ -74,8 +114,22 @@ module _ (start : After) (first : ℕ) (marks : List Mark) (from : ℕ) (kind : 
     end = is.end;
     end_is = is.end_is;
     end_left = omega (arith, is.end_left, begun);
+    filled = is.filled;
     kind = is.kind;
   }
+
+  still_stands : (bands ≡ []) ⊎ ((k : ℕ) × (x : Mark) × (slice_get (marks ++ m ∷ []) k ≡ Some x) × (x.column ≡ from))
+  still_stands = elim are.stands [
+    | inl none ↦ inl none
+    | inr at ↦ inr (at.0, at.1, pushed_old marks m at.1 at.0 at.2, at.3)
+  ]
+
+  -- where the mark isn't right of where the kind began no band has ended
+  none_yet : m.column ≤ from → bands ≡ []
+  none_yet here = elim are.stands [
+    | inl none ↦ none
+    | inr at ↦ absurd (omega (arith, here, before at.0 at.1 at.2, at.3))
+  ]
 
   still_least : (c : ℕ) → first ≤ c → StandUpTo c (marks ++ m ∷ []) → from ≤ c
   still_least c low up_to = are.least c low (λ k x at. up_to k x (pushed_old marks m x k at))
@@ -92,6 +146,10 @@ module _ (start : After) (first : ℕ) (marks : List Mark) (from : ℕ) (kind : 
     each = λ k b at. kept b (are.each k b at);
     all = are.all;
     apart = are.apart;
+    rise = are.rise;
+    change = are.change;
+    last = are.last;
+    stands = still_stands;
   }
 
   -- after one of another kind, in the column where the kind began
@@ -103,17 +161,23 @@ module _ (start : After) (first : ℕ) (marks : List Mark) (from : ℕ) (kind : 
     each = λ k b at. kept b (are.each k b at);
     all = are.all;
     apart = are.apart;
+    rise = are.rise;
+    change = are.change;
+    last = λ k b at end. absurd (let none : length bands ≡ 0 = ap length (none_yet here) in omega (arith, end, none));
+    stands = still_stands;
   }
 
   -- and right of it
-  pub bands_more : (b : Band) → b.kind ≡ kind → b.span.from ≡ from → b.span.to ≡ Some m.column
+  pub bands_more : kind_of m.after ≢ kind → from < m.column → (b : Band) → b.kind ≡ kind → b.span.from ≡ from
+      → b.span.to ≡ Some m.column
       → AreBandsBefore start first (marks ++ m ∷ []) m.column (kind_of m.after) (bands ++ b ∷ [])
-  bands_more b kind_is from_is to_is =
+  bands_more differs turned b kind_is from_is to_is =
       let new : IsBandBefore start first (marks ++ m ∷ []) m.column b = record {
         begin = omega (arith, from_is, are.low);
         end = m.column;
         end_is = to_is;
         end_left = omega arith;
+        filled = omega (arith, from_is, turned);
         kind = λ c low high. kind_is ∙ are.now c (omega (arith, low, from_is))
             ∙ ap kind_of (sym (known_before start marks m c high));
       } in
@@ -143,6 +207,13 @@ module _ (start : After) (first : ℕ) (marks : List Mark) (from : ℕ) (kind : 
             | inr new_x ↦ absurd (omega (arith, less, new_x.0, new_y.0))
           ]
         ];
+        rise = rise_more start first marks from bands are.each are.rise b from_is;
+        change = change_more bands kind are.change are.last b kind_is;
+        last = λ k x at end same. elim (pushed_cases bands b x k at) [
+          | inl old ↦ absurd (omega (arith, slice_get_within bands k x old, end, length-append bands (b ∷ [])))
+          | inr new ↦ differs (sym same ∙ ap (λ (z : Band). z.kind) (sym new.1) ∙ kind_is)
+        ];
+        stands = inr (length marks, m, pushed_last marks m, refl);
       }
 
 -- with the last band, which goes on to the right edge
@@ -178,4 +249,10 @@ all_bands start first marks from kind bands are b kind_is from_is to_is = record
       | inr new_x ↦ absurd (omega (arith, less, new_x.0, new_y.0))
     ]
   ];
+  filled = λ k x at. elim (pushed_cases bands b x k at) [
+    | inl old ↦ (let is = are.each k x old in rw is.end_is is.filled)
+    | inr new ↦ subst (λ (z : Band). IsFilled z.span) new.1 (rw to_is tt)
+  ];
+  rise = rise_more start first marks from bands are.each are.rise b from_is;
+  change = change_more bands kind are.change are.last b kind_is;
 }

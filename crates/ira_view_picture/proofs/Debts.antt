@@ -1,14 +1,15 @@
 -- Debts, mark by mark.
-use Rattle.std.proofs.Common.{◌≡◌, ℕ, ◌<◌, ◌≤◌, inl, inr, List, [], ◌∷◌, ◌++◌, Some, None, length, refl, sym, ◌∙◌}
+use Rattle.std.proofs.Common.{◌≡◌, ℕ, ◌<◌, ◌≤◌, inl, inr, List, [], ◌∷◌, ◌++◌, Some, None, length, refl, sym, ◌∙◌, ap}
 use Rattle.std.proofs.Common.{subst}
 use Rattle.std.proofs.Common.{arith}
-use Rattle.std.specs.Prelude.{slice_get}
+use Rattle.std.specs.Prelude.{MatchOption, slice_get}
 use Rattle.std.proofs.lemmas.Bool.{cases_lt}
+use Rattle.std.proofs.lemmas.Option.{slice_get_within}
 use Rattle.ira_order.proofs.Pushed.{pushed_cases, pushed_last, pushed_old}
 use Rattle.ira_view_picture.specs.declared.after.After.{After}
 use Rattle.ira_view_picture.specs.declared.band.Span.{Span}
 use Rattle.ira_view_picture.specs.declared.mark.Mark.{Mark}
-use Rattle.ira_view_picture.specs.Band.{AreDebts, Covers, Owes, known_at}
+use Rattle.ira_view_picture.specs.Band.{AreDebts, Covers, IsFilled, Owes, known_at}
 use Rattle.ira_view_picture.proofs.Known.{StandUpTo, known_before, known_from}
 
 -- a debt that is left of column `from`
@@ -17,6 +18,7 @@ pub record IsDebtBefore (start : After) (first : ℕ) (marks : List Mark) (from 
   pub end : ℕ
   pub end_is : s.to ≡ Some end
   pub end_left : end ≤ from
+  pub filled : s.from < end
   pub owes : (c : ℕ) → s.from ≤ c → c < end → Owes (known_at start marks c)
 
 -- the debts up to column `from`, from which on this is known
@@ -28,6 +30,8 @@ pub record AreDebtsBefore (start : After) (first : ℕ) (marks : List Mark) (fro
   pub each : (k : ℕ) (s : Span) → slice_get debts k ≡ Some s → IsDebtBefore start first marks from s
   pub all : (c : ℕ) → first ≤ c → c < from → Owes (known_at start marks c)
       → (k : ℕ) × (s : Span) × (slice_get debts k ≡ Some s) × Covers s c
+  pub apart : (k h : ℕ) (a b : Span) → k < h → slice_get debts k ≡ Some a → slice_get debts h ≡ Some b
+      → MatchOption a.to ⊥ (λ to. to ≤ b.from)
 
 pub no_debts : (start : After) (first : ℕ) → AreDebtsBefore start first [] first start []
 no_debts start first = record {
@@ -36,7 +40,29 @@ no_debts start first = record {
   now = λ c from. refl;
   each = λ k s at. absurd cc;
   all = λ c from before owes. absurd (omega (arith, from, before));
+  apart = λ k h a b less at there. absurd cc;
 }
+
+-- with one more that begins where these have ended
+apart_more : (start : After) (first : ℕ) (marks : List Mark) (from : ℕ) (debts : List Span)
+    → ((k : ℕ) (s : Span) → slice_get debts k ≡ Some s → IsDebtBefore start first marks from s)
+    → ((k h : ℕ) (a b : Span) → k < h → slice_get debts k ≡ Some a → slice_get debts h ≡ Some b
+    → MatchOption a.to ⊥ (λ to. to ≤ b.from))
+    → (s : Span) → s.from ≡ from → (k h : ℕ) (x y : Span) → k < h → slice_get (debts ++ s ∷ []) k ≡ Some x
+    → slice_get (debts ++ s ∷ []) h ≡ Some y → MatchOption x.to ⊥ (λ to. to ≤ y.from)
+apart_more start first marks from debts each apart s is k h x y less at there = elim (pushed_cases debts s y h there) [
+  | inl old_y ↦ elim (pushed_cases debts s x k at) [
+    | inl old_x ↦ apart k h x y less old_x old_y
+    | inr new_x ↦ absurd (omega (arith, less, new_x.0, slice_get_within debts h y old_y))
+  ]
+  | inr new_y ↦ elim (pushed_cases debts s x k at) [
+    | inl old_x ↦
+        let before = each k x old_x in
+        let here : y.from ≡ from = ap (λ (z : Span). z.from) (sym new_y.1) ∙ is in
+        rw before.end_is (omega (arith, before.end_left, here))
+    | inr new_x ↦ absurd (omega (arith, less, new_x.0, new_y.0))
+  ]
+]
 
 module _ (start : After) (first : ℕ) (marks : List Mark) (from : ℕ) (known : After) (debts : List Span)
     (are : AreDebtsBefore start first marks from known debts) (m : Mark) (in_turn : StandUpTo m.column marks)
@@ -50,6 +76,7 @@ module _ (start : After) (first : ℕ) (marks : List Mark) (from : ℕ) (known :
     end = is.end;
     end_is = is.end_is;
     end_left = omega (arith, is.end_left, begun);
+    filled = is.filled;
     owes = λ c low high. subst Owes (sym (known_before start marks m c (omega (arith, high, is.end_left, begun))))
         (is.owes c low high);
   }
@@ -68,17 +95,19 @@ module _ (start : After) (first : ℕ) (marks : List Mark) (from : ℕ) (known :
           | inl before ↦ are.all c low before here
           | inr after ↦ absurd (omega (arith, high, after, none (subst Owes (are.now c after) here)))
         ];
+    apart = are.apart;
   }
 
   -- and one before which something is
-  pub debts_more : (s : Span) → s.from ≡ from → s.to ≡ Some m.column → Owes known
+  pub debts_more : from < m.column → (s : Span) → s.from ≡ from → s.to ≡ Some m.column → Owes known
       → AreDebtsBefore start first (marks ++ m ∷ []) m.column m.after (debts ++ s ∷ [])
-  debts_more s from_is to_is owing =
+  debts_more right_of s from_is to_is owing =
       let new : IsDebtBefore start first (marks ++ m ∷ []) m.column s = record {
         begin = omega (arith, from_is, are.low);
         end = m.column;
         end_is = to_is;
         end_left = omega arith;
+        filled = omega (arith, from_is, right_of);
         owes = λ c low high. subst Owes (sym (known_before start marks m c high
             ∙ are.now c (omega (arith, low, from_is)))) owing;
       } in
@@ -97,6 +126,7 @@ module _ (start : After) (first : ℕ) (marks : List Mark) (from : ℕ) (known :
                   (old.0, old.1, pushed_old debts s old.1 old.0 old.2, old.3))
               | inr after ↦ (length debts, s, pushed_last debts s, (omega (arith, after, from_is), rw to_is high))
             ];
+        apart = apart_more start first marks from debts are.each are.apart s from_is;
       }
 
 -- a debt before the column is one that ends
@@ -115,6 +145,8 @@ debts_end start first marks from known debts are none = record {
     | inr after ↦ absurd (none (subst Owes (are.now c after) owes))
   ];
   each = λ k c s at covers. ended start first marks from c s (are.each k s at) covers;
+  filled = λ k s at. (let is = are.each k s at in rw is.end_is is.filled);
+  apart = are.apart;
 }
 
 -- or something is, up to the right edge
@@ -135,4 +167,9 @@ debts_open start first marks from known debts are s from_is to_is owing = record
           subst Owes (sym (are.now c (omega (arith, here.0, from_is)))) owing,
         )
   ];
+  filled = λ k x at. elim (pushed_cases debts s x k at) [
+    | inl old ↦ (let is = are.each k x old in rw is.end_is is.filled)
+    | inr new ↦ subst IsFilled new.1 (rw to_is tt)
+  ];
+  apart = apart_more start first marks from debts are.each are.apart s from_is;
 }

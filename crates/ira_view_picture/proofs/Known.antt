@@ -14,6 +14,10 @@ use Rattle.ira_view_picture.specs.Band.{known_at}
 abbrev pub StandUpTo : ℕ → List Mark → Type 0
 StandUpTo c marks = (k : ℕ) (m : Mark) → slice_get marks k ≡ Some m → m.column ≤ c
 
+-- all of these marks are left of column c
+abbrev pub StandBefore : ℕ → List Mark → Type 0
+StandBefore c marks = (k : ℕ) (m : Mark) → slice_get marks k ≡ Some m → m.column < c
+
 -- what is read where there is no mark
 abbrev pub no_mark : Mark
 no_mark = record {
@@ -30,13 +34,19 @@ taken_at (suc n) [] k x at = absurd cc
 taken_at (suc n) (y ∷ ys) zero x at = (omega arith, at)
 taken_at (suc n) (y ∷ ys) (suc k) x at = (let rest = taken_at n ys k x at in (omega (arith, rest.0), rest.1))
 
--- of marks that rise none before one is right of it
+-- of marks that rise those before one are left of it
+pub stand_before : (marks : List Mark) → Rises (λ m. m.column) marks → (i : ℕ) (m : Mark)
+    → slice_get marks i ≡ Some m → StandBefore m.column (take i marks)
+stand_before marks rise i m at k x there =
+    let before = taken_at i marks k x there in
+    rise k i x m before.0 before.1 at
+
+pub stand_up_to : (c : ℕ) (marks : List Mark) → StandBefore c marks → StandUpTo c marks
+stand_up_to c marks before k x at = omega (arith, before k x at)
+
 pub stand_in_turn : (marks : List Mark) → Rises (λ m. m.column) marks → (i : ℕ) (m : Mark)
     → slice_get marks i ≡ Some m → StandUpTo m.column (take i marks)
-stand_in_turn marks rise i m at k x there =
-    let before = taken_at i marks k x there in
-    let less : x.column < m.column = rise k i x m before.0 before.1 at in
-    omega (arith, less)
+stand_in_turn marks rise i m at = stand_up_to m.column (take i marks) (stand_before marks rise i m at)
 
 -- what is known at the last of them, and right of it
 pub known_from : (start : After) (marks : List Mark) (m : Mark) (c : ℕ) → StandUpTo m.column marks → m.column ≤ c

@@ -1,9 +1,10 @@
 -- What a node is doing, column by column, and when it owes something.
-use Rattle.std.specs.Prelude.{◌≡◌, ℕ, ◌<◌, ◌≤◌, ⊤, List, [], ◌∷◌, Some, IsSome, MatchOption, nat_le}
+use Rattle.std.specs.Prelude.{◌≡◌, ◌≢◌, ℕ, ◌+◌, ◌<◌, ◌≤◌, ⊤, List, [], ◌∷◌, Some, IsSome, MatchOption, nat_le}
 use Rattle.std.specs.Prelude.{if◌then◌else◌}
 use Rattle.std.specs.Prelude.{slice_get}
 use Rattle.ira_node.specs.declared.phase.Phase.{Phase}
 use Rattle.ira_node.specs.declared.phase.Phase.TheVariants as phase
+use Rattle.ira_order.specs.FaultyEvent.{Rises}
 use Rattle.ira_view_picture.specs.declared.after.After.{After}
 use Rattle.ira_view_picture.specs.declared.after.After.TheVariants as after
 use Rattle.ira_view_picture.specs.declared.band.Band.{Band}
@@ -42,13 +43,21 @@ known_at start (m ∷ marks) c = if nat_le m.column c then known_at m.after mark
 abbrev pub Covers : Span → ℕ → Type 0
 Covers s c = (s.from ≤ c) × MatchOption s.to ⊤ (λ to. c < to)
 
--- each column from the first one on has one band, of the kind of what is known of the node there
+-- the span has a column
+abbrev pub IsFilled : Span → Type 0
+IsFilled s = MatchOption s.to ⊤ (λ to. s.from < to)
+
+-- each column from the first one on has one band, of the kind of what is known of the node there; a band goes on to where
+-- the kind changes
 pub record AreBands (start : After) (first : ℕ) (marks : List Mark) (bands : List Band) : Type 0 where
   pub all : (c : ℕ) → first ≤ c → (k : ℕ) × (b : Band) × (slice_get bands k ≡ Some b) × Covers b.span c
   pub each : (k c : ℕ) (b : Band) → slice_get bands k ≡ Some b → Covers b.span c
       → (first ≤ c) × (b.kind ≡ kind_of (known_at start marks c))
   pub apart : (k h c : ℕ) (a b : Band) → k < h → slice_get bands k ≡ Some a → slice_get bands h ≡ Some b
       → Covers a.span c → ¬ (Covers b.span c)
+  pub filled : (k : ℕ) (b : Band) → slice_get bands k ≡ Some b → IsFilled b.span
+  pub rise : Rises (λ b. b.span.from) bands
+  pub change : (k : ℕ) (a b : Band) → slice_get bands k ≡ Some a → slice_get bands (k + 1) ≡ Some b → a.kind ≢ b.kind
 
 -- a column from the first one on is one of these exactly where the node owes something there
 pub record AreDebts (start : After) (first : ℕ) (marks : List Mark) (debts : List Span) : Type 0 where
@@ -56,3 +65,6 @@ pub record AreDebts (start : After) (first : ℕ) (marks : List Mark) (debts : L
       × Covers s c
   pub each : (k c : ℕ) (s : Span) → slice_get debts k ≡ Some s → Covers s c
       → (first ≤ c) × Owes (known_at start marks c)
+  pub filled : (k : ℕ) (s : Span) → slice_get debts k ≡ Some s → IsFilled s
+  pub apart : (k h : ℕ) (a b : Span) → k < h → slice_get debts k ≡ Some a → slice_get debts h ≡ Some b
+      → MatchOption a.to ⊥ (λ to. to ≤ b.from)

@@ -25,7 +25,7 @@ loop-mark-preserved g c =
       | then-owes+then-from-column+in_ok-push w ↦
           rw (w.debts-is, w.in_ok-push.ensures.items)
           (debts_more c.args.start c.args.first (take i marks) c.loop-mark.from c.loop-mark.known
-          c.loop-mark.debts.items c.loop-mark.invariant m in_turn right
+          c.loop-mark.debts.items c.loop-mark.invariant m in_turn right w.if-from-column.true
           (record { from = c.loop-mark.from; to = Some m.column }) refl refl (c.owes.ensures.0 w.if-owes.true))
       | else-owes w ↦
           rw w.debts-is
