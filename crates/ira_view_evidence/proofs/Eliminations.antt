@@ -3,7 +3,7 @@ use Rattle.std.proofs.Common.{◌≡◌, ℕ, ◌+◌, ◌<◌, ◌≤◌, inl, 
 use Rattle.std.proofs.Common.{take, refl, sym, ◌∙◌, ap, subst, arith}
 use Rattle.std.proofs.Math.Seq.{take-append_seam}
 use Rattle.std.proofs.lemmas.Bool.{cases_eq, cases_lt}
-use Rattle.std.proofs.lemmas.List.{take-append-le}
+use Rattle.std.proofs.lemmas.List.{length-append, take-append-le, take_more}
 use Rattle.std.proofs.lemmas.Option.{same_Some, get_or_from_slice_get, slice_get-get_or, slice_get_within}
 use Rattle.ira_event.specs.Log.{Log}
 use Rattle.ira_pred.specs.Case.{Conjunct}
@@ -20,7 +20,7 @@ use Rattle.ira_cert.proofs.NoCut.{rising_le}
 use Rattle.ira_cert.proofs.OneList.{one_list}
 use Rattle.ira_view_evidence.specs.declared.elimination.Elimination.{Elimination}
 use Rattle.ira_view_evidence.specs.Absence.{ShowsAbsence}
-use Rattle.ira_view_evidence.specs.Elimination.{AreEliminations, IsAdded, IsCandidate, IsEliminated, IsElimination}
+use Rattle.ira_view_evidence.specs.Elimination.{AreEliminations, AreOfSteps, IsAdded, IsCandidate, IsEliminated, IsElimination}
 use Rattle.ira_view_evidence.specs.Elimination.{IsFurther, ending, of_step}
 use Rattle.ira_order.proofs.Pushed.{pushed_cases, pushed_last, pushed_old}
 
@@ -96,6 +96,15 @@ pub record AreSoFar (logs : List Log) (case : List Conjunct) (steps : List CertS
       → slice_get positions x ≡ Some p → IsEliminated all i p
   pub last : (before : List Elimination) (e : Elimination) → all ≡ before ++ e ∷ [] → IsLastMade logs case steps e
 
+-- before the first step
+pub none_so_far : (logs : List Log) (case : List Conjunct) → AreSoFar logs case [] []
+none_so_far logs case = record {
+  each = λ h e at. absurd cc;
+  covered = λ i x p positions are less at. absurd (omega (arith, less));
+  last = λ before e same. absurd (let none : length {A = Elimination} [] ≡ length (before ++ e ∷ []) = ap length same in
+      omega (arith, none, length-append before (e ∷ [])));
+}
+
 module _ (logs : List Log) (case : List Conjunct) (differ : HasDifferentPlaces case) (steps : List CertStep) (k : ℕ)
     (s : CertStep) (at : slice_get steps k ≡ Some s) (sound : IsSoundStep logs case (take k steps) s)
     (all : List Elimination) (so_far : AreSoFar logs case (take k steps) all) where
@@ -136,10 +145,21 @@ module _ (logs : List Log) (case : List Conjunct) (differ : HasDifferentPlaces c
         ),
       )
 
+  asked_own : IsCandidate logs case s.node s.pos
+  asked_own =
+      let front = sound.front in (
+        front.0,
+        front.1,
+        (m, slice_get_within front.0 m s.pos front.2, get_or_from_slice_get front.0 m s.pos s.pos front.2),
+      )
+
   -- the step makes an elimination of its own
   own_elimination : IsElimination logs case all (of_step s)
   own_elimination = record {
     differ = sound.differ;
+    first = asked_own;
+    last = asked_own;
+    run = omega arith;
     over = sound.happened_before;
     each = λ p cand first last.
         let same : s.pos ≡ p = omega arith in
@@ -234,6 +254,9 @@ module _ (logs : List Log) (case : List Conjunct) (differ : HasDifferentPlaces c
     longer : IsElimination logs case before e'
     longer = record {
       differ = parts.1.differ;
+      first = parts.1.first;
+      last = subst (λ (i : ℕ). IsCandidate logs case i s.pos) (sym further.goes_on.0) asked_own;
+      run = omega (arith, parts.1.run, later);
       over = over;
       each = λ p cand first last.
           before_earlier logs e.node (p + 1) (s.pos + 1) e.other e.other_pos (omega arith) (omega arith) over;
@@ -286,7 +309,7 @@ module _ (logs : List Log) (case : List Conjunct) (differ : HasDifferentPlaces c
   -- with the step added
   pub next_so_far : (new : List Elimination) → IsAdded all s new → AreSoFar logs case (take (k + 1) steps) new
   next_so_far new added = elim added [
-    | inl one ↦ subst (λ (xs : List Elimination). AreSoFar logs case (take (k + 1) steps) xs) (sym one) next_own
+    | inl one ↦ subst (λ (xs : List Elimination). AreSoFar logs case (take (k + 1) steps) xs) (sym one.0) next_own
     | inr further ↦ next_further new further
   ]
 
@@ -318,3 +341,13 @@ next_read logs case differ steps read same k d within sound all new so_far added
     let at : slice_get steps k ≡ Some s =
     sym (ap (λ (xs : List CertStep). slice_get xs k) same) ∙ slice_get-get_or read k d within in
     next_so_far logs case differ steps k s at (sound k s at) all so_far new added
+
+-- of the steps that are read too
+pub steps_read : (steps read : List CertStep) (same : read ≡ steps) (k : ℕ) (d : CertStep) (within : k < length read)
+    (all new : List Elimination) → AreOfSteps (take k steps) all → IsAdded all (get_or read k d) new
+    → AreOfSteps (take (k + 1) steps) new
+steps_read steps read same k d within all new so_far added =
+    let whole : take (k + 1) read ≡ take k read ++ get_or read k d ∷ [] = take_more read k d within in
+    subst (λ (xs : List CertStep). AreOfSteps (take (k + 1) xs) new) same
+    (rw whole (AreOfSteps.added (take k read) (get_or read k d) all new
+    (subst (λ (xs : List CertStep). AreOfSteps (take k xs) all) (sym same) so_far) added))

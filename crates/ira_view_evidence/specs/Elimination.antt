@@ -16,13 +16,15 @@ abbrev pub IsEliminated : List Elimination → ℕ → ℕ → Type 0
 IsEliminated all i p =
     (h : ℕ) × (e : Elimination) × (slice_get all h ≡ Some e) × (e.node ≡ i) × (e.first ≤ p) × (p ≤ e.last)
 
--- after those before it: the event after its last state happened before the one that led to the other node's state, and
--- so did the event after each of its states that the case asks for; and the other node's earlier states that the case
--- asks
--- for are eliminated
+-- after those before it: from one state that the case asks for to another; the event after its last state happened
+-- before the one that led to the other node's state, and so did the event after each of its states that the case asks
+-- for; and the other node's earlier states that the case asks for are eliminated
 pub record IsElimination (logs : List Log) (case : List Conjunct) (before : List Elimination) (e : Elimination)
     : Type 0 where
   pub differ : e.node ≢ e.other
+  pub first : IsCandidate logs case e.node e.first
+  pub last : IsCandidate logs case e.node e.last
+  pub run : e.first ≤ e.last
   pub over : Before logs e.node (e.last + 1) e.other e.other_pos
   pub each :
       (p : ℕ) → IsCandidate logs case e.node p → e.first ≤ p → p ≤ e.last
@@ -55,6 +57,16 @@ pub record IsFurther (old : List Elimination) (s : CertStep) (new : List Elimina
   pub goes_on : GoesOnWith last s
   pub new_is : new ≡ before ++ ending last s.pos ∷ []
 
+-- there is no last one of them that goes on with the step
+abbrev pub HasEnded : List Elimination → CertStep → Type 0
+HasEnded old s = (before : List Elimination) (last : Elimination) → old ≡ before ++ last ∷ [] → ¬ (GoesOnWith last s)
+
 -- the step is added to them
 abbrev pub IsAdded : List Elimination → CertStep → List Elimination → Type 0
-IsAdded old s new = (new ≡ old ++ of_step s ∷ []) ⊎ IsFurther old s new
+IsAdded old s new = ((new ≡ old ++ of_step s ∷ []) × HasEnded old s) ⊎ IsFurther old s new
+
+-- they are these steps, added one after the other
+pub data AreOfSteps : List CertStep → List Elimination → Type 0 where
+  none : AreOfSteps [] []
+  added : (steps : List CertStep) (s : CertStep) (old new : List Elimination) → AreOfSteps steps old → IsAdded old s new
+      → AreOfSteps (steps ++ s ∷ []) new

@@ -1,10 +1,10 @@
-ghost use Rattle.std.specs.Prelude.{List, IfOk, OnOk};
+ghost use Rattle.std.specs.Prelude.{◌≡◌, List, IfOk, OnOk};
 ghost use Rattle.ira_event.specs.Log.{Log};
 ghost use Rattle.ira_pred.specs.Case.{Conjunct};
 ghost use Rattle.ira_cert.specs.Conjuncts.{HasDifferentPlaces};
 ghost use Rattle.ira_cert.specs.SoundSection.{IsSoundSection};
 ghost use Rattle.ira_view_evidence.specs.Absence.{ShowsAbsence};
-ghost use Rattle.ira_view_evidence.specs.Elimination.{IsAdded};
+ghost use Rattle.ira_view_evidence.specs.Elimination.{AreOfSteps, IsAdded};
 
 use crate::elimination::Elimination;
 use ira_cert::{CertStep, Section};
@@ -45,9 +45,11 @@ impl<A: Allocator> Absence<A> {
         alloc: A,
         section: &Section<B>,
     ) -> Result<Absence<A>, OutOfMemory>
-        ensures { (logs : List Log) (case : List Conjunct) → HasDifferentPlaces case
+        ensures absence { (logs : List Log) (case : List Conjunct) → HasDifferentPlaces case
             → IsSoundSection logs case section.now
             → IfOk result (λ absence. ShowsAbsence logs case absence.eliminations.items absence.spent) }
+        ensures steps { IfOk result (λ absence. AreOfSteps section.now.steps absence.eliminations.items) }
+        ensures spent { IfOk result (λ absence. absence.spent ≡ section.now.spent) }
     {
         let mut eliminations = Vec::new(alloc);
         for step in &section.steps {
