@@ -1,4 +1,5 @@
 ghost use Rattle.std.specs.Prelude.{◌≡◌, ◌-◌, ◌%◌, ◌^◌, ◌<◌, ◌≤◌, MatchOption};
+ghost use denote.RawPtr.{◌+ₚ◌};
 ghost use types.Logic.{sem};
 ghost use Rattle.ira_lent.specs.Room.{lies_free};
 
@@ -30,8 +31,9 @@ impl Room {
         requires whole { size % 16 ≡ 0 }
         requires small { size < 2 ^ 63 }
         ensures { MatchOption result.0
-            ((self.size < size) × (result.1.size ≡ self.size))
-            (λ front. (size ≤ self.size) × (front.size ≡ size) × (result.1.size ≡ self.size - size)) }
+            ((self.size < size) × (result.1.start ≡ self.start) × (result.1.size ≡ self.size))
+            (λ front. (size ≤ self.size) × (front.start ≡ self.start) × (front.size ≡ size)
+            × (result.1.start ≡ self.start +ₚ size) × (result.1.size ≡ self.size - size)) }
     {
         let Room { start, size: all } = self;
         if all < size {

@@ -1,5 +1,5 @@
 -- The room is cut at the pointer that is moved on. Assumes `Logic`.
-use Rattle.std.proofs.Common.{◌≡◌, ◌+◌, ◌-◌, ◌^◌, ◌<◌, ◌≤◌, ◌%◌, MatchOption, List, [], ◌∷◌, ◌++◌, refl, ap, ◌∙◌, arith, lit<, nltb→le, ltb→lt, w64, Some, None}
+use Rattle.std.proofs.Common.{◌≡◌, ◌+◌, ◌-◌, ◌^◌, ◌<◌, ◌≤◌, ◌%◌, MatchOption, List, [], ◌∷◌, ◌++◌, refl, sym, ap, ◌∙◌, arith, lit<, nltb→le, ltb→lt, w64, Some, None}
 use mir.Syntax.{offset}
 use mir.Val.{Val, vint, vptr, vcons, vnil, op2_val}
 use base.Logic.{id⊢, via}
@@ -14,7 +14,7 @@ use types.ByLocal.{alloc_all, pass_all, free_all, look_at, get, get_in, sets, se
 use denote.Builtin.{usize}
 use denote.Exit.{yes}
 use denote.RattleType.{RattleType, owns}
-use denote.RawPtr.{Ptr, block_ptr, in_a_block}
+use denote.RawPtr.{Ptr, block_ptr, in_a_block, ◌+ₚ◌}
 use denote.Signature.{plain, types_at}
 use denote.Steps.{nothing, heard}
 use denote.Struct.Tuple.{Tuple}
@@ -49,8 +49,9 @@ cut_spec 𝓤 𝓛 𝓜 𝓡 wired =
     (Goes-blank 𝓛 0 (plain (λ _. Room)) yes (λ κs x w. tt), (Goes-dropped 𝓛 0 (plain (λ _. usize)) yes (λ κs x w. refl), tt))
     f.Key.name code.function (code.unfolded 𝓤 𝓛.H 𝓜 𝓡 wired) (λ z are.
     let all = z.0.3.0 in let n = all.size in let k = z.0.3.1.0 in
-    let Said : Found.Denot → Type 0 = λ found. MatchOption found.0 ((n < k) × (found.1.size ≡ n))
-    (λ front. (k ≤ n) × (front.size ≡ k) × (found.1.size ≡ n - k)) in
+    let Said : Found.Denot → Type 0 = λ found. MatchOption found.0 ((n < k) × (found.1.start ≡ all.start) × (found.1.size ≡ n))
+    (λ front. (k ≤ n) × (front.start ≡ all.start) × (front.size ≡ k) × (found.1.start ≡ all.start +ₚ k)
+    × (found.1.size ≡ n - k)) in
     let told = sized_told all.start n z.0.4.0 are.0.0 in
     let room_at : Ptr → _ → Room.Denot = λ p m. record { start = p; size = m } in
     let out : (found : Found.Denot) (v : Val) → Said found → Sq 𝓛 (‵ (Found.own_val found (v ∷ [])) ∷ []) (prop (W.post z v)) = λ found v said.
@@ -80,7 +81,7 @@ cut_spec 𝓤 𝓛 𝓜 𝓡 wired =
     use0 𝓛 (‵ ((option.the_row Room).own_val None (live 0 vnil ∷ []))) (none_of 𝓛 Room) $
     use2 𝓛 (‵ (Found.own_val (None, room_at at n) (pair_val (live 0 vnil) (sized_val at n) ∷ [])))
     (pair_of 𝓛 (option.the_row Room) Room None (room_at at n) (live 0 vnil) (sized_val at n)) $
-    out (None, room_at at n) _ (ltb→lt n k less, refl))
+    out (None, room_at at n) _ (ltb→lt n k less, sym e, refl))
     (λ more. let enough : k ≤ n = nltb→le n k more in let next = block_ptr b (o + k) in
     let left : n - k < 2 ^ 64 = omega (arith, told.1) in
     let moved : op2_val offset (vptr b o) (vint w64 k) ≡ vptr b (o + k) = ap (vptr b) (omega arith) in
@@ -103,4 +104,4 @@ cut_spec 𝓤 𝓛 𝓜 𝓡 wired =
     move ! (1 ∷ []) $ use0 𝓛 (‵ (sized_own next (n - k) (sized_val next (n - k) ∷ []))) (sized_made 𝓛 next (n - k) left) $ fjoin ! $ move ! (1 ∷ 0 ∷ []) $
     use2 𝓛 (‵ (Found.own_val (Some (room_at at k), room_at next (n - k)) (pair_val (live 1 (vcons (sized_val at k) vnil)) (sized_val next (n - k)) ∷ [])))
     (pair_of 𝓛 (option.the_row Room) Room (Some (room_at at k)) (room_at next (n - k)) (live 1 (vcons (sized_val at k) vnil)) (sized_val next (n - k))) $
-    out (Some (room_at at k), room_at next (n - k)) _ (enough, refl, refl)))))))
+    out (Some (room_at at k), room_at next (n - k)) _ (enough, sym e, refl, ap (λ (p : Ptr). p +ₚ k) (sym e), refl)))))))
