@@ -1,3 +1,4 @@
+pub mod Deciding
 pub mod Served
 pub mod Texts
 pub mod Written

@@ -1,4 +1,6 @@
+pub mod Decide
 pub mod Files
+pub mod Pairs
 pub mod Reply
 pub mod Request
 pub mod Serves

@@ -1,20 +1,32 @@
 -- What comes of a request.
-use Rattle.std.specs.Prelude.{◌≡◌, ℕ, List, [], ◌∷◌, length, map, take}
+use Rattle.std.specs.Prelude.{◌≡◌, ℕ, List, [], ◌++◌, ◌∷◌, length, map, take}
 use Rattle.std.specs.List.{flat_map}
 use Rattle.ira_audit.specs.Report.{report_line}
 use Rattle.ira_audit.specs.declared.answer.Answer.{Answer}
 use Rattle.ira_web.specs.Status.{answer_status}
 use Rattle.ira_web.specs.declared.status.Status.{Status}
+use Rattle.ira_web.specs.declared.status.Status.TheVariants.{Refused}
 
 -- a status; and in parts what is printed on standard output, what on standard error, and each file that is written
 pub record Reply : Type 0 where
   pub status : Status
   pub parts : List (List ℕ)
 
--- the line of the answer is printed, with its status
-abbrev pub IsAnswerReply : Answer → Reply → Type 0
-IsAnswerReply answer reply =
-    (reply.status ≡ answer_status answer) × (reply.parts ≡ report_line answer ∷ [] ∷ [])
+-- this text is printed on standard output, and nothing else
+abbrev pub printed : Status → List ℕ → Reply
+printed status text = record { status = status; parts = text ∷ [] ∷ [] }
+
+-- this line is printed on standard error, since what is asked for is refused
+abbrev pub refused : List ℕ → Reply
+refused line = record { status = Refused; parts = [] ∷ line ∷ [] }
+
+-- besides, this file is written
+abbrev pub with_file : Reply → List ℕ → Reply
+with_file reply file = record { status = reply.status; parts = reply.parts ++ file ∷ [] }
+
+-- the line of an answer is printed, with its status
+abbrev pub Reports : Answer → Reply → Type 0
+Reports answer reply = reply ≡ printed (answer_status answer) (report_line answer)
 
 -- a list begins with these
 abbrev pub Begins : List ℕ → List ℕ → Type 0

@@ -2,10 +2,12 @@
 //! would print and write of it.
 #![tactic(auto)]
 
+mod decide;
 mod export;
 mod files;
 mod judged;
 mod logs;
+mod pairs;
 mod reply;
 mod request;
 mod serve;

@@ -1,11 +1,12 @@
 ghost use Rattle.std.specs.Prelude.{◌≡◌, ◌≤◌, ◌+◌, ◌++◌, ◌∷◌, [], IfOk, IsTrue, length, map, take};
-ghost use Rattle.ira_audit.specs.Report.{IsReportable};
+ghost use Rattle.ira_audit.specs.Report.{IsReportable, report_line};
 ghost use Rattle.std.specs.List.{flat_map};
-ghost use Rattle.ira_web.specs.Reply.{Begins, IsAnswerReply, IsTold};
+ghost use Rattle.ira_web.specs.Reply.{Begins, IsTold, Reports, printed, refused, with_file};
+ghost use Rattle.ira_web.specs.Status.{answer_status};
 
 use crate::status::Status;
 use ira_audit::{Answer, write_report};
-use ira_event::{MemorySink, OutOfMemory};
+use ira_event::{MemorySink, OutOfMemory, WriteFault, write_bytes};
 use std::alloc::{AllocError, Allocator};
 use std::marker::Model;
 
@@ -49,6 +50,17 @@ fn write_parts<A: Allocator>(parts: &[MemorySink<A>], out: &mut [u8]) -> bool
     true
 }
 
+/// A text in memory.
+pub(crate) fn kept<A: Allocator>(alloc: A, text: &[u8]) -> Result<MemorySink<A>, OutOfMemory>
+    ensures { IfOk result (λ sink. sink.bytes ≡ text.now) }
+{
+    let mut sink = MemorySink::new(alloc);
+    match write_bytes(text, &mut sink) {
+        Ok(()) => Ok(sink),
+        Err(WriteFault) => Err(OutOfMemory),
+    }
+}
+
 /// What comes of a request, in parts: what the program would print on standard output, what on standard error, and each
 /// file that it would write.
 #[derive(Drop)]
@@ -70,7 +82,7 @@ impl<A: Allocator + Clone> Reply<A> {
     /// The line of an answer.
     pub(crate) fn of_answer(alloc: A, answer: &Answer) -> Result<Reply<A>, OutOfMemory>
         requires { IsReportable answer.now }
-        ensures { IfOk result (IsAnswerReply answer.now) }
+        ensures { IfOk result (Reports answer.now) }
     {
         let mut line = MemorySink::new(alloc.clone()?);
         let Ok(()) = write_report(answer, &mut line) else {
@@ -79,17 +91,47 @@ impl<A: Allocator + Clone> Reply<A> {
         Ok(Reply::printed(alloc, Status::of_answer(answer), line)?)
     }
 
+    /// What is printed on standard output, and what on standard error.
+    pub(crate) fn of_texts(
+        alloc: A,
+        status: Status,
+        out: MemorySink<A>,
+        err: MemorySink<A>,
+    ) -> Result<Reply<A>, AllocError>
+        ensures { IfOk result (λ reply. reply ≡ record { status = status; parts = out.bytes ∷ err.bytes ∷ [] }) }
+    {
+        let mut parts = Vec::with_capacity(alloc, 2)?;
+        parts.push(out)?;
+        parts.push(err)?;
+        Ok(Reply { status, parts })
+    }
+
     /// What is printed on standard output, and nothing else.
     pub(crate) fn printed(
         alloc: A,
         status: Status,
         text: MemorySink<A>,
     ) -> Result<Reply<A>, AllocError>
-        ensures { IfOk result (λ reply. reply ≡ record { status = status; parts = text.bytes ∷ [] ∷ [] }) }
+        ensures { IfOk result (λ reply. reply ≡ printed status text.bytes) }
     {
-        let mut parts = Vec::with_capacity(alloc.clone()?, 2)?;
-        parts.push(text)?;
-        parts.push(MemorySink::new(alloc))?;
+        let nothing = MemorySink::new(alloc.clone()?);
+        Reply::of_texts(alloc, status, text, nothing)
+    }
+
+    /// A line on standard error, since what is asked for is refused.
+    pub(crate) fn refused(alloc: A, line: MemorySink<A>) -> Result<Reply<A>, AllocError>
+        ensures { IfOk result (λ reply. reply ≡ refused line.bytes) }
+    {
+        let nothing = MemorySink::new(alloc.clone()?);
+        Reply::of_texts(alloc, Status::Refused, nothing, line)
+    }
+
+    /// The same with a file that is written.
+    pub(crate) fn with_file(self, file: MemorySink<A>) -> Result<Reply<A>, AllocError>
+        ensures { IfOk result (λ reply. reply ≡ with_file self file.bytes) }
+    {
+        let Reply { status, mut parts } = self;
+        parts.push(file)?;
         Ok(Reply { status, parts })
     }
 

@@ -8,6 +8,10 @@ pub(crate) enum Request {
     OneLog,
     /// The answer of the logs of a ring.
     Logs,
+    /// What is found for a question about logs, and its certificate.
+    Decide,
+    /// The question whether two nodes of a ring of so many ever lead at once.
+    Pairs(u64),
 }
 
 impl Request {
@@ -18,6 +22,8 @@ impl Request {
         match values {
             [0] => Some(Request::OneLog),
             [1] => Some(Request::Logs),
+            [9] => Some(Request::Decide),
+            [11, nodes] => Some(Request::Pairs(*nodes)),
             _ => None,
         }
     }

@@ -1,7 +1,9 @@
 ghost use Rattle.std.specs.Prelude.{IfOk, IfSome};
 ghost use Rattle.ira_web.specs.Serves.{Serves};
 
+use crate::decide::decide_files;
 use crate::logs::{judge_log, judge_logs};
+use crate::pairs::ask_pairs;
 use crate::reply::Reply;
 use crate::request::Request;
 use ira_event::OutOfMemory;
@@ -14,16 +16,22 @@ pub(crate) fn serve<A: Allocator + Clone>(
     request: Request,
     files: &[NamedText<'_>],
 ) -> Result<Option<Reply<A>>, OutOfMemory>
-    ensures { IfOk result (λ served. IfSome served (Serves request files.now)) }
+    ensures { IfOk result (λ served. IfSome served (Serves A request files.now)) }
 {
-    let reply = match request {
+    match request {
         Request::OneLog => {
             let [log] = files else {
                 return Ok(None);
             };
-            judge_log(alloc, log)?
+            Ok(Some(judge_log(alloc, log)?))
         }
-        Request::Logs => judge_logs(alloc, files)?,
-    };
-    Ok(Some(reply))
+        Request::Logs => Ok(Some(judge_logs(alloc, files)?)),
+        Request::Decide => decide_files(alloc, files),
+        Request::Pairs(nodes) => {
+            let [] = files else {
+                return Ok(None);
+            };
+            Ok(Some(ask_pairs(alloc, nodes)?))
+        }
+    }
 }

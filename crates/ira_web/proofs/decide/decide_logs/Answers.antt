@@ -1,0 +1,30 @@
+use Rattle.ira_audit.proofs.Deciding.{found_asked}
+use Rattle.ira_audit.specs.declared.findings.Findings.TheVariants.{Refused}
+use Rattle.ira_web.proofs.Served.{if_ok}
+use Rattle.ira_web.specs.Decide.PrintsDecided.{no_certificate}
+use Rattle.ira_web.specs.Files.{texts_of}
+use Rattle.ira_web.proofs.decide.decide_logs.Goals as goal
+
+pub of_answer-requires : goal.of_answer-requires
+of_answer-requires g c =
+    (rw c.in-Err-No.field-0-is at (c.in-Err-No.ensures (texts_of c.args.logs.now) c.in_ok-judged.ensures)).1
+
+pub returns-in_ok-decide_counted-in-Ok : goal.returns-in_ok-decide_counted-in-Ok
+returns-in_ok-decide_counted-in-Ok g c =
+    let texts = texts_of c.args.logs.now in
+    let posed = c.in-Ok.ensures texts c.in_ok-judged.ensures in
+    let found = c.in_ok-decide_counted-in-Ok.ensures in
+    if_ok c.tell_decided.result (λ reply told. record {
+      findings = found.0;
+      found = (found_asked texts c.args.question.now c.in-Ok.asked posed found.0 found.1).0;
+      told = told;
+    }) (c.tell_decided.ensures found.0 found.2)
+
+pub returns-in-Err-No : goal.returns-in-Err-No
+returns-in-Err-No g c =
+    let why = rw c.in-Err-No.field-0-is at (c.in-Err-No.ensures (texts_of c.args.logs.now) c.in_ok-judged.ensures) in
+    if_ok c.of_answer.result (λ reply told. record {
+      findings = Refused c.in-Err-No.reason;
+      found = why.0;
+      told = no_certificate tt told;
+    }) c.of_answer.ensures
