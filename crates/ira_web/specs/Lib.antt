@@ -1,3 +1,4 @@
+pub mod Check
 pub mod Decide
 pub mod Files
 pub mod Pairs

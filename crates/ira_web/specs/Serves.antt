@@ -8,6 +8,7 @@ use Rattle.ira_audit.specs.declared.answer.Answer.{Answer}
 use Rattle.ira_audit.specs.declared.answer.Answer.TheVariants.{Yes}
 use Rattle.ira_view_page.specs.declared.named_text.NamedText.{NamedText}
 use Rattle.ira_lent.specs.declared.lent.Lent.{Lent}
+use Rattle.ira_web.specs.Check.{ChecksFiles}
 use Rattle.ira_web.specs.Decide.{DecidesFiles, PrintsDecided}
 use Rattle.ira_web.specs.Files.{AreFiles, texts_of}
 use Rattle.ira_web.specs.Pairs.{AsksPairs}
@@ -15,7 +16,7 @@ use Rattle.ira_web.specs.Reply.{IsTold, Reply, Reports}
 use Rattle.ira_web.specs.Request.{values_of}
 use Rattle.ira_web.specs.Status.{status_number}
 use Rattle.ira_web.specs.declared.request.Request.{Request}
-use Rattle.ira_web.specs.declared.request.Request.TheVariants.{Decide, Logs, OneLog, Pairs}
+use Rattle.ira_web.specs.declared.request.Request.TheVariants.{Check, Decide, Logs, OneLog, Pairs}
 
 -- the answer of the text of one log alone is printed
 pub record JudgesLog (text : List ℕ) (reply : Reply) : Type 0 where
@@ -35,6 +36,7 @@ abbrev pub Serves : Type 0 → Request → List NamedText → Reply → Type 0
 Serves A OneLog files reply = (log : NamedText) × (files ≡ log ∷ []) × JudgesLog log.text.now reply
 Serves A Logs files reply = JudgesLogs (texts_of files) reply
 Serves A Decide files reply = DecidesFiles {A = A} PrintsDecided files reply
+Serves A Check files reply = ChecksFiles files reply
 Serves A (Pairs nodes) files reply = (files ≡ []) × AsksPairs nodes reply
 
 -- the values are those of a request, lengths and bytes those of its files, and this comes of it

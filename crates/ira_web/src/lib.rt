@@ -2,6 +2,7 @@
 //! would print and write of it.
 #![tactic(auto)]
 
+mod check;
 mod decide;
 mod export;
 mod files;

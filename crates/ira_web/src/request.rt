@@ -10,6 +10,8 @@ pub(crate) enum Request {
     Logs,
     /// What is found for a question about logs, and its certificate.
     Decide,
+    /// The answer of logs, of a question and of a certificate.
+    Check,
     /// The question whether two nodes of a ring of so many ever lead at once.
     Pairs(u64),
 }
@@ -23,6 +25,7 @@ impl Request {
             [0] => Some(Request::OneLog),
             [1] => Some(Request::Logs),
             [9] => Some(Request::Decide),
+            [10] => Some(Request::Check),
             [11, nodes] => Some(Request::Pairs(*nodes)),
             _ => None,
         }

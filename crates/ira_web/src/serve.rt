@@ -1,6 +1,7 @@
 ghost use Rattle.std.specs.Prelude.{IfOk, IfSome};
 ghost use Rattle.ira_web.specs.Serves.{Serves};
 
+use crate::check::check_files;
 use crate::decide::decide_files;
 use crate::logs::{judge_log, judge_logs};
 use crate::pairs::ask_pairs;
@@ -27,6 +28,7 @@ pub(crate) fn serve<A: Allocator + Clone>(
         }
         Request::Logs => Ok(Some(judge_logs(alloc, files)?)),
         Request::Decide => decide_files(alloc, files),
+        Request::Check => check_files(alloc, files),
         Request::Pairs(nodes) => {
             let [] = files else {
                 return Ok(None);
