@@ -84,7 +84,7 @@ rise_more : (start : After) (first : ℕ) (marks : List Mark) (from : ℕ) (band
     → Rises (λ b. b.span.from) bands → (b : Band) → b.span.from ≡ from → Rises (λ b. b.span.from) (bands ++ b ∷ [])
 rise_more start first marks from bands each rise b is =
     rises_pushed (λ x. x.span.from) bands b rise (λ k x at.
-        let before = each k x at in omega (arith, before.filled, before.end_left, is))
+    let before = each k x at in omega (arith, before.filled, before.end_left, is))
 
 module _ (start : After) (first : ℕ) (marks : List Mark) (from : ℕ) (kind : BandKind) (bands : List Band)
     (are : AreBandsBefore start first marks from kind bands) (m : Mark) (before : StandBefore m.column marks)
