@@ -1,2 +1,5 @@
 mod Findings
+mod ForEach
+mod LogFiles
 mod Parts
+mod Told

@@ -1,5 +1,5 @@
 -- What stands against the logs of a ring, and what an explanation tells of it.
-use Rattle.std.specs.Prelude.{◌≡◌, ◌≢◌, ◌↔◌, ◌⊎◌, ℕ, IsTrue, List, [], ◌∷◌, ◌++◌, MatchOption, Option, None, Some, ⊤}
+use Rattle.std.specs.Prelude.{◌≡◌, ◌≢◌, ◌↔◌, ◌⊎◌, IsTrue, List, [], ◌∷◌, ◌++◌, MatchOption, Option, None, Some}
 use Rattle.std.specs.Prelude.{codes, slice_get, string_bytes}
 use Rattle.ira_event.specs.declared.event.Event.{Event}
 use Rattle.ira_event.specs.declared.event.Event.TheVariants.{Got, Sent as EventSent}
@@ -9,7 +9,8 @@ use Rattle.ira_order.specs.declared.event_at.EventAt.{EventAt}
 use Rattle.ira_order.specs.declared.faulty_event.FaultyEvent.{FaultyEvent}
 use Rattle.ira_order.specs.Ring.{log_of, numbered}
 use Rattle.ira_audit.specs.declared.reason.Reason.{Reason}
-use Rattle.ira_audit.specs.declared.reason.Reason.TheVariants.{Match, Circle as CircleReason, Replay}
+use Rattle.ira_audit.specs.declared.reason.Reason.TheVariants.{Circle as CircleReason, Heads, Log as LogReason, Match}
+use Rattle.ira_audit.specs.declared.reason.Reason.TheVariants.{Replay}
 use Rattle.ira_audit.specs.declared.judged.Judged.{Judged}
 use Rattle.ira_audit.specs.declared.judged.Judged.TheVariants.{Good, Refused, NoRing}
 use Rattle.ira_audit.specs.RefusedLogs.{RefusedLogs}
@@ -23,6 +24,8 @@ use Rattle.ira_view_page.specs.declared.evidence.Evidence.{Evidence}
 use Rattle.ira_view_page.specs.declared.evidence.Evidence.TheVariants.{Faulty, OtherFaulty, Received, Sent}
 use Rattle.ira_view_page.specs.declared.named_text.NamedText.{NamedText}
 use Rattle.ira_view_page.specs.declared.record_at.RecordAt.{RecordAt}
+use Rattle.ira_view_explain.specs.HeadsTold.{AreHeadsTold}
+use Rattle.ira_view_explain.specs.TextTold.{IsTextTold}
 use Rattle.ira_view_explain.specs.declared.refused_finding.RefusedFinding.{RefusedFinding}
 use Rattle.ira_view_explain.specs.declared.refused_finding.RefusedFinding.TheVariants.{Link, Circle, Steps}
 use Rattle.ira_view_explain.specs.declared.steps_finding.OtherStop.{OtherStop}
@@ -108,8 +111,8 @@ pub record AreStepsTold {A : Type 0} (files : List NamedText) (at : EventAt) (ev
 abbrev pub IsFinding : {A : Type 0} → List Log → Reason → List FaultyEvent → RefusedFinding A → Type 0
 IsFinding logs (Match f) faulty (Link link) =
     IsLinkEvidence logs f (record { receipt = link.receipt; sending = link.sending })
-IsFinding logs CircleReason faulty (Circle circle first) =
-    IsCircleEvidence logs circle.ordered circle.stuck.items × (first ≡ slice_get faulty 0)
+IsFinding logs CircleReason faulty (Circle found) =
+    IsCircleEvidence logs found.circle.ordered found.circle.stuck.items × (found.faulty ≡ slice_get faulty 0)
 IsFinding logs (Replay place position fault) faulty (Steps steps) =
     AreSteps logs faulty (record { at = record { place = place; position = position }; fault = fault }) steps
 IsFinding logs _ faulty _ = ⊥
@@ -117,7 +120,7 @@ IsFinding logs _ faulty _ = ⊥
 -- what a finding rests on
 abbrev pub AreTold : {A : Type 0} → List NamedText → RefusedFinding A → List (Evidence A) → Type 0
 AreTold files (Link link) told = AreSidesTold files link.sending link.receipt told
-AreTold files (Circle circle first) told = AreParts (AreStuckTold files) circle.stuck.items told
+AreTold files (Circle found) told = AreParts (AreStuckTold files) found.circle.stuck.items told
 AreTold files (Steps steps) told =
     AreStepsTold files steps.named.at steps.log.stopped.event steps.others.items told
 
@@ -134,8 +137,15 @@ pub record IsRefusedTold {A : Type 0} (files : List NamedText) (refused : Refuse
   pub are_told : AreTold files finding told
   pub state_is : state ≡ state_before finding
 
--- what is told of the logs of a ring: of good ones nothing
+-- what is told of texts that aren't those of one ring's logs: where the first that is no log's shows it, or all heads
+abbrev pub IsNoRingTold : {A : Type 0} → List NamedText → Reason → List (Evidence A) → Type 0
+IsNoRingTold files (LogReason number fault) told =
+    (file : NamedText) × (slice_get files number ≡ Some file) × IsTextTold file fault told
+IsNoRingTold files (Heads fault) told = AreHeadsTold files told
+IsNoRingTold files _ told = ⊥
+
+-- what is told of the texts that were judged: of the logs of a run nothing
 abbrev pub IsTold : {A : Type 0} → List NamedText → Judged A → Option NodeState → List (Evidence A) → Type 0
 IsTold files (Good logs) state told = told ≡ []
 IsTold files (Refused refused) state told = IsRefusedTold files refused state told
-IsTold files (NoRing reason) state told = ⊤
+IsTold files (NoRing reason) state told = (state ≡ None) × IsNoRingTold files reason told

@@ -1,25 +1,33 @@
-ghost use Rattle.std.specs.Prelude.{◌≡◌, [], IfOk, Some, codes, map};
+ghost use Rattle.std.specs.Prelude.{◌≡◌, ◌≢◌, [], ◌∷◌, IfOk, None, Some, codes, map};
+ghost use Rattle.ira_event.specs.declared.log_fault.LogFault.{LogFault};
 ghost use Rattle.ira_audit.specs.Judged.{IsJudged};
 ghost use Rattle.ira_audit.specs.LogTextAnswer.{IsLogTextAnswer};
 ghost use Rattle.ira_audit.specs.Refusal.{IsRingReason};
 ghost use Rattle.ira_audit.specs.RefusedLogs.{AreRefused};
 ghost use Rattle.ira_audit.specs.Report.{IsReportable};
+ghost use Rattle.ira_replay.specs.LocalRun.{IsLocalRun};
 ghost use Rattle.ira_view_explain.specs.Counts.{counts, ring_of};
-ghost use Rattle.ira_view_explain.specs.Refused.{IsRefusedTold, IsTold};
+ghost use Rattle.ira_view_explain.specs.HeadsTold.{AreHeadsTold, AreLogFiles};
+ghost use Rattle.ira_view_explain.specs.LogTold.{IsLogTold, IsStoppedTold};
+ghost use Rattle.ira_view_explain.specs.Refused.{IsNoRingTold, IsRefusedTold, IsTold};
+ghost use Rattle.ira_view_explain.specs.TextTold.{IsTextTold};
 ghost use Rattle.ira_view_page.specs.Page.{Added};
 ghost use Rattle.ira_view_page.specs.Told.{evidence_of};
 
 use crate::good_block::{explain_end_alone, explain_run};
-use crate::heads_block::explain_heads;
+use crate::heads_finding::HeadsFinding;
 use crate::refused_finding::RefusedFinding;
 use crate::ring_files::RingFiles;
 use crate::stopped_log::StoppedLog;
-use crate::text_block::NoLog;
+use crate::text_finding::TextFinding;
 use ira_audit::{Answer, Judged, Reason, RefusedLogs};
-use ira_event::{LogFault, Logs, NodeLog, OutOfMemory, read_log};
+use ira_event::{HeadFault, LogFault, Logs, NodeLog, OutOfMemory, read_log};
+use ira_node::NodeState;
 use ira_order::EventAt;
 use ira_replay::{ReplayFault, replay};
-use ira_view_page::{Evidence, Explanation, ExplanationDraft, NamedText, RecordAt, RingCounts};
+use ira_view_page::{
+    Evidence, Explanation, ExplanationDraft, NamedText, Page, RecordAt, RingCounts,
+};
 use std::alloc::Allocator;
 
 /// What follows an answer about these logs of a ring.
@@ -49,9 +57,41 @@ pub fn draft_run<A: Allocator + Clone>(
     Ok(draft)
 }
 
+/// A page with the empty line that comes after an answer.
+fn page_after_answer<A: Allocator>(alloc: A) -> Page<A> {
+    let mut page = Page::new(alloc);
+    page.blank();
+    page
+}
+
+/// What a page explains, with what it rests on, and hints that come last on the page.
+fn explanation<A: Allocator + Clone>(
+    alloc: &A,
+    page: Page<A>,
+    evidence: Vec<Evidence<A>, A>,
+    hints: Vec<String<A>, A>,
+) -> Result<Explanation<A>, OutOfMemory>
+    ensures ring { IfOk result (λ explanation. explanation.ring ≡ None) }
+    ensures state { IfOk result (λ explanation. explanation.state_before ≡ None) }
+    ensures evidence { IfOk result (λ explanation. explanation.evidence.items ≡ evidence.items) }
+{
+    let mut page = page;
+    for hint in &hints {
+        page.hint(hint);
+    }
+    Ok(Explanation {
+        page: page.finish()?,
+        ring: None,
+        state_before: None,
+        evidence,
+        hints,
+        cases: Vec::new(alloc.clone()?),
+    })
+}
+
 /// What stands against the logs of a ring.
 fn explain_refused<A: Allocator + Clone>(
-    alloc: A,
+    alloc: &A,
     files: &[NamedText<'_>],
     refused: &RefusedLogs<A>,
 ) -> Result<Explanation<A>, OutOfMemory>
@@ -59,39 +99,82 @@ fn explain_refused<A: Allocator + Clone>(
     ensures { IfOk result (λ explanation.
         IsRefusedTold files.now refused.now explanation.state_before explanation.evidence.items) }
 {
-    let mut draft = ExplanationDraft::after_answer(alloc.clone()?)?;
     let ring = RingFiles {
-        alloc: &alloc,
+        alloc,
         files,
         logs: refused.logs(),
     };
     let finding = RefusedFinding::find(&ring, refused)?;
-    finding.print(&ring, &mut draft);
-    let mut explanation = draft.finish()?;
+    let mut page = page_after_answer(alloc.clone()?);
+    finding.print(&ring, &mut page);
+    let mut explanation = explanation(
+        alloc,
+        page,
+        finding.evidence(&ring)?,
+        finding.hints(&ring)?,
+    )?;
     explanation.state_before = finding.state_before();
-    explanation.evidence = finding.evidence(&ring)?;
     Ok(explanation)
 }
 
+/// Why a text is no log's.
+fn explain_text<A: Allocator + Clone>(
+    alloc: &A,
+    file: &NamedText<'_>,
+    fault: LogFault,
+) -> Result<Explanation<A>, OutOfMemory>
+    requires { fault ≢ LogFault.OutOfMemory }
+    ensures ring { IfOk result (λ explanation. explanation.ring ≡ None) }
+    ensures state { IfOk result (λ explanation. explanation.state_before ≡ None) }
+    ensures told { IfOk result (λ explanation. IsTextTold file.now fault explanation.evidence.items) }
+{
+    let finding = TextFinding::find(file, fault);
+    let mut page = page_after_answer(alloc.clone()?);
+    finding.print(file, &mut page);
+    let mut evidence = Vec::new(alloc.clone()?);
+    evidence.push(finding.evidence(alloc, file)?)?;
+    explanation(alloc, page, evidence, finding.hints(alloc)?)
+}
+
+/// Why logs aren't those of one ring.
+fn explain_heads<A: Allocator + Clone>(
+    alloc: &A,
+    files: &[NamedText<'_>],
+    fault: HeadFault,
+) -> Result<Explanation<A>, OutOfMemory>
+    requires { AreLogFiles files.now }
+    ensures state { IfOk result (λ explanation. explanation.state_before ≡ None) }
+    ensures told { IfOk result (λ explanation. AreHeadsTold files.now explanation.evidence.items) }
+{
+    let finding = HeadsFinding::find(alloc, files, fault)?;
+    let mut page = page_after_answer(alloc.clone()?);
+    finding.print(files, &mut page);
+    explanation(
+        alloc,
+        page,
+        finding.evidence(alloc, files)?,
+        finding.hints(alloc)?,
+    )
+}
+
 /// Why texts aren't those of the logs of one ring.
-fn draft_no_ring<A: Allocator + Clone>(
-    alloc: A,
+fn explain_no_ring<A: Allocator + Clone>(
+    alloc: &A,
     files: &[NamedText<'_>],
     reason: Reason,
-) -> Result<ExplanationDraft<A>, OutOfMemory>
+) -> Result<Explanation<A>, OutOfMemory>
     requires { IsRingReason (map (λ file. file.text.now) files.now) reason }
+    ensures state { IfOk result (λ explanation. explanation.state_before ≡ None) }
+    ensures told { IfOk result (λ explanation. IsNoRingTold files.now reason explanation.evidence.items) }
 {
-    let mut draft = ExplanationDraft::after_answer(alloc.clone()?)?;
     match reason {
-        Reason::Log { number, fault } => {
-            if let Some(file) = files.get(number) {
-                NoLog::new(&alloc, file).explain(&mut draft, fault);
-            }
-        }
-        Reason::Heads(fault) => explain_heads(&alloc, &mut draft, files, fault)?,
-        _ => {}
+        Reason::Log { number, fault } => match files.get(number) {
+            Some(file) => explain_text(alloc, file, fault),
+            None => unreachable!(),
+        },
+        Reason::Heads(fault) => explain_heads(alloc, files, fault),
+        _ => unreachable!(),
     }
-    Ok(draft)
 }
 
 /// How many nodes and events there are, where the texts are those of a ring's logs.
@@ -119,30 +202,58 @@ pub fn explain_logs<A: Allocator + Clone>(
 {
     let mut explanation = match judged {
         Judged::Good(logs) => draft_run(alloc, logs.logs())?.finish()?,
-        Judged::Refused(refused) => explain_refused(alloc, files, refused)?,
-        Judged::NoRing(reason) => draft_no_ring(alloc, files, *reason)?.finish()?,
+        Judged::Refused(refused) => explain_refused(&alloc, files, refused)?,
+        Judged::NoRing(reason) => explain_no_ring(&alloc, files, *reason)?,
     };
     explanation.ring = ring_of(judged);
     Ok(explanation)
 }
 
 /// Why an event of a log that is judged alone has no step.
-fn explain_log_alone<A: Allocator + Clone>(
+fn explain_stopped<A: Allocator + Clone>(
     alloc: &A,
-    draft: &mut ExplanationDraft<A>,
     file: &str,
     log: &NodeLog<A>,
-) -> Result<(), OutOfMemory> {
-    if let Some(found) = StoppedLog::find(alloc, file, log)? {
-        let (place, position) = (log.place(), found.evidence.fault.position);
-        let at = EventAt { place, position };
-        let event = RecordAt::new(alloc.clone()?, file, at, found.stopped.event)?;
-        draft.tell(Evidence::Faulty(event));
-        draft.state_before = Some(found.stopped.state);
-        found.print(&mut draft.page);
-        found.hint(draft);
+) -> Result<Explanation<A>, OutOfMemory>
+    requires { ¬ (IsLocalRun log.now) }
+    ensures ring { IfOk result (λ explanation. explanation.ring ≡ None) }
+    ensures told { IfOk result
+        (λ explanation. IsStoppedTold file.now log.now explanation.state_before explanation.evidence.items) }
+{
+    let Some(found) = StoppedLog::find(alloc, file, log)? else {
+        unreachable!()
+    };
+    let mut page = page_after_answer(alloc.clone()?);
+    found.print(&mut page);
+    if found.hint.is_some() {
+        page.blank();
     }
-    Ok(())
+    let at = EventAt {
+        place: log.place(),
+        position: found.evidence.fault.position,
+    };
+    let event = RecordAt::new(alloc.clone()?, file, at, found.stopped.event)?;
+    let mut evidence = Vec::new(alloc.clone()?);
+    evidence.push(Evidence::Faulty(event))?;
+    let mut explanation = explanation(alloc, page, evidence, found.hints()?)?;
+    explanation.state_before = Some(found.stopped.state);
+    Ok(explanation)
+}
+
+/// How a log that is judged alone ends, in this state.
+fn explain_end<A: Allocator + Clone>(
+    alloc: &A,
+    log: &NodeLog<A>,
+    end: NodeState,
+) -> Result<Explanation<A>, OutOfMemory>
+    ensures ring { IfOk result (λ explanation. explanation.ring ≡ None) }
+    ensures state { IfOk result (λ explanation. explanation.state_before ≡ None) }
+    ensures evidence { IfOk result (λ explanation. explanation.evidence.items ≡ []) }
+{
+    let mut page = page_after_answer(alloc.clone()?);
+    explain_end_alone(alloc, &mut page, log, end);
+    let (evidence, hints) = (Vec::new(alloc.clone()?), Vec::new(alloc.clone()?));
+    explanation(alloc, page, evidence, hints)
 }
 
 /// Judges the text of one log alone, and says why the answer is as it is.
@@ -152,32 +263,28 @@ pub fn explain_log<A: Allocator + Clone>(
 ) -> Result<(Answer, Explanation<A>), OutOfMemory>
     ensures answer { IfOk result (λ explained. IsLogTextAnswer file.now.text.now explained.0) }
     ensures reportable { IfOk result (λ explained. IsReportable explained.0) }
+    ensures ring { IfOk result (λ explained. explained.1.ring ≡ None) }
+    ensures told { IfOk result (λ explained.
+        IsLogTold file.now explained.0 explained.1.state_before explained.1.evidence.items) }
 {
-    let mut draft = ExplanationDraft::after_answer(alloc.clone()?)?;
     let log = match read_log(alloc.clone()?, file.text) {
         Ok(log) => log,
         Err(LogFault::OutOfMemory) => return Err(OutOfMemory),
         Err(fault) => {
-            NoLog::new(&alloc, file).explain(&mut draft, fault);
-            return Ok((
-                Answer::No(Reason::Log { number: 0, fault }),
-                draft.finish()?,
-            ));
+            let answer = Answer::No(Reason::Log { number: 0, fault });
+            return Ok((answer, explain_text(&alloc, file, fault)?));
         }
     };
-    let answer = match replay(&log) {
-        Ok(end) => {
-            explain_end_alone(&alloc, &mut draft.page, &log, end);
-            Answer::Yes
-        }
+    match replay(&log) {
+        Ok(end) => Ok((Answer::Yes, explain_end(&alloc, &log, end)?)),
         Err(ReplayFault { position, fault }) => {
-            explain_log_alone(&alloc, &mut draft, file.name, &log)?;
-            Answer::No(Reason::Replay {
-                place: log.place(),
+            let place = log.place();
+            let answer = Answer::No(Reason::Replay {
+                place,
                 position,
                 fault,
-            })
+            });
+            Ok((answer, explain_stopped(&alloc, file.name, &log)?))
         }
-    };
-    Ok((answer, draft.finish()?))
+    }
 }

@@ -29,7 +29,7 @@ pub(crate) struct FaultyLink<'a, 'l, A: Allocator> {
     /// All that its nodes recorded of it.
     pub(crate) sides: LinkSides<&'l A>,
     /// The usual causes that explain it.
-    pub(crate) hints: Vec<LinkHint<'a, &'l A>, &'l A>,
+    pub(crate) causes: Vec<LinkHint<'a, &'l A>, &'l A>,
     ghost writer_is_there: { link < length logs.now },
     ghost reader_is_there: { reader < length logs.now },
 }
@@ -70,9 +70,9 @@ impl<'a, 'l, A: Allocator + Clone> FaultyLink<'a, 'l, A> {
             receipt,
             sending,
             sides,
-            hints: Vec::new(ring.alloc),
+            causes: Vec::new(ring.alloc),
         };
-        link.hints = link.find_hints()?;
+        link.causes = link.find_causes()?;
         Ok(link)
     }
 }

@@ -53,6 +53,17 @@ impl Field {
         }
     }
 
+    /// The number that a text begins with, where the field is a number of a record.
+    pub(crate) fn number(self, text: &[u8]) -> Option<u32> {
+        match self {
+            Field::Bit | Field::Count => None,
+            Field::Round | Field::Id | Field::Hop => {
+                let (number, _) = scan_number(text)?;
+                Some(number)
+            }
+        }
+    }
+
     /// What follows the field where the text begins with one.
     pub(crate) fn skip(self, text: &[u8]) -> Option<&[u8]> {
         match self {

@@ -2,20 +2,25 @@
 #![tactic(auto)]
 
 mod carets;
-mod circle_block;
+mod circle_finding;
 mod exchange_table;
 mod explain;
 mod faulty_link;
 mod field;
 mod good_block;
-mod heads_block;
+mod head_line;
+mod heads_finding;
+mod heads_hint;
 mod line_form;
+mod line_remark;
 mod line_stop;
 mod link_block;
 mod link_hint;
 mod link_search;
 mod missing_search;
 mod numbered;
+mod place_list;
+mod pointed_line;
 mod refused_finding;
 mod ring_files;
 mod ring_hint;
@@ -25,10 +30,11 @@ mod rows_search;
 mod rule;
 mod slip;
 mod steps_finding;
+mod stop_hint;
 mod stopped;
 mod stopped_log;
-mod text_block;
-mod text_head;
+mod text_finding;
+mod text_hint;
 
 pub use explain::{draft_of_ring, draft_run, explain_log, explain_logs};
 pub use slip::Slip;

@@ -1,6 +1,6 @@
 use crate::field::Field;
 use crate::line_form::LineForm;
-use ira_event::{MAX_NUMBER, scan_number, skip_word};
+use ira_event::{MAX_NUMBER, skip_word};
 
 /// What is due at a place of a line.
 #[derive(Clone, Copy, PartialEq, Eq)]
@@ -17,26 +17,35 @@ pub(crate) enum DueInLine {
     End,
 }
 
-/// Where a line goes on as no line does that is allowed there.
+/// What a line shows that no log has after its head. Bytes count from 0.
 #[derive(Clone, Copy)]
-pub(crate) struct LineStop {
-    /// The first such byte, counted from 0.
-    pub(crate) byte: usize,
-    /// What is due there.
-    pub(crate) due: DueInLine,
+pub(crate) enum LineStop {
+    /// From this byte on it goes on as no line does that is allowed there.
+    Due {
+        byte: usize,
+        due: DueInLine,
+    },
+    /// It is a record with a number out of its range, from a byte to the one after it.
+    Range {
+        field: Field,
+        from: usize,
+        to: usize,
+        is_zero: bool,
+    },
 }
 
 impl LineStop {
     /// Of a line after the head of a log of this version.
     pub(crate) fn find(line: &[u8], version: u8) -> LineStop {
         let Some((form, rest)) = LineForm::of_line(line, version) else {
-            return LineStop {
+            return LineStop::Due {
                 byte: 0,
                 due: DueInLine::Word,
             };
         };
         let mut rest = rest;
         let mut is_first = true;
+        let mut range = None;
         for field in form.fields() {
             if !is_first {
                 match skip_word(rest, b" ") {
@@ -45,17 +54,37 @@ impl LineStop {
                 }
             }
             is_first = false;
-            match field.skip(rest) {
-                Some(after) => rest = after,
-                None => return LineStop::at(line, rest, DueInLine::Field(*field)),
+            let Some(after) = field.skip(rest) else {
+                return LineStop::at(line, rest, DueInLine::Field(*field));
+            };
+            if range.is_none() {
+                range = LineStop::out_of_range(line, *field, rest, after);
             }
+            rest = after;
         }
-        LineStop::at(line, rest, DueInLine::End)
+        match range {
+            Some(range) if rest.is_empty() => range,
+            _ => LineStop::at(line, rest, DueInLine::End),
+        }
+    }
+
+    /// A record's number that is out of its range, by what is left of the line from it on, and after it.
+    fn out_of_range(line: &[u8], field: Field, rest: &[u8], after: &[u8]) -> Option<LineStop> {
+        let number = field.number(rest)?;
+        if (1..=MAX_NUMBER).contains(&number) {
+            return None;
+        }
+        Some(LineStop::Range {
+            field,
+            from: line.len().saturating_sub(rest.len()),
+            to: line.len().saturating_sub(after.len()),
+            is_zero: number == 0,
+        })
     }
 
     /// In front of what is left of the line.
     fn at(line: &[u8], rest: &[u8], due: DueInLine) -> LineStop {
-        LineStop {
+        LineStop::Due {
             byte: line.len().saturating_sub(rest.len()),
             due,
         }
@@ -68,38 +97,5 @@ impl LineStop {
         } else {
             LineStop::at(line, rest, DueInLine::Space)
         }
-    }
-}
-
-/// A number of a record that is out of its range.
-#[derive(Clone, Copy)]
-pub(crate) struct RangeStop {
-    pub(crate) field: Field,
-    /// Where its first digit stands in the line, counted from 0.
-    pub(crate) from: usize,
-    /// Where it ends.
-    pub(crate) to: usize,
-    /// Whether it is 0.
-    pub(crate) is_zero: bool,
-}
-
-impl RangeStop {
-    /// The first such number of a record in a log of this version.
-    pub(crate) fn find(line: &[u8], version: u8) -> Option<RangeStop> {
-        let (form, rest) = LineForm::of_line(line, version)?;
-        let mut rest = rest;
-        for field in form.fields() {
-            let (number, after) = scan_number(rest)?;
-            if !(1..=MAX_NUMBER).contains(&number) {
-                return Some(RangeStop {
-                    field: *field,
-                    from: line.len().saturating_sub(rest.len()),
-                    to: line.len().saturating_sub(after.len()),
-                    is_zero: number == 0,
-                });
-            }
-            rest = skip_word(after, b" ")?;
-        }
-        None
     }
 }

@@ -6,7 +6,7 @@ use crate::numbered::numbered_page;
 use crate::ring_files::RingFiles;
 use ira_event::{Event, OutOfMemory};
 use ira_view_evidence::Exchange;
-use ira_view_page::{Evidence, ExplanationDraft, Page};
+use ira_view_page::{Evidence, Page};
 use std::alloc::Allocator;
 
 impl<A: Allocator + Clone> FaultyLink<'_, '_, A> {
@@ -34,21 +34,16 @@ impl<A: Allocator + Clone> FaultyLink<'_, '_, A> {
         text.words(" sending.");
     }
 
-    /// Adds what both sides have around the receipt, and the usual causes.
-    pub(crate) fn print(&self, draft: &mut ExplanationDraft<A>) {
+    /// Adds what both sides have around the receipt.
+    pub(crate) fn print(&self, page: &mut Page<A>) {
         let mut text = Page::new(self.alloc);
         self.add_rule(&mut text);
-        draft.page.paragraph_of(&text);
-        draft.page.blank();
-        draft.page.table(&self.exchange_table());
-        draft.page.blank();
+        page.paragraph_of(&text);
+        page.blank();
+        page.table(&self.exchange_table());
+        page.blank();
         if self.sending.is_none() {
-            self.explain_number(&mut draft.page);
-        }
-        for hint in &self.hints {
-            let mut text = Page::new(self.alloc);
-            hint.print(&mut text);
-            draft.hint_of(&text);
+            self.explain_number(page);
         }
     }
 
@@ -67,5 +62,16 @@ impl<A: Allocator + Clone> FaultyLink<'_, '_, A> {
         let Exchange { at, load } = self.receipt;
         told.push(Evidence::Received(ring.record(at, Event::Got(load))?))?;
         Ok(told)
+    }
+
+    /// The usual causes that explain it.
+    pub(crate) fn hints(&self, alloc: &A) -> Result<Vec<String<A>, A>, OutOfMemory> {
+        let mut hints = Vec::with_capacity(alloc.clone()?, self.causes.len())?;
+        for cause in &self.causes {
+            let mut text = Page::new(alloc.clone()?);
+            cause.print(&mut text);
+            hints.push(text.finish()?.into_string())?;
+        }
+        Ok(hints)
     }
 }

@@ -94,7 +94,7 @@ impl<'a, 'l, A: Allocator + Clone> FaultyLink<'a, 'l, A> {
     }
 
     /// The causes that explain the ring or the link, where they are found.
-    pub(crate) fn find_hints(&self) -> Result<Vec<LinkHint<'a, &'l A>, &'l A>, OutOfMemory> {
+    pub(crate) fn find_causes(&self) -> Result<Vec<LinkHint<'a, &'l A>, &'l A>, OutOfMemory> {
         let mut hints = Vec::new(self.alloc);
         let others = self.other_faults();
         if let Some(hint) = self.ring_cause(others)? {

@@ -2,6 +2,7 @@ ghost use Rattle.std.specs.Prelude.{◌≡◌, IfOk};
 ghost use Rattle.ira_audit.specs.RefusedLogs.{AreRefused};
 ghost use Rattle.ira_view_explain.specs.Refused.{AreTold, IsFinding, state_before};
 
+use crate::circle_finding::CircleFinding;
 use crate::faulty_link::FaultyLink;
 use crate::ring_files::RingFiles;
 use crate::steps_finding::StepsFinding;
@@ -10,7 +11,7 @@ use ira_event::OutOfMemory;
 use ira_node::NodeState;
 use ira_order::{EventAt, FaultyEvent};
 use ira_view_evidence::CircleEvidence;
-use ira_view_page::{Evidence, ExplanationDraft};
+use ira_view_page::{Evidence, Page};
 use std::alloc::Allocator;
 
 /// What stands against the logs of a ring.
@@ -18,8 +19,7 @@ use std::alloc::Allocator;
 pub(crate) enum RefusedFinding<'a, 'l, A: Allocator> {
     /// Both sides of a link around the first receipt that doesn't match.
     Link(FaultyLink<'a, 'l, A>),
-    /// Receipts that wait for one another, once round the ring, and the first event without a step, if there is one.
-    Circle(CircleEvidence<A>, Option<FaultyEvent>),
+    Circle(CircleFinding<A>),
     Steps(StepsFinding<'a, 'l, A>),
 }
 
@@ -37,7 +37,10 @@ impl<'a, 'l, A: Allocator + Clone> RefusedFinding<'a, 'l, A> {
         match refused.reason() {
             Reason::Match(fault) => Ok(RefusedFinding::Link(FaultyLink::of_fault(ring, fault)?)),
             Reason::Circle => match CircleEvidence::find(ring.alloc.clone()?, ring.logs)? {
-                Some(circle) => Ok(RefusedFinding::Circle(circle, faulty.first().copied())),
+                Some(circle) => Ok(RefusedFinding::Circle(CircleFinding {
+                    circle,
+                    faulty: faulty.first().copied(),
+                })),
                 None => unreachable!(),
             },
             Reason::Replay {
@@ -53,12 +56,12 @@ impl<'a, 'l, A: Allocator + Clone> RefusedFinding<'a, 'l, A> {
         }
     }
 
-    /// Adds it to a page, with the usual causes.
-    pub(crate) fn print(&self, ring: &RingFiles<'_, '_, A>, draft: &mut ExplanationDraft<A>) {
+    /// Adds it to a page.
+    pub(crate) fn print(&self, ring: &RingFiles<'_, '_, A>, page: &mut Page<A>) {
         match self {
-            RefusedFinding::Link(link) => link.print(draft),
-            RefusedFinding::Circle(circle, faulty) => ring.print_circle(draft, circle, *faulty),
-            RefusedFinding::Steps(steps) => steps.print(ring, draft),
+            RefusedFinding::Link(link) => link.print(page),
+            RefusedFinding::Circle(circle) => circle.print(ring, page),
+            RefusedFinding::Steps(steps) => steps.print(ring, page),
         }
     }
 
@@ -71,8 +74,20 @@ impl<'a, 'l, A: Allocator + Clone> RefusedFinding<'a, 'l, A> {
     {
         match self {
             RefusedFinding::Link(link) => link.evidence(ring),
-            RefusedFinding::Circle(circle, _) => ring.stuck_evidence(&circle.stuck),
+            RefusedFinding::Circle(circle) => ring.stuck_evidence(&circle.circle.stuck),
             RefusedFinding::Steps(steps) => steps.evidence(ring),
+        }
+    }
+
+    /// The usual causes that explain it.
+    pub(crate) fn hints(
+        &self,
+        ring: &RingFiles<'_, '_, A>,
+    ) -> Result<Vec<String<A>, A>, OutOfMemory> {
+        match self {
+            RefusedFinding::Link(link) => link.hints(ring.alloc),
+            RefusedFinding::Circle(circle) => circle.hints(ring.alloc),
+            RefusedFinding::Steps(steps) => steps.hints(),
         }
     }
 
@@ -82,7 +97,7 @@ impl<'a, 'l, A: Allocator + Clone> RefusedFinding<'a, 'l, A> {
     {
         match self {
             RefusedFinding::Steps(steps) => Some(steps.log.stopped.state),
-            RefusedFinding::Link(_) | RefusedFinding::Circle(..) => None,
+            RefusedFinding::Link(_) | RefusedFinding::Circle(_) => None,
         }
     }
 }

@@ -1,3 +1,4 @@
+use crate::place_list::add_places;
 use ira_view_page::Page;
 use std::alloc::Allocator;
 
@@ -20,21 +21,6 @@ pub(crate) enum RingHint<A: Allocator> {
 
 /// At most so many places of an order are shown.
 const MOST_PLACES: usize = 16;
-
-/// Adds an order of places.
-fn add_order<A: Allocator>(text: &mut Page<A>, order: &[u8]) {
-    let mut is_first = true;
-    for place in order.iter().take(MOST_PLACES) {
-        if !is_first {
-            text.words(", ");
-        }
-        is_first = false;
-        text.number(*place as u64);
-    }
-    if order.len() > MOST_PLACES {
-        text.words(", ..");
-    }
-}
 
 /// The node at this place where two nodes have each other's place.
 fn exchanged(place: u8, a: u8, b: u8) -> u8 {
@@ -116,7 +102,7 @@ impl<A: Allocator> RingHint<A> {
             }
             RingHint::OtherOrder(order) => {
                 text.words("with the nodes in the order ");
-                add_order(text, order);
+                add_places(text, order, MOST_PLACES);
                 text.words(" all links match: places are to be in the order of the ring.");
             }
             RingHint::TwoRuns => text.words(

@@ -3,7 +3,7 @@ ghost use Rattle.ira_view_page.specs.Printable.{IsPrintable};
 
 use crate::field::Field;
 use crate::line_form::LineForm;
-use crate::line_stop::{DueInLine, LineStop};
+use crate::line_stop::DueInLine;
 
 /// A slip that a person makes who writes logs by hand or by a program.
 #[derive(Clone, Copy, Debug, PartialEq, Eq)]
@@ -35,8 +35,9 @@ impl Slip {
         None
     }
 
-    /// What a line after the head of a log of this version shows, which goes on as none does from there on.
-    pub(crate) fn of_line(line: &[u8], stop: LineStop, version: u8) -> Option<Slip> {
+    /// What a line after the head of a log of this version shows, which goes on as none does from this byte on, where
+    /// something else is due.
+    pub(crate) fn of_line(line: &[u8], byte: usize, due: DueInLine, version: u8) -> Option<Slip> {
         if let Some(slip) = Slip::of_format(line) {
             return Some(slip);
         }
@@ -46,15 +47,15 @@ impl Slip {
         if line.is_empty() {
             return Some(Slip::EmptyLine);
         }
-        let before = if stop.byte > 0 {
-            line.get(stop.byte - 1).copied()
+        let before = if byte > 0 {
+            line.get(byte - 1).copied()
         } else {
             None
         };
-        let rest = line.get(stop.byte..)?;
+        let rest = line.get(byte..)?;
         match rest {
             [b'C' | b'D', ..] | b"true" | b"false" | b"0" | b"1"
-                if stop.due == DueInLine::Field(Field::Bit) => { Some(Slip::OtherBit) }
+                if due == DueInLine::Field(Field::Bit) => { Some(Slip::OtherBit) }
             [b'\t', ..] => Some(Slip::Tab),
             [b' ', ..] if rest.iter().all(|c| *c == b' ') => Some(Slip::SpaceAtEnd),
             [b' ', ..] if before == Some(b' ') => Some(Slip::TwoSpaces),

@@ -8,7 +8,7 @@ use crate::stopped_log::StoppedLog;
 use ira_event::{Event, OutOfMemory};
 use ira_order::{DirectDependencies, FaultyEvent, HappenedBefore};
 use ira_view_evidence::{Origin, origins};
-use ira_view_page::{Emphasis, Evidence, ExplanationDraft, Page, event_at, file_of, log_at};
+use ira_view_page::{Emphasis, Evidence, Page, event_at, file_of, log_at};
 use std::alloc::Allocator;
 
 /// At most so many events of other nodes are shown on a page.
@@ -135,23 +135,35 @@ impl<'a, 'l, A: Allocator + Clone> StepsFinding<'a, 'l, A> {
     }
 
     /// Adds why the named event has no step, and which such events other nodes have.
-    pub(crate) fn print(&self, ring: &RingFiles<'_, '_, A>, draft: &mut ExplanationDraft<A>) {
-        self.log.print(&mut draft.page);
+    pub(crate) fn print(&self, ring: &RingFiles<'_, '_, A>, page: &mut Page<A>) {
+        self.log.print(page);
         if !self.others.is_empty() {
-            draft.page.blank();
+            page.blank();
         }
         match &self.beginning {
             Some(stopped) => {
-                self.print_beginnings(ring, &mut draft.page);
-                draft.page.blank();
-                stopped.print(&mut draft.page);
-                stopped.hint(draft);
+                self.print_beginnings(ring, page);
+                page.blank();
+                stopped.print(page);
             }
-            None => {
-                self.print_others(ring, &mut draft.page);
-                self.log.hint(draft);
-            }
+            None => self.print_others(ring, page),
         }
+        if self.first().hint.is_some() {
+            page.blank();
+        }
+    }
+
+    /// The log of the event to begin with.
+    fn first(&self) -> &StoppedLog<'a, 'l, A> {
+        match &self.beginning {
+            Some(stopped) => stopped,
+            None => &self.log,
+        }
+    }
+
+    /// The usual cause of the event to begin with, where there is one.
+    pub(crate) fn hints(&self) -> Result<Vec<String<A>, A>, OutOfMemory> {
+        self.first().hints()
     }
 
     /// Adds where to begin: those of the events that happened before the named one and before which none did.

@@ -1,11 +1,11 @@
-ghost use Rattle.std.specs.Prelude.{◌≡◌, List, ◌∷◌, [], ◌++◌, IfSome, Some};
+ghost use Rattle.std.specs.Prelude.{◌≡◌, List, ◌∷◌, [], ◌++◌, Some};
 ghost use Rattle.ira_node.specs.NodeStep.{NodeStep};
 ghost use Rattle.ira_node.specs.declared.node_state.NodeState.{NodeState};
 ghost use Rattle.ira_order.specs.Ring.{numbered};
 ghost use Rattle.ira_view_evidence.specs.NodeEvidence.{IsNodeEvidence};
-ghost use Rattle.ira_view_page.specs.Printable.{IsPrintable};
 
 use crate::rule::Rule;
+use crate::stop_hint::StopHint;
 use ira_event::{Event, Load, Msg, NodeLog, RingSize};
 use ira_node::{NodeState, Phase, StepFault};
 use ira_view_evidence::NodeEvidence;
@@ -179,81 +179,49 @@ impl Stopped {
         matches!(self.event, Event::Sent(Load::Reset(_)))
     }
 
-    /// Adds a usual cause, where something that the log says points to it, and tells whether there is one.
-    pub(crate) fn add_cause<A: Allocator>(&self, text: &mut Page<A>) -> bool {
-        let nodes = u32::from(self.nodes);
+    /// A usual cause, where something that the log says points to it.
+    pub(crate) fn hint(&self) -> Option<StopHint> {
+        let nodes = self.nodes;
         match (self.fault, self.event, self.state.phase) {
-            (StepFault::NotOwed, Event::Sent(sent), _) => return self.add_sending_cause(text, sent),
-            (StepFault::NotChoosing, _, Phase::Yielding) => {
-                text.numbered(
-                    "its reset is not back yet: the node draws after `recv reset ",
-                    nodes,
-                );
-                text.words("`.");
-            }
-            (StepFault::NotChoosing, _, _) if self.position == 1 => {
-                text.words("a node that begins by itself has `start initiator` on line 4.");
-            }
-            (StepFault::MustDraw, _, _) if self.position == 1 => {
-                text.words("a node that a message woke has `start passive` on line 4.");
-            }
-            (StepFault::MustDraw, _, _) if self.state.term > 1 => {
-                text.words("after a reset each node draws, initiator or not.");
-            }
-            (StepFault::DrawRange, _, _) => {
-                text.numbered("IDs are 1 to N, and N is ", nodes);
-                text.words(" (line 2).");
-            }
-            (StepFault::Ended, Event::Got(_), _) => {
-                text.words("what a leader finds on its link is not recorded.");
-            }
-            (StepFault::Ended, Event::Sent(Load::Reset(1)), _) => {
-                text.words("the `yield` is recorded too, in front of its `send reset 1`.");
-            }
-            (StepFault::Owes, Event::Got(_), _) => self.add_unsent(text),
+            (StepFault::NotOwed, Event::Sent(sent), _) => self.sending_hint(sent),
+            (StepFault::NotChoosing, _, Phase::Yielding) => Some(StopHint::ResetNotBack { nodes }),
+            (StepFault::NotChoosing, _, _) if self.position == 1 => Some(StopHint::StartsInitiator),
+            (StepFault::MustDraw, _, _) if self.position == 1 => Some(StopHint::StartsPassive),
+            (StepFault::MustDraw, _, _) if self.state.term > 1 => Some(StopHint::EachDraws),
+            (StepFault::DrawRange, _, _) => Some(StopHint::IdRange { nodes }),
+            (StepFault::Ended, Event::Got(_), _) => Some(StopHint::LeaderReceives),
+            (StepFault::Ended, Event::Sent(Load::Reset(1)), _) => Some(StopHint::YieldsFirst),
+            (StepFault::Owes, Event::Got(_), _) => Some(self.unsent_hint()),
             (StepFault::Owes, Event::Draw(_), _) if self.owes_reset() => {
-                text.words("a reset is passed on before the node draws in the new term");
-                text.words(if self.sent_later.is_some() {
-                    "."
-                } else {
-                    "; by its log the node never passed it on."
-                });
+                Some(StopHint::ResetFirst {
+                    is_passed: self.sent_later.is_some(),
+                })
             }
-            (StepFault::NotLeader, _, Phase::Yielding) => {
-                text.words("it has yielded in this term already.");
-            }
+            (StepFault::NotLeader, _, Phase::Yielding) => Some(StopHint::HasYielded),
             (StepFault::NotLeader, _, Phase::Active { round, id }) if self.leads_next(round, id) =>
                 {
-                    text.words("the receipt by which it leads stands after the yield, on line ");
-                    text.number(self.next_line());
-                    text.words(": record it as soon as the message is taken.");
+                    Some(StopHint::LeadsLater {
+                        line: self.next_line(),
+                    })
                 }
-            _ => return false,
+            _ => None,
         }
-        true
     }
 
-    /// Adds where what is owed was sent, or that by its log the node never sent it.
-    fn add_unsent<A: Allocator>(&self, text: &mut Page<A>) {
+    /// Where what is owed was sent, or that by its log the node never sent it.
+    fn unsent_hint(&self) -> StopHint {
         match (self.sent_later, self.last.and_then(debt_rule)) {
-            (Some(later), _) => {
-                text.words("that sending stands on line ");
-                text.number(line_of(later) as u64);
-                text.words(": a message is passed on before the next one is taken.");
-            }
-            (None, Some(Rule::GivesIn)) => text.words(
-                "that sending stands nowhere below: by its log the node dropped a message whose pair is greater than \
-                 its own.",
-            ),
-            (None, _) => text.words(
-                "that sending stands nowhere below: by its log the node never made it.",
-            ),
+            (Some(later), _) => StopHint::SentLater {
+                line: line_of(later),
+            },
+            (None, Some(Rule::GivesIn)) => StopHint::DropsGreater,
+            (None, _) => StopHint::NeverSends,
         }
     }
 
     /// The line of the event after it.
-    fn next_line(&self) -> u64 {
-        line_of(self.position.saturating_add(1)) as u64
+    fn next_line(&self) -> usize {
+        line_of(self.position.saturating_add(1))
     }
 
     fn owes_reset(&self) -> bool {
@@ -271,61 +239,39 @@ impl Stopped {
         self.next == Some(Event::Got(Load::Msg(home)))
     }
 
-    /// What a node may have done that sent one load and owed another.
-    fn debt_cause(&self, sent: Load, owed: Load) -> Option<&'static str>
-        ensures { IfSome result (λ words. IsPrintable words.now) }
-    {
-        match (sent, owed) {
-            (Load::Msg(sent), Load::Msg(owed)) => self.message_cause(sent, owed),
-            (Load::Reset(sent), Load::Reset(owed)) => hop_cause(sent, owed),
-            _ => None,
-        }
-    }
-
-    fn message_cause(&self, sent: Msg, owed: Msg) -> Option<&'static str>
-        ensures { IfSome result (λ words. IsPrintable words.now) }
-    {
+    /// What a node may have done that sent a message and owed another.
+    fn message_hint(&self, sent: Msg, owed: Msg) -> Option<StopHint> {
         if (sent.round, sent.id) != (owed.round, owed.id) {
             return None;
         }
         if sent.dirty == owed.dirty {
-            return hop_cause(sent.hop, owed.hop);
+            return hop_hint(sent.hop, owed.hop);
         }
         match (sent.hop, owed.hop, self.first_clean) {
-            (1, 1, None) => Some("the bit means the contrary: `clean` is \"unique so far\"."),
-            (1, 1, Some(first)) if first < self.position => {
-                Some("the bit was kept from an earlier round: each own message starts clean.")
-            }
-            (hop, due, _) if hop == due => Some("only the bit differs."),
+            (1, 1, None) => Some(StopHint::BitTurned),
+            (1, 1, Some(first)) if first < self.position => Some(StopHint::BitKept),
+            (hop, due, _) if hop == due => Some(StopHint::OnlyBit),
             _ => None,
         }
     }
 
-    /// Adds what a sending that isn't owed may come from, and tells whether something points to it.
-    fn add_sending_cause<A: Allocator>(&self, text: &mut Page<A>, sent: Load) -> bool {
+    /// What a sending that isn't owed may come from.
+    fn sending_hint(&self, sent: Load) -> Option<StopHint> {
         if self.called == Some(sent) {
-            text.words("the receipt on line ");
-            text.number(self.next_line());
-            text.words(
-                " calls for this sending, and is recorded after it: record a message as soon as it is taken.",
-            );
-            return true;
+            return Some(StopHint::CalledLater {
+                line: self.next_line(),
+            });
         }
         match (self.state.owed, self.state.phase, sent) {
-            (Some(owed), _, _) => match self.debt_cause(sent, owed) {
-                Some(words) => text.words(words),
-                None => return false,
-            },
+            (Some(Load::Msg(owed)), _, Load::Msg(sent)) => self.message_hint(sent, owed),
+            (Some(Load::Reset(owed)), _, Load::Reset(sent)) => hop_hint(sent, owed),
+            (Some(_), _, _) => None,
             (None, Phase::Choosing { .. }, Load::Msg(Msg { id, hop: 1, .. })) => {
-                text.numbered("a draw of ", id);
-                text.words(" may not be recorded, or stands after its sending.");
+                Some(StopHint::NotDrawn { id })
             }
-            (None, Phase::Choosing { .. }, Load::Reset(_)) => {
-                text.words("its own reset is back: the node that yielded takes it off the ring.");
-            }
-            _ => return false,
+            (None, Phase::Choosing { .. }, Load::Reset(_)) => Some(StopHint::ResetIsBack),
+            _ => None,
         }
-        true
     }
 }
 
@@ -399,15 +345,14 @@ fn first_clean_start<A: Allocator>(log: &NodeLog<A>) -> Option<u32> {
     None
 }
 
-fn hop_cause(sent: u32, owed: u32) -> Option<&'static str>
-    ensures { IfSome result (λ words. IsPrintable words.now) }
-{
+/// What a node may have done that sent what it owed, with another hop.
+fn hop_hint(sent: u32, owed: u32) -> Option<StopHint> {
     if owed == 1 {
-        Some("hops begin at 1, with what a node sends of its own.")
+        Some(StopHint::HopsFromOne)
     } else if sent.saturating_add(1) == owed {
-        Some("the hop is not raised.")
+        Some(StopHint::HopNotRaised)
     } else if owed.saturating_add(1) == sent {
-        Some("the hop is raised twice.")
+        Some(StopHint::HopRaisedTwice)
     } else {
         None
     }

@@ -3,11 +3,12 @@ ghost use Rattle.ira_replay.specs.LocalRun.{IsLocalRun};
 ghost use Rattle.ira_view_explain.specs.Refused.{IsStopped};
 
 use crate::carets::{carets_at_end, carets_below, digits};
+use crate::stop_hint::StopHint;
 use crate::stopped::Stopped;
 use ira_event::{Event, NodeLog, OutOfMemory};
 use ira_node::StepFault;
 use ira_view_evidence::NodeEvidence;
-use ira_view_page::{Emphasis, ExplanationDraft, Page, Row, Table, event_of};
+use ira_view_page::{Emphasis, Page, Row, Table, event_of};
 use std::alloc::Allocator;
 
 /// So many events are shown before the one that has no step, and how the node starts where these are all.
@@ -21,6 +22,7 @@ pub(crate) struct StoppedLog<'a, 'l, A: Allocator> {
     pub(crate) log: &'a NodeLog<A>,
     pub(crate) evidence: NodeEvidence<A>,
     pub(crate) stopped: Stopped,
+    pub(crate) hint: Option<StopHint>,
 }
 
 impl<'a, 'l, A: Allocator + Clone> StoppedLog<'a, 'l, A> {
@@ -42,6 +44,7 @@ impl<'a, 'l, A: Allocator + Clone> StoppedLog<'a, 'l, A> {
             log,
             evidence,
             stopped,
+            hint: stopped.hint(),
         }))
     }
 
@@ -134,11 +137,14 @@ impl<'a, 'l, A: Allocator + Clone> StoppedLog<'a, 'l, A> {
         }
     }
 
-    /// Adds the usual cause, where there is one.
-    pub(crate) fn hint(&self, draft: &mut ExplanationDraft<A>) {
-        let mut text = Page::new(self.alloc);
-        if self.stopped.add_cause(&mut text) {
-            draft.hint_apart_of(&text);
+    /// The usual cause, where there is one.
+    pub(crate) fn hints(&self) -> Result<Vec<String<A>, A>, OutOfMemory> {
+        let mut hints = Vec::new(self.alloc.clone()?);
+        if let Some(hint) = self.hint {
+            let mut text = Page::new(self.alloc.clone()?);
+            hint.print(&mut text);
+            hints.push(text.finish()?.into_string())?;
         }
+        Ok(hints)
     }
 }

@@ -6,7 +6,7 @@ use crate::ring_files::RingFiles;
 use ira_event::{Event, OutOfMemory};
 use ira_order::FaultyEvent;
 use ira_view_evidence::{CircleEvidence, StuckAt};
-use ira_view_page::{Emphasis, Evidence, ExplanationDraft, Page, Row, Table, file_of, line_of};
+use ira_view_page::{Emphasis, Evidence, Page, Row, Table, file_of, line_of};
 use std::alloc::Allocator;
 
 /// The line of the receipt at which a node is stuck; nothing where the place has none.
@@ -73,35 +73,47 @@ impl<'l, A: Allocator + Clone> RingFiles<'_, 'l, A> {
         }
         Ok(told)
     }
+}
 
-    /// Adds the receipts that wait for one another, and an event without a step, if there is one.
-    pub(crate) fn print_circle(
-        &self,
-        draft: &mut ExplanationDraft<A>,
-        circle: &CircleEvidence<A>,
-        faulty: Option<FaultyEvent>,
-    ) {
-        draft.page.paragraph(
+/// Receipts that wait for one another, once round the ring.
+#[derive(Drop)]
+pub(crate) struct CircleFinding<A: Allocator> {
+    pub(crate) circle: CircleEvidence<A>,
+    /// The first event without a step, if there is one.
+    pub(crate) faulty: Option<FaultyEvent>,
+}
+
+impl<A: Allocator + Clone> CircleFinding<A> {
+    /// Adds the receipts, how many events come before them, and the event without a step.
+    pub(crate) fn print(&self, ring: &RingFiles<'_, '_, A>, page: &mut Page<A>) {
+        page.paragraph(
             "Each of these receipts waits for a sending that its sender made only after its own such receipt:",
         );
-        draft.page.blank();
-        let mut table = Table::new(self.alloc);
-        for at in &circle.stuck {
-            table.add(Emphasis::Plain, self.stuck_row(&circle.stuck, *at));
+        page.blank();
+        let mut table = Table::new(ring.alloc);
+        for at in &self.circle.stuck {
+            table.add(Emphasis::Plain, ring.stuck_row(&self.circle.stuck, *at));
         }
-        draft.page.table(&table);
-        draft.page.blank();
-        let mut text = Page::new(self.alloc);
-        add_ordered(&mut text, circle.ordered, self.logs.number_of_events());
-        draft.page.paragraph_of(&text);
-        if let Some(event) = faulty {
-            let mut text = Page::new(self.alloc);
+        page.table(&table);
+        page.blank();
+        let mut text = Page::new(ring.alloc);
+        add_ordered(&mut text, self.circle.ordered, ring.logs.number_of_events());
+        page.paragraph_of(&text);
+        if let Some(event) = self.faulty {
+            let mut text = Page::new(ring.alloc);
             add_faulty(&mut text, event);
-            draft.page.paragraph_of(&text);
+            page.paragraph_of(&text);
         }
-        draft.hint(
-            "records that are not in the order of the node: two threads write one log, or records were sorted by a \
-             clock.",
-        );
+    }
+
+    /// The usual cause: the logs aren't in the order of their nodes.
+    pub(crate) fn hints(&self, alloc: &A) -> Result<Vec<String<A>, A>, OutOfMemory> {
+        let mut hints = Vec::new(alloc.clone()?);
+        hints.push(String::from_str(
+            alloc.clone()?,
+            "records that are not in the order of the node: two threads write one log, or records were sorted by \
+                 a clock.",
+        )?)?;
+        Ok(hints)
     }
 }

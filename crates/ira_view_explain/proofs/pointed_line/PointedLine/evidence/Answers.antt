@@ -1,0 +1,14 @@
+use Rattle.std.proofs.Common.{◌∙◌, refl}
+use Rattle.ira_view_page.proofs.Adding.{holds}
+use Rattle.ira_view_explain.proofs.pointed_line.PointedLine.evidence.Goals as goal
+
+pub returns : goal.returns
+returns g c = record {
+  line = _;
+  is_line = refl;
+  file_is = c.in_ok-from_str.ensures.ok;
+  number_is = refl;
+  bytes = c.line.result.now;
+  bytes_are = c.line.ensures;
+  text_is = c.into_string.ensures.text ∙ holds _ c.new-text.ensures c.quote.ensures c.in_ok-finish.ensures;
+}
