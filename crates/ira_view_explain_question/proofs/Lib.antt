@@ -1,0 +1,6 @@
+mod AskedCases
+mod Drafts
+mod Explained
+mod Numbers
+mod Sections
+mod Told

@@ -1,3 +1,5 @@
+ghost use Rattle.ira_view_page.specs.Page.{AddedSome};
+
 use crate::text_block::HEAD_LINES;
 use ira_pred::Case;
 use ira_view_page::{NamedText, Page};
@@ -58,7 +60,9 @@ impl<'a> AskedLines<'a> {
     }
 
     /// Adds the clauses with their places, of which there are so many, parted by commas.
-    pub(crate) fn add_clauses<P: Allocator>(&self, page: &mut Page<P>, clauses: usize) {
+    pub(crate) fn add_clauses<P: Allocator>(&self, page: &mut Page<P>, clauses: usize)
+        ensures { AddedSome page.old page.new }
+    {
         for n in 0..clauses.min(MOST_CLAUSES) {
             if n > 0 {
                 page.words(", ");

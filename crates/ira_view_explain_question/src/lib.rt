@@ -4,13 +4,16 @@
 
 mod asked_files;
 mod asked_lines;
+mod asked_ring;
+mod case_finding;
 mod certificate_block;
+mod chosen_cases;
 mod clause_stop;
+mod elimination_lines;
 mod explain;
 mod explained_case;
-mod found_block;
+mod moment_lines;
 mod question_block;
-mod ring_block;
 mod step_block;
 mod text_block;
 

@@ -247,7 +247,7 @@ impl<A: Allocator + Clone> ExplainedCase<'_, A> {
     fn add_event_of(&self, page: &mut Page<&A>, position: u32, node: u8) {
         add_position(page, position, node);
         page.words(" (");
-        page.place(self.file_of(node), line_of(position));
+        page.place(self.ring.file_of(node), line_of(position));
         page.words(")");
     }
 
@@ -292,7 +292,7 @@ impl<A: Allocator + Clone> ExplainedCase<'_, A> {
             page.begin(Emphasis::Plain);
             page.numbered("  state ", *position);
             page.words(", after ");
-            page.place(self.file_of(node), line_of(*position));
+            page.place(self.ring.file_of(node), line_of(*position));
             if let Some((_, state)) = self.state_at(node, *position) {
                 page.words(": ");
                 page.state(&state);

@@ -1,0 +1,7 @@
+use Rattle.ira_view_explain_question.proofs.case_finding.CaseFinding.find.Goals as goal
+
+pub returns-in_ok-of_section-in-Absent : goal.returns-in_ok-of_section-in-Absent
+returns-in_ok-of_section-in-Absent g c =
+    let case = c.args.case.now in
+    let absence = rw c.in-Absent.is at c.requires in
+    c.in_ok-of_section-in-Absent.ensures.absence case.ring.now.asked.now.logs case.case.now case.different absence.sound

@@ -1,0 +1,138 @@
+ghost use Rattle.std.specs.Prelude.{◌≡◌, ◌<◌, Some, length, slice_get};
+ghost use Rattle.ira_audit.specs.GoodLogs.{AreGood};
+ghost use Rattle.ira_view_page.specs.Page.{Added};
+ghost use Rattle.ira_view_explain_question.specs.ChosenCases.{more_cases_text, no_case_text, rest_text};
+ghost use Rattle.ira_view_explain_question.specs.EliminationLines.{name_of};
+
+use crate::asked_files::AskedFiles;
+use crate::asked_lines::AskedLines;
+use crate::chosen_cases::MOST_CASES;
+use crate::explained_case::ExplainedCase;
+use ira_audit::AskedQuestion;
+use ira_event::Logs;
+use ira_view_page::{Emphasis, ExplanationDraft, Page, file_of};
+use std::alloc::Allocator;
+
+/// A question about the logs of a ring, and the files of both.
+#[derive(Drop)]
+pub(crate) struct AskedRing<'a, A: Allocator> {
+    pub(crate) alloc: &'a A,
+    pub(crate) files: AskedFiles<'a>,
+    pub(crate) asked: &'a AskedQuestion<'a, A>,
+}
+
+impl<'a, A: Allocator + Clone> AskedRing<'a, A> {
+    /// The logs.
+    pub(crate) fn logs(&self) -> &Logs<A>
+        ensures value { result.now ≡ self.now.asked.now.logs }
+        ensures good { AreGood result.now }
+    {
+        self.asked.logs()
+    }
+
+    /// The name of the file of a node's log.
+    pub(crate) fn file_of(&self, place: u8) -> &'a str
+        ensures { result.now ≡ name_of (slice_get self.now.files.logs.now place) }
+    {
+        file_of(self.files.logs, place)
+    }
+
+    /// The case of a number.
+    pub(crate) fn case(&'a self, number: usize) -> ExplainedCase<'a, A>
+        requires { number < length self.now.asked.now.question.cases }
+        ensures asked { result.ring.now.asked.now ≡ self.now.asked.now }
+        ensures files { result.ring.now.files.logs.now ≡ self.now.files.logs.now }
+        ensures number { result.number ≡ number }
+        ensures case { slice_get self.now.asked.now.question.cases number ≡ Some result.case.now }
+    {
+        let cases = self.asked.cases();
+        ExplainedCase {
+            ring: self,
+            case: &cases[number],
+            number,
+            lines: AskedLines::of(self.files.question, cases, number),
+        }
+    }
+
+    /// Adds what follows the explained cases, of so many chosen ones: that there is none of the number that was named,
+    /// or how many more there are.
+    pub(crate) fn print_rest(&self, page: &mut Page<A>, named: Option<u64>, chosen: usize)
+        ensures { Added page.old (rest_text named chosen (length self.now.asked.now.question.cases)) page.new }
+    {
+        match named {
+            Some(number) => self.print_no_case(page, number, chosen),
+            None => print_more_cases(page, chosen.saturating_sub(MOST_CASES)),
+        }
+    }
+
+    /// Adds that there is no case of the number, where none was chosen.
+    fn print_no_case(&self, page: &mut Page<A>, number: u64, chosen: usize)
+        ensures { Added page.old (no_case_text number chosen (length self.now.asked.now.question.cases)) page.new }
+    {
+        if chosen > 0 {
+            return;
+        }
+        page.blank();
+        page.begin(Emphasis::Plain);
+        page.words("There is no case ");
+        page.number(number);
+        page.words(": the question has ");
+        page.number_of(self.asked.cases().len(), "case");
+        page.words(", counted from 0.");
+        page.end();
+    }
+
+    /// Adds that a certificate has so many sections, and how many are due.
+    pub(crate) fn count_sections(
+        &self,
+        draft: &mut ExplanationDraft<A>,
+        certificate: &str,
+        found: usize,
+    ) {
+        let (file, cases) = (self.files.question, self.asked.cases());
+        let page = &mut draft.page;
+        page.begin(Emphasis::Plain);
+        page.show(file.name.as_bytes());
+        page.words(": ");
+        page.number_of(cases.len(), "case");
+        page.words(", so as many sections are due, in their order.");
+        page.end();
+        page.begin(Emphasis::Plain);
+        page.show(certificate.as_bytes());
+        page.words(": ");
+        page.number_of(found, "section");
+        match cases.get(found) {
+            Some(case) => {
+                let lines = AskedLines::of(file, cases, found);
+                page.words("; the first case without one is case ");
+                page.number(found as u64);
+                page.words(", ");
+                lines.add_clauses(page, case.len());
+                page.words(" (");
+                page.place(file.name, lines.line(0));
+                page.words(")");
+                page.end();
+                draft.quoted(file, lines.line(0));
+            }
+            None => page.end(),
+        }
+        draft.hint_apart(
+            "the certificate is of another question: `ira decide --out` writes one for this.",
+        );
+    }
+}
+
+/// Adds how many chosen cases there are besides, where there are any.
+fn print_more_cases<P: Allocator>(page: &mut Page<P>, count: usize)
+    ensures { Added page.old (more_cases_text count) page.new }
+{
+    if count == 0 {
+        return;
+    }
+    page.blank();
+    page.begin(Emphasis::Plain);
+    page.words("and ");
+    page.number_of(count, "case");
+    page.words(" more: name one by --case C");
+    page.end();
+}
