@@ -11,9 +11,9 @@ use Rattle.ira_event.specs.Sink.{SinkState, StopsIn, Takes, Wrote}
 use Rattle.ira_view_page.specs.Printable.{IsPrintable, is_graphic}
 use Rattle.ira_view_json.specs.ShownAnswer.{IsRingText, OfRingText}
 use Rattle.ira_view_show.specs.Showed.{OfPrintable}
-use Rattle.ira_view.specs.ShownRing.{IsPageOf, ShownRing}
+use Rattle.ira_view.specs.ShownRing.{ShownRing}
 use Rattle.ira_main.specs.Outcome.{Outcome}
-use Rattle.ira_main.specs.Show.{PrintsRing, PrintsRingLines, ring_text}
+use Rattle.ira_main.specs.Show.{AreJsonLines, AreRingLines, PrintsRing, PrintsRingLines, ring_text}
 use Rattle.ira_main.specs.Show.PrintsRing.{no_memory, printed, stopped}
 use Rattle.ira_main.specs.Show.PrintsRingLines.{no_memory as no_memory_in_lines, printed as printed_lines}
 use Rattle.ira_main.specs.Show.PrintsRingLines.{stopped as stopped_lines}
@@ -57,7 +57,7 @@ taken_after d text s t u front more =
 -- all events were printed, or the page
 pub printed_after : (ring : ShownRing) (d : List ℕ) (has_events : Bool) (s t u : SinkState) (status : Status)
     (text : List ℕ) → IsPrintable d → IsLeadsStatus d status → Takes (ring_front d) s t → IsPrintable text
-    → (has_events ≡ true) ⊎ IsPageOf ring text → Takes text t u → PrintsRing ring d has_events s u (Ok status)
+    → AreRingLines has_events ring text → Takes text t u → PrintsRing ring d has_events s u (Ok status)
 printed_after ring d has_events s t u status text p is front q which more =
     printed text status (printable_both d text p q) which (taken_after d text s t u front more) is refl
 
@@ -77,21 +77,22 @@ stopped_after ring d has_events s t u p front more =
     (subst (λ w. StopsIn w s u) text (Takes-StopsIn s t u (ring_front d) more.0 front more.2)) refl
 
 -- lines of JSON, of which the first has the number of the status: all were printed
-pub lines_printed : (d : List ℕ) (status : Status) (n : ℕ) (s t : SinkState) → n ≡ status_number status
-    → IsLeadsStatus d status → OfRingText n (λ text. Takes text s t) → PrintsRingLines d s t (Ok status)
-lines_printed d status n s t number is took =
-    printed_lines took.0 status is (subst (λ k. IsRingText k took.0) number took.1) took.2 refl
+module _ (ring : ShownRing) (d : List ℕ) (status : Status) (n : ℕ) (s t : SinkState) (number : n ≡ status_number status)
+    (is : IsLeadsStatus d status) where
+  with_status : (text : List ℕ) → IsRingText n ring.told ring.cut text → AreJsonLines ring status text
+  with_status text lines = subst (λ k. IsRingText k ring.told ring.cut text) number lines
 
--- the sink failed among them
-pub lines_stopped : (d : List ℕ) (status : Status) (n : ℕ) (s t : SinkState) → n ≡ status_number status
-    → IsLeadsStatus d status → OfRingText n (λ text. StopsIn text s t) → PrintsRingLines d s t (Err CannotWriteAnswer)
-lines_stopped d status n s t number is stop =
-    stopped_lines stop.0 status is (subst (λ k. IsRingText k stop.0) number stop.1) stop.2 refl
+  pub lines_printed : OfRingText n ring.told ring.cut (λ text. Takes text s t) → PrintsRingLines ring d s t (Ok status)
+  lines_printed took = printed_lines took.0 status is (with_status took.0 took.1) took.2 refl
 
--- memory ran out before them, or among them
-pub lines_no_memory : (d : List ℕ) (status : Status) (n : ℕ) (s t : SinkState) → n ≡ status_number status
-    → IsLeadsStatus d status → (t ≡ s) ⊎ OfRingText n (λ text. Takes text s t)
-    → PrintsRingLines d s t (Err OutOfMemory) ⊎ ((t ≡ s) × (◌≡◌ {A = Outcome} (Err OutOfMemory) (Err OutOfMemory)))
-lines_no_memory d status n s t number is (inl none) = inr (none, refl)
-lines_no_memory d status n s t number is (inr took) =
-    inl (no_memory_in_lines took.0 status is (subst (λ k. IsRingText k took.0) number took.1) took.2 refl)
+  -- the sink failed among them
+  pub lines_stopped : OfRingText n ring.told ring.cut (λ text. StopsIn text s t)
+      → PrintsRingLines ring d s t (Err CannotWriteAnswer)
+  lines_stopped stop = stopped_lines stop.0 status is (with_status stop.0 stop.1) stop.2 refl
+
+  -- memory ran out before them, or among them
+  pub lines_no_memory : (t ≡ s) ⊎ OfRingText n ring.told ring.cut (λ text. Takes text s t)
+      → PrintsRingLines ring d s t (Err OutOfMemory)
+      ⊎ ((t ≡ s) × (◌≡◌ {A = Outcome} (Err OutOfMemory) (Err OutOfMemory)))
+  lines_no_memory (inl none) = inr (none, refl)
+  lines_no_memory (inr took) = inl (no_memory_in_lines took.0 status is (with_status took.0 took.1) took.2 refl)

@@ -1,5 +1,5 @@
 -- What the program does that is asked to draw a ring.
-use Rattle.std.specs.Prelude.{◌≡◌, ◌⊎◌, ℕ, Bool, List, ◌++◌, Some, Ok, Err, codes, nat_eq, true}
+use Rattle.std.specs.Prelude.{◌≡◌, ◌⊎◌, ℕ, Bool, List, ◌++◌, None, Some, Ok, Err, codes, false, nat_eq, true, ⊤}
 use Rattle.std.specs.Borrow.{Bor}
 use Rattle.std.specs.List.{ends_with}
 use Rattle.ira_event.specs.Log.{Log}
@@ -11,12 +11,18 @@ use Rattle.ira_audit.specs.Refusal.{IsLogsReason, IsRingReason}
 use Rattle.ira_audit.specs.Report.{report_line}
 use Rattle.ira_audit.specs.declared.answer.Answer.{Answer}
 use Rattle.ira_audit.specs.declared.answer.Answer.TheVariants.{Yes, No}
+use Rattle.ira_audit.specs.declared.judged.Judged.{Judged}
+use Rattle.ira_audit.specs.declared.judged.Judged.TheVariants.{Good, Refused, NoRing}
 use Rattle.ira_audit.specs.declared.reason.Reason.{Reason}
 use Rattle.ira_view_page.specs.Printable.{IsPrintable}
+use Rattle.ira_view_page.specs.declared.explanation.Explanation.{Explanation}
 use Rattle.ira_view_moment.specs.declared.cut_fault.CutFault.{CutFault}
 use Rattle.ira_view_picture.specs.DrawFault.{HasTooManyEvents}
+use Rattle.ira_view_draw.specs.Drawing.{IsRefusedDrawing}
 use Rattle.ira_view_html.specs.HtmlPage.{IsHtmlPage}
-use Rattle.ira_view.specs.ShownRing.{ShownRing}
+use Rattle.ira_view_json.specs.ExplainedValue.{explained_value}
+use Rattle.ira_view_json.specs.Line.{IsLineOf}
+use Rattle.ira_view.specs.ShownRing.{HasTooManyAt, IsPictureOf, ShownRing}
 use Rattle.ira_main_cli.specs.declared.draw_request.DrawRequest.{DrawRequest}
 use Rattle.ira_main_files.specs.Shelf.{Reading, Writing}
 use Rattle.ira_main_files.specs.declared.file_name.FileName.{FileName}
@@ -25,9 +31,9 @@ use Rattle.ira_main.specs.FilesRead.{IsFilesFault, ReadsFiles, names_of}
 use Rattle.ira_main.specs.Outcome.{GivesNoAnswer, Outcome, Reports}
 use Rattle.ira_main.specs.Overwriting.{IsReplacing, KeepsFiles}
 use Rattle.ira_main.specs.ProgramFault.{write_fault}
-use Rattle.ira_main.specs.Show.{IsAskedRing, IsCutFaultOf, IsReasonAgainst, moment_names, moment_texts}
+use Rattle.ira_main.specs.Show.{AreJsonLines, IsAskedRing, IsCutFaultOf, IsReasonAgainst, moment_names, moment_texts}
 use Rattle.ira_main.specs.SourceNames.{OfSource}
-use Rattle.ira_main.specs.Status.{answer_status}
+use Rattle.ira_main.specs.Status.{answer_status, status_number}
 use Rattle.ira_main.specs.declared.program_fault.ProgramFault.{ProgramFault}
 use Rattle.ira_main.specs.declared.program_fault.ProgramFault.TheVariants.{CannotWriteAnswer, NoMoment, TooManyEvents}
 
@@ -35,9 +41,43 @@ use Rattle.ira_main.specs.declared.program_fault.ProgramFault.TheVariants.{Canno
 abbrev pub names_page : List ℕ → Bool
 names_page name = ends_with nat_eq name (codes ".html")
 
--- the text is what is kept under this name: a picture, or a page with a picture in it where the name is that of a page
-abbrev pub IsDrawn : List ℕ → List ℕ → Type 0
-IsDrawn name text = IsPrintable text × (names_page name ≡ true → IsHtmlPage text)
+-- the text is such a picture; or, where a page is wanted, the page of one and of such lines of JSON
+abbrev pub IsDrawnAs : Bool → (List ℕ → Type 0) → (List ℕ → Type 0) → List ℕ → Type 0
+IsDrawnAs true IsPicture AreTold text =
+    (picture : List ℕ) × (told : List ℕ) × IsPicture picture × AreTold told × IsHtmlPage picture told text
+IsDrawnAs false IsPicture AreTold text = IsPicture text
+
+-- the text is printable, and what is kept under this name
+abbrev pub IsDrawn : List ℕ → (List ℕ → Type 0) → (List ℕ → Type 0) → List ℕ → Type 0
+IsDrawn name IsPicture AreTold text = IsPrintable text × IsDrawnAs (names_page name) IsPicture AreTold text
+
+-- the lines of JSON that a page tells of a ring: those on its moment, and then those on all events
+abbrev pub IsRingTold : ShownRing → List ℕ → Type 0
+IsRingTold ring told =
+    (moment : List ℕ) × (events : List ℕ) × AreJsonLines ring (answer_status Yes) moment
+    × AreJsonLines ring (answer_status Yes) events × (told ≡ moment ++ events)
+
+-- what is kept of a ring at the columns that are asked for
+abbrev pub IsRingDrawn : DrawRequest → ShownRing → List ℕ → Type 0
+IsRingDrawn draw ring text = IsDrawn draw.picture.now (IsPictureOf ring draw.from draw.to) (IsRingTold ring) text
+
+-- the lines of JSON that a page tells of refused logs: that of the answer with its reason and what it rests on, and others
+abbrev pub IsRefusalTold : Type 0 → Reason → List ℕ → Type 0
+IsRefusalTold A reason told =
+    (explanation : Explanation A) × (line : List ℕ) × (others : List ℕ)
+    × IsLineOf (explained_value (status_number (answer_status (No reason))) (No reason) explanation) line
+    × (told ≡ line ++ others)
+
+-- the same of logs that were judged, where they are refused
+abbrev pub IsJudgedTold : {A : Type 0} → Judged A → List ℕ → Type 0
+IsJudgedTold (Good logs) told = ⊤
+IsJudgedTold {A} (Refused refused) told = IsRefusalTold A refused.reason told
+IsJudgedTold (NoRing reason) told = ⊤
+
+-- what is kept of logs that this reason stands against
+abbrev pub IsRefusalDrawn : Type 0 → DrawRequest → List Log → Reason → List ℕ → Type 0
+IsRefusalDrawn A draw logs reason text =
+    IsDrawn draw.picture.now (IsRefusedDrawing logs draw.from draw.to) (IsRefusalTold A reason) text
 
 -- what comes of a picture on a shelf: it is written to a new file of this name, and the status is that of the answer; or
 -- a fault of that is the outcome
@@ -61,27 +101,31 @@ PrintsDrawn writes answer picture name shelf shelf' out out' outcome =
 -- them. Where the question isn't one of this ring, or they aren't those of the logs of one, the line of the reason is printed
 -- alone. Or nothing is printed or kept: the moment is none of theirs, or the events at the columns that are asked for are
 -- too many for a picture
-pub data TellsDrawn {S : Type 0} (writes : Writing S) (texts : List (List ℕ)) (draw : DrawRequest) (question : List ℕ)
+pub data TellsDrawn (A : Type 0) {S : Type 0} (writes : Writing S) (texts : List (List ℕ)) (draw : DrawRequest) (question : List ℕ)
     (shelf shelf' : S) (out out' : SinkState) (outcome : Outcome) : Type 0 where
   good : (logs : List Log) (ring : ShownRing) (page : List ℕ) → AreGoodLogs texts logs
-      → IsAskedRing logs draw.moment question ring → IsDrawn draw.picture.now page
+      → IsAskedRing logs draw.moment question ring → IsRingDrawn draw ring page
       → PrintsDrawn writes Yes page draw.picture shelf shelf' out out' outcome
-      → TellsDrawn writes texts draw question shelf shelf' out out' outcome
+      → TellsDrawn A writes texts draw question shelf shelf' out out' outcome
   refused : (logs : List Log) (r : Reason) (page : List ℕ) → AreLogTexts texts logs → AreLogs logs
-      → IsLogsReason texts r → IsDrawn draw.picture.now page
+      → IsLogsReason texts r → IsRefusalDrawn A draw logs r page
       → PrintsDrawn writes (No r) page draw.picture shelf shelf' out out' outcome
-      → TellsDrawn writes texts draw question shelf shelf' out out' outcome
+      → TellsDrawn A writes texts draw question shelf shelf' out out' outcome
   no_question : (logs : List Log) (r : Reason) → AreGoodLogs texts logs → IsReasonAgainst texts draw.moment question r
       → shelf' ≡ shelf → Reports (No r) out out' outcome
-      → TellsDrawn writes texts draw question shelf shelf' out out' outcome
+      → TellsDrawn A writes texts draw question shelf shelf' out out' outcome
   no_ring : (r : Reason) → IsRingReason texts r → shelf' ≡ shelf → Reports (No r) out out' outcome
-      → TellsDrawn writes texts draw question shelf shelf' out out' outcome
+      → TellsDrawn A writes texts draw question shelf shelf' out out' outcome
   no_moment : (logs : List Log) (f : CutFault) → AreGoodLogs texts logs → IsCutFaultOf logs draw.moment f
       → shelf' ≡ shelf → out' ≡ out → outcome ≡ Err (NoMoment f)
-      → TellsDrawn writes texts draw question shelf shelf' out out' outcome
-  too_many : (logs : List Log) (events : ℕ) → AreLogTexts texts logs → AreLogs logs
-      → HasTooManyEvents logs draw.from draw.to events → shelf' ≡ shelf → out' ≡ out
-      → outcome ≡ Err (TooManyEvents events) → TellsDrawn writes texts draw question shelf shelf' out out' outcome
+      → TellsDrawn A writes texts draw question shelf shelf' out out' outcome
+  too_many : (logs : List Log) (ring : ShownRing) (events : ℕ) → AreGoodLogs texts logs
+      → IsAskedRing logs draw.moment question ring → HasTooManyAt ring draw.from draw.to events → shelf' ≡ shelf
+      → out' ≡ out → outcome ≡ Err (TooManyEvents events)
+      → TellsDrawn A writes texts draw question shelf shelf' out out' outcome
+  too_many_refused : (logs : List Log) (r : Reason) (events : ℕ) → AreLogTexts texts logs → AreLogs logs
+      → IsLogsReason texts r → HasTooManyEvents logs None draw.from draw.to events → shelf' ≡ shelf → out' ≡ out
+      → outcome ≡ Err (TooManyEvents events) → TellsDrawn A writes texts draw question shelf shelf' out out' outcome
 
 -- the names of the files to draw: that of a question first, if the moment is the first that meets one
 abbrev pub draw_names : DrawRequest → List FileName → List (List ℕ)
@@ -94,19 +138,19 @@ IsUndrawn reads draw names shelf f =
 
 -- the picture would be written over none of the files that are named, and these were read; what is drawn of their
 -- texts was told
-pub record DrawsTogether {S : Type 0} (reads : Reading S) (writes : Writing S) (draw : DrawRequest)
+pub record DrawsTogether (A : Type 0) {S : Type 0} (reads : Reading S) (writes : Writing S) (draw : DrawRequest)
     (names : List FileName)
     (shelf shelf' : S) (out out' : SinkState) (outcome : Outcome) : Type 0 where
   pub kept : KeepsFiles (Some draw.picture) (draw_names draw names)
   pub question : List ℕ
   pub texts : List (List ℕ)
   pub given : ReadsFiles reads (draw_names draw names) shelf (moment_texts draw.moment question ++ texts)
-  pub told : TellsDrawn writes texts draw question shelf shelf' out out' outcome
+  pub told : TellsDrawn A writes texts draw question shelf shelf' out out' outcome
 
 -- the logs of a source were drawn; or no answer is given, and the shelf is as it was
-abbrev pub DrawsLogs : {S : Type 0} → Reading S → Writing S → DrawRequest → S → S → SinkState → SinkState → Outcome
-    → Type 0
-DrawsLogs reads writes draw shelf shelf' out out' outcome =
+abbrev pub DrawsLogs : Type 0 → {S : Type 0} → Reading S → Writing S → DrawRequest → S → S → SinkState → SinkState
+    → Outcome → Type 0
+DrawsLogs A reads writes draw shelf shelf' out out' outcome =
     OfSource reads draw.logs shelf shelf' out out' outcome (λ names.
-    DrawsTogether reads writes draw names shelf shelf' out out' outcome
+    DrawsTogether A reads writes draw names shelf shelf' out out' outcome
     ⊎ ((shelf' ≡ shelf) × GivesNoAnswer (IsUndrawn reads draw names shelf) out out' outcome))

@@ -1,6 +1,5 @@
 -- What a crash left of the files of a ring's logs.
 use Rattle.std.specs.Prelude.{◌≡◌, ◌<◌, ◌⊎◌, ℕ, List, [], ◌∷◌, Ok, Err, map}
-use Rattle.std.specs.Borrow.{Bor}
 use Rattle.std.specs.List.{range_with_len}
 use Rattle.ira_event.specs.Limits.{MAX_NODES}
 use Rattle.ira_event.specs.Log.{Log}
@@ -44,14 +43,11 @@ HasLeftNames reads shelf (source.Folder folder) names =
     × (names ≡ map (λ place. InFolder folder place) (range_with_len 0 number))
 
 -- why there are none: a file of the folder is there and wasn't read, or memory ran out
-abbrev pub IsFolderFault : {S : Type 0} → Reading S → S → Bor (List ℕ) → ProgramFault → Type 0
-IsFolderFault reads shelf folder f =
-    ((place : ℕ) × (place < MAX_NODES) × IsFilesFault (left_by reads) (log_name folder.now place ∷ []) shelf f)
-    ⊎ (f ≡ OutOfMemory)
-
 abbrev pub IsLeftNamesFault : {S : Type 0} → Reading S → S → LogSource → ProgramFault → Type 0
 IsLeftNamesFault reads shelf (source.Files words) f = f ≡ OutOfMemory
-IsLeftNamesFault reads shelf (source.Folder folder) f = IsFolderFault reads shelf folder f
+IsLeftNamesFault reads shelf (source.Folder folder) f =
+    ((place : ℕ) × (place < MAX_NODES) × IsFilesFault (left_by reads) (log_name folder.now place ∷ []) shelf f)
+    ⊎ (f ≡ OutOfMemory)
 
 -- what is left of the files of these names was taken
 abbrev pub HasLeftFiles : {A : Type 0} {S : Type 0} → Reading S → List (List ℕ) → S → List (RecordedLog A) → Type 0

@@ -196,7 +196,7 @@ pub data CommandOutcome (A : Type 0) {S : Type 0} (reads : Reading S) (writes : 
       → CommandOutcome A reads writes words shelf shelf' out out' outcome
   shown : (show : ShowRequest) → IsShowLine words show → shelf' ≡ shelf → ShowsLogs reads show shelf out out' outcome
       → CommandOutcome A reads writes words shelf shelf' out out' outcome
-  drawn : (draw : DrawRequest) → IsDrawLine words draw → DrawsLogs reads writes draw shelf shelf' out out' outcome
+  drawn : (draw : DrawRequest) → IsDrawLine words draw → DrawsLogs A reads writes draw shelf shelf' out out' outcome
       → CommandOutcome A reads writes words shelf shelf' out out' outcome
   certified : (check : CheckRequest) → IsCheckLine words check → shelf' ≡ shelf
       → JudgesCheck (ReportsAs check.is_json) reads check.question.now check.certificate.now check.logs shelf

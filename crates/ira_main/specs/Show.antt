@@ -12,9 +12,10 @@ use Rattle.ira_view_page.specs.Printable.{IsPrintable}
 use Rattle.ira_view_json.specs.ShownAnswer.{IsRingText}
 use Rattle.ira_view_moment.specs.CutFault.{IsCutFault}
 use Rattle.ira_view_moment.specs.Moment.{whole_cut}
+use Rattle.ira_view_moment.specs.Told.{at_end}
 use Rattle.ira_view_moment.specs.declared.cut_fault.CutFault.{CutFault}
 use Rattle.ira_view.specs.Differences.{AreDifferences, ArePlaces, TellsOfLeader}
-use Rattle.ira_view.specs.ShownRing.{IsAtCut, IsNoCut, IsNoQuestion, IsOfQuestion, IsPageOf, ShownRing}
+use Rattle.ira_view.specs.ShownRing.{AreEventsOf, IsAtCut, IsNoCut, IsNoQuestion, IsOfQuestion, IsPageOf, ShownRing}
 use Rattle.ira_view.specs.declared.ring_fault.RingFault.{RingFault}
 use Rattle.ira_main_cli.specs.declared.asked_leaders.AskedLeaders.{AskedLeaders}
 use Rattle.ira_main_cli.specs.declared.asked_leaders.AskedLeaders.TheVariants.{Any, Places}
@@ -63,7 +64,8 @@ AreAskedDifferences logs None differences = differences ≡ []
 -- the ring of these logs at the moment that the words name: their end; when each node has made so many events, which are
 -- a consistent cut; or the first that meets a case of the question of this text, of the case of a number or of any
 abbrev pub IsAskedRing : List Log → AskedMoment → List ℕ → ShownRing → Type 0
-IsAskedRing logs AtEnd question ring = (ring.logs ≡ logs) × (ring.cut ≡ Some (whole_cut logs))
+IsAskedRing logs AtEnd question ring =
+    (ring.logs ≡ logs) × (ring.cut ≡ Some (whole_cut logs)) × (ring.told ≡ at_end)
 IsAskedRing logs (AtCut events) question ring = IsAtCut logs events.items ring
 IsAskedRing logs (OfQuestion asked) question ring = IsOfQuestion logs question asked.case ring
 
@@ -87,13 +89,17 @@ IsReasonAgainst texts _ question r = IsRingAnswer texts (audit.No r) × IsReport
 abbrev pub ring_text : List ℕ → List ℕ → List ℕ
 ring_text differences text = report_line audit.Yes ++ differences ++ text
 
--- a printable text was printed after the differences, which are printable too: an order of events, or else what the ring
--- looks like at its moment. The status says whether there are differences. Or the output stopped within it; or, of an
--- order of events, memory ran out after a first part of it
+-- the lines on a ring: all events in an order through its moment, where these are wanted, or else what it looks like then
+abbrev pub AreRingLines : Bool → ShownRing → List ℕ → Type 0
+AreRingLines true ring text = AreEventsOf ring text
+AreRingLines false ring text = IsPageOf ring text
+
+-- the lines on a ring were printed after the differences, both of them printable, and the status says whether there are
+-- differences; or the output stopped within a printable text; or, of events, memory ran out after a first part of one
 pub data PrintsRing (ring : ShownRing) (differences : List ℕ) (has_events : Bool) (out out' : SinkState)
     (outcome : Outcome) : Type 0 where
   printed : (text : List ℕ) (status : Status) → IsPrintable (differences ++ text)
-      → (has_events ≡ true) ⊎ IsPageOf ring text → Takes (ring_text differences text) out out'
+      → AreRingLines has_events ring text → Takes (ring_text differences text) out out'
       → IsLeadsStatus differences status → outcome ≡ Ok status → PrintsRing ring differences has_events out out' outcome
   stopped : (text : List ℕ) → IsPrintable (differences ++ text) → StopsIn (ring_text differences text) out out'
       → outcome ≡ Err CannotWriteAnswer → PrintsRing ring differences has_events out out' outcome
@@ -101,22 +107,23 @@ pub data PrintsRing (ring : ShownRing) (differences : List ℕ) (has_events : Bo
       → Takes (ring_text differences text) out out' → outcome ≡ Err OutOfMemory
       → PrintsRing ring differences has_events out out' outcome
 
--- the line of a yes with a status, and more lines of JSON were printed, and the status says whether there are
--- differences; or the output stopped within them; or memory ran out after a first part of them
-pub data PrintsRingLines (differences : List ℕ) (out out' : SinkState) (outcome : Outcome) : Type 0 where
-  printed : (text : List ℕ) (status : Status) → IsLeadsStatus differences status
-      → IsRingText (status_number status) text
-      → Takes text out out' → outcome ≡ Ok status → PrintsRingLines differences out out' outcome
-  stopped : (text : List ℕ) (status : Status) → IsLeadsStatus differences status
-      → IsRingText (status_number status) text
-      → StopsIn text out out' → outcome ≡ Err CannotWriteAnswer → PrintsRingLines differences out out' outcome
-  no_memory : (text : List ℕ) (status : Status) → IsLeadsStatus differences status
-      → IsRingText (status_number status) text
-      → Takes text out out' → outcome ≡ Err OutOfMemory → PrintsRingLines differences out out' outcome
+-- the text is the line of a yes, which has this status and the moment of the ring, and then lines of JSON
+abbrev pub AreJsonLines : ShownRing → Status → List ℕ → Type 0
+AreJsonLines ring status text = IsRingText (status_number status) ring.told ring.cut text
+
+-- lines of JSON on a ring were printed, and the status says whether there are differences; or the output stopped within
+-- them; or memory ran out after a first part of them
+pub data PrintsRingLines (ring : ShownRing) (differences : List ℕ) (out out' : SinkState) (outcome : Outcome) : Type 0 where
+  printed : (text : List ℕ) (status : Status) → IsLeadsStatus differences status → AreJsonLines ring status text
+      → Takes text out out' → outcome ≡ Ok status → PrintsRingLines ring differences out out' outcome
+  stopped : (text : List ℕ) (status : Status) → IsLeadsStatus differences status → AreJsonLines ring status text
+      → StopsIn text out out' → outcome ≡ Err CannotWriteAnswer → PrintsRingLines ring differences out out' outcome
+  no_memory : (text : List ℕ) (status : Status) → IsLeadsStatus differences status → AreJsonLines ring status text
+      → Takes text out out' → outcome ≡ Err OutOfMemory → PrintsRingLines ring differences out out' outcome
 
 -- a ring is printed as JSON, where that is wanted, or else for a person
 abbrev pub PrintsRingAs : Bool → ShownRing → List ℕ → Bool → SinkState → SinkState → Outcome → Type 0
-PrintsRingAs true ring differences has_events = PrintsRingLines differences
+PrintsRingAs true ring differences has_events = PrintsRingLines ring differences
 PrintsRingAs false ring differences has_events = PrintsRing ring differences has_events
 
 -- what comes of texts and of the text of a question: they are those of good logs, and the ring is printed at the moment

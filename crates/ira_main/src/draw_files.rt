@@ -1,10 +1,10 @@
-ghost use Rattle.std.specs.Prelude.{◌≡◌, ◌++◌, ◌⊎◌, ℕ, Err, List, MatchResult, length};
+ghost use Rattle.std.specs.Prelude.{◌≡◌, ◌++◌, ◌⊎◌, ℕ, Err, List, MatchResult, length, string_bytes, true};
 ghost use Rattle.ira_audit.specs.GoodLogs.{AreGoodLogs};
 ghost use Rattle.ira_audit.specs.Judged.{IsJudged};
 ghost use Rattle.ira_audit.specs.Report.{IsReportable};
 ghost use Rattle.ira_main_files.specs.Shelf.{WritesFile};
 ghost use Rattle.ira_main_files.specs.declared.file_name.FileName.{FileName as Name};
-ghost use Rattle.ira_main.specs.Draw.{DrawsLogs, KeepsPicture, PrintsDrawn, TellsDrawn};
+ghost use Rattle.ira_main.specs.Draw.{DrawsLogs, IsJudgedTold, KeepsPicture, PrintsDrawn, TellsDrawn, names_page};
 ghost use Rattle.ira_main.specs.FilesRead.{names_of};
 ghost use Rattle.ira_main.specs.ProgramFault.{draw_fault};
 ghost use Rattle.ira_main.specs.Overwriting.{input_names};
@@ -108,7 +108,7 @@ fn draw_good<'a, A: Allocator + Clone, F: Shelf, W: Sink>(
 ) -> Result<Status, ProgramFault<'a>>
     requires { length names.now ≡ length logs }
     ensures { (texts : List (List ℕ)) → AreGoodLogs texts logs
-        → TellsDrawn (WritesFile F.creates F.closes F.Out.state) texts draw.now question.now shelf.old shelf.new
+        → TellsDrawn A (WritesFile F.creates F.closes F.Out.state) texts draw.now question.now shelf.old shelf.new
         (W.state out.old) (W.state out.new) result
         ⊎ ((shelf.new ≡ shelf.old) × (W.state out.new ≡ W.state out.old) × (result ≡ Err OutOfMemory)) }
 {
@@ -135,9 +135,10 @@ fn draw_judged<'a, A: Allocator + Clone, F: Shelf, W: Sink>(
     shelf: &mut F,
     out: &mut W,
 ) -> Result<Status, ProgramFault<'a>>
-    requires { (texts : List (List ℕ)) × IsJudged texts read.judged × (length names.now ≡ length texts) }
+    requires judged { (texts : List (List ℕ)) × IsJudged texts read.judged × (length names.now ≡ length texts) }
+    requires told { names_page draw.now.picture.now ≡ true → IsJudgedTold read.judged (string_bytes read.told) }
     ensures { (texts : List (List ℕ)) → IsJudged texts read.judged
-        → TellsDrawn (WritesFile F.creates F.closes F.Out.state) texts draw.now question.now shelf.old shelf.new
+        → TellsDrawn A (WritesFile F.creates F.closes F.Out.state) texts draw.now question.now shelf.old shelf.new
         (W.state out.old) (W.state out.new) result
         ⊎ ((shelf.new ≡ shelf.old) × (W.state out.new ≡ W.state out.old) × (result ≡ Err OutOfMemory)) }
 {
@@ -168,7 +169,7 @@ where
     A: Allocator + Clone + Send + Sync,
     F: Shelf + Sync,
     W: Sink,
-    ensures { DrawsLogs F.reads (WritesFile F.creates F.closes F.Out.state) draw.now shelf.old shelf.new
+    ensures { DrawsLogs A F.reads (WritesFile F.creates F.closes F.Out.state) draw.now shelf.old shelf.new
         (W.state out.old) (W.state out.new) result }
 {
     let names = source_names(&alloc, &draw.logs, shelf)?;

@@ -1,8 +1,12 @@
-ghost use Rattle.std.specs.Prelude.{◌≡◌, ℕ, Err, IfOk, length};
+ghost use Rattle.std.specs.Prelude.{◌≡◌, ◌++◌, ℕ, Err, IfOk, List, None, Ok, OnOk, length, true};
 ghost use Rattle.ira_view_html.specs.HtmlPage.{IsHtmlPage};
 ghost use Rattle.ira_view_picture.specs.DrawFault.{HasTooManyEvents};
 ghost use Rattle.ira_view_page.specs.Printable.{IsPrintable};
-ghost use Rattle.ira_main.specs.Draw.{IsDrawn, names_page};
+ghost use Rattle.ira_view.specs.ShownRing.{HasTooManyAt};
+ghost use Rattle.ira_audit.specs.declared.answer.Answer.TheVariants as answer;
+ghost use Rattle.ira_main.specs.Draw.{IsRefusalDrawn, IsRefusalTold, IsRingDrawn, IsRingTold, names_page};
+ghost use Rattle.ira_main.specs.Show.{AreJsonLines};
+ghost use Rattle.ira_main.specs.Status.{answer_status};
 
 use crate::ring_printer::paths;
 use crate::status::Status;
@@ -45,6 +49,8 @@ fn add_told<A: Allocator + Clone>(
     lines: &mut MemorySink<A>,
 ) -> Result<(), OutOfMemory>
     requires { length files.now ≡ length ring.now.logs }
+    ensures { OnOk result ((added : List ℕ) × AreJsonLines ring.now (answer_status answer.Yes) added
+        × (lines.new.bytes ≡ lines.old.bytes ++ added)) }
 {
     let answer = ShownAnswer {
         status: Status::of_answer(&Answer::Yes).number(),
@@ -64,6 +70,7 @@ fn told_lines<A: Allocator + Clone>(
     names: &[FileName<'_>],
 ) -> Result<MemorySink<A>, OutOfMemory>
     requires { length names.now ≡ length ring.now.logs }
+    ensures { IfOk result (λ lines. IsRingTold ring.now lines.bytes) }
 {
     let files = paths(&alloc, names)?;
     let mut lines = MemorySink::new(alloc.clone()?);
@@ -78,7 +85,8 @@ fn page_of<A: Allocator>(
     picture: Result<PageText<A>, DrawFault>,
     json: &[u8],
 ) -> Result<PageText<A>, DrawFault>
-    ensures page { IfOk result (λ text. IsPrintable text × IsHtmlPage text) }
+    ensures page { IfOk result (λ text. IsPrintable text
+        × ((drawn : List ℕ) × (picture ≡ Ok drawn) × IsHtmlPage drawn json.now text)) }
     ensures events { (events : ℕ) → result ≡ Err (DrawFault.TooManyEvents events)
         → picture ≡ Err (DrawFault.TooManyEvents events) }
 {
@@ -97,9 +105,9 @@ pub(crate) fn ring_text<A: Allocator + Clone>(
     draw: &DrawRequest<'_>,
 ) -> Result<PageText<A>, DrawFault>
     requires { length names.now ≡ length ring.now.logs }
-    ensures drawn { IfOk result (IsDrawn draw.now.picture.now) }
+    ensures drawn { IfOk result (IsRingDrawn draw.now ring.now) }
     ensures events { (events : ℕ) → result ≡ Err (DrawFault.TooManyEvents events)
-        → HasTooManyEvents ring.now.logs draw.now.from draw.now.to events }
+        → HasTooManyAt ring.now draw.now.from draw.now.to events }
 {
     let picture = ring.picture(alloc.clone()?, columns_of(draw));
     if is_page(draw.picture) {
@@ -117,9 +125,10 @@ pub(crate) fn refused_text<A: Allocator + Clone>(
     told: &[u8],
     draw: &DrawRequest<'_>,
 ) -> Result<PageText<A>, DrawFault>
-    ensures drawn { IfOk result (IsDrawn draw.now.picture.now) }
+    requires { names_page draw.now.picture.now ≡ true → IsRefusalTold A refused.now.reason told.now }
+    ensures drawn { IfOk result (IsRefusalDrawn A draw.now refused.now.logs refused.now.reason) }
     ensures events { (events : ℕ) → result ≡ Err (DrawFault.TooManyEvents events)
-        → HasTooManyEvents refused.now.logs draw.now.from draw.now.to events }
+        → HasTooManyEvents refused.now.logs None draw.now.from draw.now.to events }
 {
     let picture = draw_refused(alloc.clone()?, refused, columns_of(draw));
     if is_page(draw.picture) {

@@ -1,7 +1,8 @@
 ghost use Rattle.std.specs.Prelude.{◌∷◌, [], IfErr, IfOk, MatchResult, Ok};
 ghost use Rattle.ira_main_files.specs.FileName.{file_name};
+ghost use Rattle.ira_main_cli.specs.declared.log_source.LogSource.TheVariants.{Folder};
 ghost use Rattle.ira_main.specs.FilesRead.{IsFilesFault, names_of};
-ghost use Rattle.ira_main.specs.LeftFiles.{HasLeftFiles, HasLeftNames, IsFolderFault, IsLeftFault, IsLeftNamesFault, SaysLeft, left_by};
+ghost use Rattle.ira_main.specs.LeftFiles.{HasLeftFiles, HasLeftNames, IsLeftFault, IsLeftNamesFault, SaysLeft, left_by};
 
 use crate::program_fault::ProgramFault;
 use crate::read_files::read_in_turn;
@@ -40,7 +41,7 @@ fn number_left<'a, A: Allocator + Clone, F: TextSource>(
     shelf: &F,
 ) -> Result<u8, ProgramFault<'a>>
     ensures { MatchResult result (SaysLeft F.reads shelf.now folder.now)
-        (IsFolderFault F.reads shelf.now folder.entry) }
+        (IsLeftNamesFault F.reads shelf.now (Folder folder.entry)) }
 {
     let mut text = TextBuffer::new(alloc.clone()?);
     for place in 0..MAX_NODES as u8 {

@@ -1,6 +1,7 @@
-ghost use Rattle.std.specs.Prelude.{ℕ, List, MatchResult};
+ghost use Rattle.std.specs.Prelude.{◌≡◌, ◌++◌, ℕ, IfOk, List, MatchResult, OnOk, string_bytes, true};
 ghost use Rattle.ira_audit.specs.Judged.{IsJudged};
 ghost use Rattle.ira_view.specs.Texts.{texts_of};
+ghost use Rattle.ira_main.specs.Draw.{IsJudgedTold, names_page};
 ghost use Rattle.ira_main.specs.FilesRead.{IsFilesFault, ReadsFiles, names_of};
 
 use crate::drawn_text::is_page;
@@ -8,7 +9,7 @@ use crate::named_file::{named_texts, read_named};
 use crate::program_fault::ProgramFault;
 use crate::read_files::read_logs;
 use crate::status::Status;
-use ira_audit::Judged;
+use ira_audit::{Answer, Judged};
 use ira_event::{Logs, OutOfMemory};
 use ira_main_cli::DrawRequest;
 use ira_main_files::{FileName, TextSource};
@@ -18,11 +19,11 @@ use ira_view_page::NamedText;
 use std::alloc::{Allocator, Global};
 use std::thread::Threads;
 
-/// Logs that were judged to be drawn, and what is told of a no.
+/// Logs that were judged to be drawn, and what is told of refused ones.
 #[derive(Drop)]
 pub(crate) struct ToDraw<A: Allocator> {
     pub(crate) judged: Judged<A>,
-    /// Why the answer is a no, and the files of the logs, as lines of JSON; nothing after a yes, and where no page is wanted.
+    /// Why the logs of a ring are refused, and their files, as lines of JSON; nothing of others, and where no page is wanted.
     pub(crate) told: String<Global>,
 }
 
@@ -32,7 +33,9 @@ fn add_logs<A: Allocator>(
     told: &mut String<Global>,
     logs: &Logs<A>,
     texts: &[NamedText<'_>],
-) -> Result<(), OutOfMemory> {
+) -> Result<(), OutOfMemory>
+    ensures { OnOk result ((added : List ℕ) × (string_bytes told.new ≡ string_bytes told.old ++ added)) }
+{
     for place in 0..logs.size().get() {
         if let Some(file) = texts.get(usize::from(place)) {
             told.push_str(log_line(text, logs.log(place), file.name)?.as_str())?;
@@ -41,24 +44,24 @@ fn add_logs<A: Allocator>(
     Ok(())
 }
 
-/// Why the answer is a no, and a line for each log of the ring; nothing after a yes.
-fn told_no<A: Allocator + Clone>(
+/// Why logs of a ring are refused, and a line for each of them; nothing of others.
+fn told_refused<A: Allocator + Clone>(
     text: Global,
     alloc: A,
     texts: &[NamedText<'_>],
     judged: &Judged<A>,
 ) -> Result<String<Global>, OutOfMemory>
     requires { IsJudged (texts_of texts.now) judged.now }
+    ensures { IfOk result (λ told. IsJudgedTold judged.now (string_bytes told)) }
 {
-    if let Judged::Good(_) = judged {
+    let Judged::Refused(refused) = judged else {
         return Ok(String::new(text));
-    }
+    };
     let view = explain_texts(alloc, texts, judged)?;
-    let status = Status::of_answer(&view.answer);
-    let mut told = explained_line(text, &view.answer, status.number(), &view.explanation)?;
-    if let Judged::Refused(refused) = judged {
-        add_logs(text, &mut told, refused.logs(), texts)?;
-    }
+    let answer = Answer::No(refused.reason());
+    let status = Status::of_answer(&answer);
+    let mut told = explained_line(text, &answer, status.number(), &view.explanation)?;
+    add_logs(text, &mut told, refused.logs(), texts)?;
     Ok(told)
 }
 
@@ -76,14 +79,16 @@ where
     A: Allocator + Clone + Send + Sync,
     F: TextSource + Sync,
     ensures { MatchResult result
-        (λ read. (texts : List (List ℕ)) × ReadsFiles F.reads (names_of names.now) shelf.now texts × IsJudged texts read.judged)
+        (λ read. ((texts : List (List ℕ)) × ReadsFiles F.reads (names_of names.now) shelf.now texts
+        × IsJudged texts read.judged)
+        × (names_page draw.now.picture.now ≡ true → IsJudgedTold read.judged (string_bytes read.told)))
         (IsFilesFault F.reads (names_of names.now) shelf.now) }
 {
     if is_page(draw.picture) {
         let files = read_named(&alloc, names, shelf)?;
         let texts = named_texts(alloc.clone()?, &files)?;
         let judged = judge_texts(rt, alloc.clone()?, &texts)?;
-        let told = told_no(rt.alloc(), alloc, &texts, &judged)?;
+        let told = told_refused(rt.alloc(), alloc, &texts, &judged)?;
         return Ok(ToDraw { judged, told });
     }
     let judged = read_logs(rt, alloc, names, shelf)?.judge_on_threads(rt)?;

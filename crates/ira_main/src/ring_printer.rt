@@ -81,7 +81,7 @@ fn print_json<'a, A: Allocator + Clone, W: Sink>(
     out: &mut W,
 ) -> Result<Status, ProgramFault<'a>>
     requires { length names.now ≡ length ring.now.logs }
-    ensures { PrintsRingLines differences.now (W.state out.old) (W.state out.new) result
+    ensures { PrintsRingLines ring.now differences.now (W.state out.old) (W.state out.new) result
         ⊎ ((W.state out.new ≡ W.state out.old) × (result ≡ Err OutOfMemory)) }
 {
     let files = paths(&alloc, names)?;

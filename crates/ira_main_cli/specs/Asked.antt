@@ -128,9 +128,10 @@ pub record HasLogsToJudge (rows : List Row) (request : LogsRequest) : Type 0 whe
   pub together : is_given (codes "each") rows ≡ false
   pub logs : HasLogs rows request.logs
 
--- the names are those of the folders
+-- the names are those of the folders, of which there is at least one
 pub record HasFolders (rows : List Row) (folders : List (Bor Text)) : Type 0 where
   pub names : all_of (codes "LOG") rows ≡ Some (map (λ name. name.now) folders)
+  pub some : folders ≢ []
   pub folder : IsLeftOut (codes "dir") rows
 
 -- the same where `--each` is given

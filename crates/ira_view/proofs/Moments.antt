@@ -18,7 +18,7 @@ use Rattle.ira_audit.specs.declared.refusal.Refusal.TheVariants as refusal
 use Rattle.ira_view_moment.specs.ChosenMoment.{cut_of}
 use Rattle.ira_view_moment.specs.declared.chosen_moment.ChosenMoment.{ChosenMoment}
 use Rattle.ira_view_moment.specs.declared.chosen_moment.ChosenMoment.TheVariants.{AtEnd, AtCut, OfCase, Unmet}
-use Rattle.ira_view_draw.specs.Told.{told_of}
+use Rattle.ira_view_moment.specs.Told.{told_of}
 use Rattle.ira_view_show.specs.EventsText.{TellsEventsOf}
 use Rattle.ira_view_show.specs.MomentText.{TellsChosen}
 use Rattle.ira_view.specs.FirstCut.{IsPresent}

@@ -6,7 +6,7 @@ use Rattle.ira_pred.specs.Case.{Conjunct}
 use Rattle.ira_elim.specs.LeastCut.{IsLeastCut}
 use Rattle.ira_audit.specs.AskedQuestion.{AskedQuestion, IsFirstPresent}
 use Rattle.ira_audit.specs.Never.{NoCutMeetsAny}
-use Rattle.ira_view_draw.specs.Told.{Told, of_case, unmet}
+use Rattle.ira_view_moment.specs.Told.{Told, of_case, unmet}
 
 -- of the case of a number: the least consistent cut that meets it; or there is none, since no consistent cut does, or
 -- there is no such case

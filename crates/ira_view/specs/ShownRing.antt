@@ -15,7 +15,9 @@ use Rattle.ira_view_show.specs.Heading.{no_moment_words}
 use Rattle.ira_view_show.specs.MomentText.{TellsMoment}
 use Rattle.ira_view_show.specs.Summary.{summary_text}
 use Rattle.ira_view_draw.specs.Drawing.{IsDrawing}
-use Rattle.ira_view_draw.specs.Told.{Told, at_cut, at_end, of_case, unmet}
+use Rattle.ira_view_draw.specs.MomentLine.{cut_with_line}
+use Rattle.ira_view_picture.specs.DrawFault.{HasTooManyEvents}
+use Rattle.ira_view_moment.specs.Told.{Told, at_cut, at_end, of_case, unmet}
 use Rattle.ira_view_moment.specs.Moment.{IsMoment, Moment}
 use Rattle.ira_view.specs.FirstCut.{IsFirstMoment}
 use Rattle.ira_view.specs.declared.ring_fault.RingFault.{RingFault}
@@ -107,3 +109,7 @@ AreEventsOf ring text = TellsEventsAt ring.logs ring.cut ring.told text
 -- the text is a picture of the ring at these columns, with a line at its moment
 abbrev pub IsPictureOf : ShownRing → Option ℕ → Option ℕ → List ℕ → Type 0
 IsPictureOf ring from to text = IsDrawing ring.logs ring.cut ring.told from to text
+
+-- at these columns it has so many events, too many for a picture
+abbrev pub HasTooManyAt : ShownRing → Option ℕ → Option ℕ → ℕ → Type 0
+HasTooManyAt ring from to events = HasTooManyEvents ring.logs (cut_with_line ring.told ring.cut) from to events

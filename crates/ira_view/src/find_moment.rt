@@ -4,7 +4,7 @@ ghost use Rattle.ira_event.specs.Logs.{AreLogs};
 ghost use Rattle.ira_order.specs.Cut.{IsConsistentCut, IsCut};
 ghost use Rattle.ira_pred.specs.Question.{IsQuestion};
 ghost use Rattle.ira_view_moment.specs.ChosenMoment.{IsMomentOf, cut_of};
-ghost use Rattle.ira_view_draw.specs.Told.{told_of};
+ghost use Rattle.ira_view_moment.specs.Told.{told_of};
 ghost use Rattle.ira_view_moment.specs.CutFault.{IsCutFault};
 ghost use Rattle.ira_view_moment.specs.declared.cut_fault.CutFault.{CutFault};
 ghost use Rattle.ira_view.specs.FirstCut.{IsFirstMoment, IsPresent};

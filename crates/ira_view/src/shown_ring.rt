@@ -1,13 +1,13 @@
 ghost use Rattle.std.specs.Prelude.{◌≡◌, ℕ, Err, IfErr, IfOk, List, MatchResult, OnOk, Some, length};
 ghost use Rattle.ira_event.specs.Sink.{Takes};
-ghost use Rattle.ira_view_draw.specs.Told.{at_end};
+ghost use Rattle.ira_view_moment.specs.Told.{at_end};
 ghost use Rattle.ira_view_moment.specs.Moment.{whole_cut};
 ghost use Rattle.ira_view_json.specs.ShownAnswer.{WroteRing};
-ghost use Rattle.ira_view_picture.specs.DrawFault.{HasTooManyEvents, IsDrawFault};
+ghost use Rattle.ira_view_picture.specs.DrawFault.{IsDrawFault};
 ghost use Rattle.ira_view_show.specs.Showed.{Showed};
 ghost use Rattle.ira_view_page.specs.Printable.{IsPrintable};
-ghost use Rattle.ira_view.specs.ShownRing.{AreEventsOf, IsAtCut, IsNoCut, IsNoQuestion, IsOfQuestion, IsPageOf};
-ghost use Rattle.ira_view.specs.ShownRing.{IsPictureOf};
+ghost use Rattle.ira_view.specs.ShownRing.{AreEventsOf, HasTooManyAt, IsAtCut, IsNoCut, IsNoQuestion, IsOfQuestion};
+ghost use Rattle.ira_view.specs.ShownRing.{IsPageOf, IsPictureOf};
 
 use crate::find_moment::{asked_cut, first_moment};
 use crate::ring_fault::RingFault;
@@ -34,7 +34,7 @@ impl<A: Allocator> Model for ShownRing<A> {
     ghost use Rattle.std.specs.Coded.{codes};
     ghost use Rattle.ira_pred.specs.FormulaCode.{formula_code};
     ghost use Rattle.ira_view_moment.specs.ChosenMoment.{IsMomentOf, cut_of};
-    ghost use Rattle.ira_view_draw.specs.Told.{told_of};
+    ghost use Rattle.ira_view_moment.specs.Told.{told_of};
     ghost use Rattle.ira_view.specs.ShownRing.{ShownRing};
 
     ghost Value = { ShownRing };
@@ -91,7 +91,7 @@ impl<A: Allocator + Clone> ShownRing<A> {
     /// written block by block.
     pub fn write_events<W: Sink>(&self, alloc: A, sink: &mut W) -> Result<(), ShowFault>
         ensures showed { Showed result (W.state sink.old) (W.state sink.new) }
-        ensures told { OnOk result ((text : List ℕ) × AreEventsOf self.now text
+        ensures told { OnOk result ((text : List ℕ) × AreEventsOf self.now text × IsPrintable text
             × Takes text (W.state sink.old) (W.state sink.new)) }
     {
         show_events(alloc, self.logs.logs(), &self.moment, sink)
@@ -110,7 +110,7 @@ impl<A: Allocator + Clone> ShownRing<A> {
         sink: &mut W,
     ) -> Result<(), ShowFault>
         requires { length files.now ≡ length self.now.logs }
-        ensures { WroteRing answer.entry.status result (W.state sink.old) (W.state sink.new) }
+        ensures { WroteRing answer.entry.status self.now.told self.now.cut result (W.state sink.old) (W.state sink.new) }
     {
         let logs = self.logs.logs();
         write_ring(
@@ -127,11 +127,10 @@ impl<A: Allocator + Clone> ShownRing<A> {
 
     /// A picture of what happened at these columns, with a line at the moment where it isn't the end of the logs.
     pub fn picture(&self, alloc: A, columns: ColumnRange) -> Result<PageText<A>, DrawFault>
-        ensures printable { IfOk result IsPrintable }
         ensures drawing { IfOk result (IsPictureOf self.now columns.from columns.to) }
         ensures fault { IfErr result IsDrawFault }
         ensures events { (events : ℕ) → result ≡ Err (DrawFault.TooManyEvents events)
-            → HasTooManyEvents self.now.logs columns.from columns.to events }
+            → HasTooManyAt self.now columns.from columns.to events }
     {
         draw(alloc, self.logs.logs(), &self.moment, columns)
     }

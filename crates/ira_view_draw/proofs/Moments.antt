@@ -5,10 +5,11 @@ use Rattle.std.specs.Option.{ForSome}
 use Rattle.std.proofs.lemmas.Option.{get_or_from_slice_get, slice_get_cases}
 use Rattle.ira_event.specs.Log.{Log}
 use Rattle.ira_pred.specs.Case.{Conjunct}
-use Rattle.ira_view_draw.specs.Told.{asked_of, cut_with_line, told_of}
+use Rattle.ira_view_draw.specs.MomentLine.{asked_of, cut_with_line}
 use Rattle.ira_view_moment.specs.ChosenMoment.{HasItsCase, IsMomentOf, case_of, cut_of, numbers_of}
 use Rattle.ira_view_moment.specs.declared.chosen_moment.ChosenMoment.{ChosenMoment}
 use Rattle.ira_view_moment.specs.declared.chosen_moment.ChosenMoment.TheVariants.{AtEnd, AtCut, OfCase, Unmet}
+use Rattle.ira_view_moment.specs.Told.{told_of}
 
 -- a moment of logs has a number for each of them, where it has numbers
 pub has_numbers : {A C : Type 0} (see : C → List ℕ) (logs : List Log) (moment : ChosenMoment A) (found : Option C)

@@ -8,7 +8,7 @@ use Rattle.ira_view_picture.specs.declared.window.Window.{Window}
 use Rattle.ira_view_picture.specs.Window.{is_in}
 use Rattle.ira_view_draw.specs.Escaped.{told_words}
 use Rattle.ira_view_draw.specs.Grid.{foot_of, picture_width, x_of, y_of}
-use Rattle.ira_view_draw.specs.Told.{Told, at_cut, at_end, of_case, unmet}
+use Rattle.ira_view_moment.specs.Told.{Told, at_cut, at_end, of_case, unmet}
 use Rattle.ira_view_draw.specs.Svg.{attribute_text, down_text, number_text, tag_text}
 
 -- the word before the number of a node, with a comma where it isn't the first
@@ -31,6 +31,20 @@ words_of_moment at_end = codes "here"
 words_of_moment (at_cut events) = codes "here"
 words_of_moment (of_case number case) = codes "case " ++ decimal number ++ codes " is met here: " ++ case_words case
 words_of_moment (unmet number) = codes "here"
+
+-- what the case asks of nodes whose first moment it is; nothing of another moment
+abbrev pub asked_of : Told → List Conjunct
+asked_of at_end = []
+asked_of (at_cut events) = []
+asked_of (of_case number case) = case
+asked_of (unmet number) = []
+
+-- the cut of the moment that has a line in a picture: the end of the logs has none, unless it is named
+abbrev pub cut_with_line : Told → Option (List ℕ) → Option (List ℕ)
+cut_with_line at_end cut = None
+cut_with_line (at_cut events) cut = cut
+cut_with_line (of_case number case) cut = cut
+cut_with_line (unmet number) cut = cut
 
 -- from where to where the line leads
 abbrev pub line_top : ℕ

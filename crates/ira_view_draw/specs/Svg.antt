@@ -24,6 +24,11 @@ class_text (c ∷ cs) = attribute_text (codes "class") (c ∷ cs)
 abbrev pub tag_text : List ℕ → List ℕ → List ℕ
 tag_text element class = codes "<" ++ element ++ class_text class
 
+-- how words at a place begin
+abbrev pub words_tag : List ℕ → ℕ → ℕ → List ℕ
+words_tag class x y =
+    tag_text (codes "text") class ++ number_text (codes "x") x ++ number_text (codes "y") y ++ codes ">"
+
 -- how a line of a path begins
 abbrev pub move_text : ℕ → ℕ → List ℕ
 move_text x y = codes "M" ++ decimal x ++ codes " " ++ decimal y

@@ -1,9 +1,15 @@
-ghost use Rattle.std.specs.Prelude.{◌≡◌, ◌++◌, ℕ, Err, IfErr, IfOk, List, Some, codes};
+ghost use Rattle.std.specs.Prelude.{◌≡◌, ◌++◌, ℕ, Err, IfErr, IfOk, List, None, Some, codes};
+ghost use Rattle.std.specs.List.{flat_map};
 ghost use Rattle.ira_view_moment.specs.ChosenMoment.{IsMomentOf, cut_of};
 ghost use Rattle.ira_view_page.specs.Printable.{IsPrintable};
 ghost use Rattle.ira_view_picture.specs.DrawFault.{HasTooManyEvents, IsDrawFault};
-ghost use Rattle.ira_view_draw.specs.Drawing.{IsDrawing};
-ghost use Rattle.ira_view_draw.specs.Told.{told_of};
+ghost use Rattle.ira_view_page.specs.Page.{Added};
+ghost use Rattle.ira_view_draw.specs.Drawing.{IsDrawing, IsRefusedDrawing};
+ghost use Rattle.ira_view_draw.specs.Grid.{IsAcross, IsDown};
+ghost use Rattle.ira_view_draw.specs.Highlight.{circle_text, highlight_text, words_begin, words_y};
+ghost use Rattle.ira_view_draw.specs.MomentLine.{cut_with_line};
+ghost use Rattle.ira_view_draw.specs.declared.highlight.Highlight.{Highlight as Ring};
+ghost use Rattle.ira_view_moment.specs.Told.{told_of};
 
 use crate::arrows::write_arrows;
 use crate::class;
@@ -35,33 +41,59 @@ fn column_of<A: Allocator>(picture: &Picture<A>, at: EventAt) -> Option<u32> {
     lane.marks.get(k).map(|mark| mark.column)
 }
 
-/// A ring round an event, and why: away from the arrows, above the lane and to the right; below it at node 1 of two.
-fn write_highlight<A: Allocator>(
-    out: &mut Svg<A>,
-    grid: &Grid,
-    highlight: &Highlight,
-    column: u32,
-) {
-    let place = usize::from(highlight.at.place);
-    let (x, y) = (grid.x(column), grid.y(place));
+/// A ring at a place.
+fn write_circle<A: Allocator>(out: &mut Svg<A>, x: u64, y: u64)
+    ensures { Added out.old.page (circle_text x y) out.new.page }
+{
     out.open("circle", class::RING);
     out.attribute("fill", "none");
     out.number("cx", x);
     out.number("cy", y);
     out.number("r", 8);
     out.page.words("/>");
-    let beside = if grid.nodes == 2 && place == 1 {
+}
+
+/// Where words stand beside a ring: above the lane, below it at node 1 of two.
+fn beside(nodes: u8, place: u8, y: u64) -> u64
+    requires { IsDown y }
+    ensures { result ≡ words_y nodes place y }
+{
+    if nodes == 2 && place == 1 {
         y + 24
     } else {
         y - 14
-    };
-    if grid.nodes == 2 {
-        out.begin_text(class::CENTRED_REMARK, x, beside);
-    } else if matches!(highlight.cause, Cause::Waits) {
-        out.begin_text(class::REMARK_BEFORE, x - 10, beside);
-    } else {
-        out.begin_text(class::REMARK, x - 4, beside);
     }
+}
+
+/// Begins the words at a ring: away from the arrows, to the right.
+fn begin_words<A: Allocator>(out: &mut Svg<A>, nodes: u8, cause: Cause, x: u64, y: u64)
+    requires { IsAcross x }
+    ensures { Added out.old.page (words_begin nodes cause x y) out.new.page }
+{
+    if nodes == 2 {
+        out.begin_text(class::CENTRED_REMARK, x, y);
+    } else if cause.is_left() {
+        out.begin_text(class::REMARK_BEFORE, x - 10, y);
+    } else {
+        out.begin_text(class::REMARK, x - 4, y);
+    }
+}
+
+/// A ring round an event, and why.
+fn write_highlight<A: Allocator>(out: &mut Svg<A>, grid: &Grid, highlight: &Highlight, column: u32)
+    ensures { Added out.old.page
+        (highlight_text grid.now.nodes grid.now.window (highlight.now, column)) out.new.page }
+{
+    let EventAt { place, .. } = highlight.at;
+    let (x, y) = (grid.x(column), grid.y(usize::from(place)));
+    write_circle(out, x, y);
+    begin_words(
+        out,
+        grid.nodes,
+        highlight.cause,
+        x,
+        beside(grid.nodes, place, y),
+    );
     highlight.cause.write(&mut out.page);
     out.page.words("</text>\n");
 }
@@ -72,7 +104,10 @@ fn write_highlights<A: Allocator>(
     picture: &Picture<A>,
     grid: &Grid,
     events: &[Highlight],
-) {
+)
+    ensures { (rings : List (Ring × ℕ))
+        × Added out.old.page (flat_map (highlight_text grid.now.nodes grid.now.window) rings) out.new.page }
+{
     for event in events {
         if let Some(column) = column_of(picture, event.at) {
             write_highlight(out, grid, event, column);
@@ -141,7 +176,8 @@ pub fn draw<A: Allocator + Clone>(
         (IsDrawing logs.now (cut_of logs.now moment.now) (told_of moment.now) columns.from columns.to) }
     ensures fault { IfErr result IsDrawFault }
     ensures events { (events : ℕ) → result ≡ Err (DrawFault.TooManyEvents events)
-        → HasTooManyEvents logs.now columns.from columns.to events }
+        → HasTooManyEvents logs.now (cut_with_line (told_of moment.now) (cut_of logs.now moment.now)) columns.from
+        columns.to events }
 {
     let ColumnRange { from, to } = columns;
     let picture = Picture::of(alloc.clone()?, logs, moment.cut(), from, to)?;
@@ -159,10 +195,10 @@ pub fn draw_refused<A: Allocator + Clone>(
     refused: &RefusedLogs<A>,
     columns: ColumnRange,
 ) -> Result<PageText<A>, DrawFault>
-    ensures printable { IfOk result IsPrintable }
+    ensures drawing { IfOk result (IsRefusedDrawing refused.now.logs columns.from columns.to) }
     ensures fault { IfErr result IsDrawFault }
     ensures events { (events : ℕ) → result ≡ Err (DrawFault.TooManyEvents events)
-        → HasTooManyEvents refused.now.logs columns.from columns.to events }
+        → HasTooManyEvents refused.now.logs None columns.from columns.to events }
 {
     let ColumnRange { from, to } = columns;
     let logs = refused.logs();

@@ -3,10 +3,10 @@ ghost use Rattle.ira_pred.specs.Clause.{formula};
 ghost use Rattle.ira_view_moment.specs.ChosenMoment.{HasItsCase};
 ghost use Rattle.ira_view_page.specs.Page.{Added};
 ghost use Rattle.ira_view_draw.specs.Escaped.{told_words};
-ghost use Rattle.ira_view_draw.specs.MomentLine.{anchor_of, asked_text, case_words, is_line_drawn, line_of_moment, line_text};
+ghost use Rattle.ira_view_draw.specs.MomentLine.{anchor_of, asked_of, asked_text, case_words, is_line_drawn, line_of_moment, line_text};
 ghost use Rattle.ira_view_draw.specs.MomentLine.{moment_text, node_words, pale_text, ring_text, rings_text, words_of_moment};
 ghost use Rattle.ira_view_draw.specs.MomentLine.{words_text};
-ghost use Rattle.ira_view_draw.specs.Told.{asked_of, told_of};
+ghost use Rattle.ira_view_moment.specs.Told.{told_of};
 
 use crate::class;
 use crate::grid::{Grid, LEFT, TOP};

@@ -3,7 +3,7 @@ ghost use Rattle.ira_view_page.specs.Page.{Added};
 ghost use Rattle.ira_view_page.specs.Printable.{IsPrintable};
 ghost use Rattle.ira_view_draw.specs.Escaped.{escaped, escaped_byte};
 ghost use Rattle.ira_view_draw.specs.Svg.{attribute_text, class_text, dot_text, down_text, event_name, move_text};
-ghost use Rattle.ira_view_draw.specs.Svg.{number_text, once_more_text, square_text, tag_text};
+ghost use Rattle.ira_view_draw.specs.Svg.{number_text, once_more_text, square_text, tag_text, words_tag};
 
 use ira_view_page::Page;
 use std::alloc::Allocator;
@@ -114,7 +114,9 @@ impl<A: Allocator> Svg<A> {
     }
 
     /// Begins words at a place.
-    pub(crate) fn begin_text(&mut self, class: &str, x: u64, y: u64) {
+    pub(crate) fn begin_text(&mut self, class: &str, x: u64, y: u64)
+        ensures { Added self.old.page (words_tag class.now x y) self.new.page }
+    {
         self.open("text", class);
         self.number("x", x);
         self.number("y", y);

@@ -1,7 +1,7 @@
 -- A page to move in a picture.
 use Rattle.std.specs.Prelude.{◌≡◌, ℕ, ◌/◌, ◌%◌, Bool, List, [], ◌∷◌, ◌++◌, codes, nat_eq, not, ◌&&◌, ◌||◌, if◌then◌else◌}
 use Rattle.std.specs.List.{flat_map}
-use Rattle.ira_view_page.specs.Printable.{IsPrintable, hex_digit_of, is_graphic}
+use Rattle.ira_view_page.specs.Printable.{hex_digit_of, is_graphic}
 use Rattle.ira_view_html.specs.declared.frame.TheConstants.{HEAD, MIDDLE}
 use Rattle.ira_view_html.specs.declared.told.TheConstants.{TOLD}
 use Rattle.ira_view_html.specs.declared.view.TheConstants.{VIEW, LINES}
@@ -21,10 +21,6 @@ abbrev pub told_text : List ℕ → List ℕ
 told_text json = flat_map told_byte json
 
 -- the text is the page of a picture and of JSON Lines: the parts of the template, and these two between them
-pub record IsPageOf (picture json text : List ℕ) : Type 0 where
+pub record IsHtmlPage (picture json text : List ℕ) : Type 0 where
   pub is : text ≡ HEAD.now ++ picture ++ MIDDLE.now ++ told_text json ++ TOLD.now ++ VIEW.now ++ LINES.now ++ PANEL.now
       ++ MOVES.now
-
--- the text is the page of a picture, which is printable ASCII, and of some JSON Lines
-abbrev pub IsHtmlPage : List ℕ → Type 0
-IsHtmlPage text = (picture : List ℕ) × (json : List ℕ) × IsPrintable picture × IsPageOf picture json text

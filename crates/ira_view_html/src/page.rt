@@ -1,7 +1,7 @@
 ghost use Rattle.std.specs.Prelude.{◌<◌, ◌∷◌, [], IfOk};
 ghost use Rattle.ira_view_page.specs.Page.{Added};
 ghost use Rattle.ira_view_page.specs.Printable.{IsPrintable, hex_digit_of};
-ghost use Rattle.ira_view_html.specs.HtmlPage.{IsPageOf, told_byte, told_text};
+ghost use Rattle.ira_view_html.specs.HtmlPage.{IsHtmlPage, told_byte, told_text};
 
 use crate::frame::{HEAD, MIDDLE};
 use crate::moves::MOVES;
@@ -51,7 +51,7 @@ pub fn html_page<A: Allocator>(
     picture: &PageText<A>,
     json: &[u8],
 ) -> Result<PageText<A>, OutOfMemory>
-    ensures { IfOk result (IsPageOf picture.now json.now) }
+    ensures { IfOk result (IsHtmlPage picture.now json.now) }
 {
     let mut page = Page::new(alloc);
     page.words(HEAD);

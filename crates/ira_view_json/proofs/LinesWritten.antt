@@ -1,9 +1,10 @@
 -- Lines that are written one after the other.
 use Rattle.std.proofs.Common.{◌≡◌, ◌∙◌, ℕ, List, [], ◌∷◌, ◌++◌, Option, Result, Ok, Err, IfOk, ap, inl, inr, refl}
-use Rattle.std.specs.Prelude.{OnOk, codes}
+use Rattle.std.specs.Prelude.{codes}
 use Rattle.serde_json.specs.Data.{Data, object}
 use Rattle.serde_json.specs.View.{members_view, view}
 use Rattle.serde_json.specs.declared.value.Value.{Value}
+use Rattle.ira_event.specs.Log.{Log}
 use Rattle.ira_event.specs.Sink.{SinkState, StopsIn, Takes}
 use Rattle.ira_event.proofs.Writing.{Appends-nothing, Takes-append, Takes-StopsIn}
 use Rattle.ira_view_page.specs.declared.show_fault.ShowFault.{ShowFault}
@@ -12,8 +13,10 @@ use Rattle.ira_view_json.specs.Line.{AreLines, IsLineOf, OfLines, WroteLine, Wro
 use Rattle.ira_view_json.specs.Members.{with_number, with_words}
 use Rattle.ira_view_json.specs.Object.{Entries, Gives, Puts}
 use Rattle.ira_view_moment.specs.declared.chosen_moment.ChosenMoment.{ChosenMoment}
-use Rattle.ira_view_json.specs.ShownAnswer.{IsRingText, IsRingTextAt, IsYes, IsYesAt, OfRingText, WroteRing}
-use Rattle.ira_view_json.specs.ShownAnswer.{with_moment}
+use Rattle.ira_view_moment.specs.declared.chosen_moment.ChosenMoment.TheVariants.{AtEnd, AtCut, OfCase, Unmet}
+use Rattle.ira_view_moment.specs.ChosenMoment.{cut_of, numbers_of}
+use Rattle.ira_view_moment.specs.Told.{Told, told_of}
+use Rattle.ira_view_json.specs.ShownAnswer.{IsRingText, IsYes, OfRingText, WroteRing, with_moment}
 use Rattle.ira_view_json.proofs.LineTexts.{lines_append, no_lines, one_line}
 
 pub none_are_lines : AreLines []
@@ -61,11 +64,11 @@ pub failed_then : {T : Type 0} (r : Result T ShowFault) (f : ShowFault) (s t u :
 failed_then {T} r f s t u is so_far more = rw is (wrote_then {T = T} (Err f) s t u so_far more)
 
 -- an object that was told the moment, the status, and then that the answer is yes
-pub says_yes_at : {A : Type 0} {E : Type 0} {a b c d : Option Entries} (r : Result Value E) (status : ℕ)
-    (moment : ChosenMoment A) → Puts (with_moment moment) a b → Puts (with_number (codes "status") status) b c
+pub says_yes : {E : Type 0} {a b c d : Option Entries} (r : Result Value E) (status : ℕ) (told : Told)
+    (cut : Option (List ℕ)) → Puts (with_moment told cut) a b → Puts (with_number (codes "status") status) b c
     → Puts (with_words (codes "answer") (codes "yes")) c d → Gives d r
-    → IfOk r (λ value. IsYesAt status moment (view value))
-says_yes_at (Ok value) status moment m p q gives =
+    → IfOk r (λ value. IsYes status told cut (view value))
+says_yes (Ok value) status told cut m p q gives =
     let r = q.ends gives.0 gives.1 in
     let s = p.ends r.0 r.1 in
     let t = m.ends s.0 s.1 in (
@@ -73,73 +76,53 @@ says_yes_at (Ok value) status moment m p q gives =
       gives.2 ∙ ap object (r.2 ∙ ap (with_words (codes "answer") (codes "yes"))
           (s.2 ∙ ap (with_number (codes "status") status) t.2)),
     )
-says_yes_at (Err e) status moment m p q gives = tt
+says_yes (Err e) status told cut m p q gives = tt
 
-pub yes_at : {A : Type 0} (status : ℕ) (moment : ChosenMoment A) (value : Data) → IsYesAt status moment value
-    → IsYes status value
-yes_at status moment value is = (with_moment moment is.0, is.1)
+-- of the end of the logs no numbers are told, so they may be those of all events
+pub at_cut_of : {A : Type 0} (logs : List Log) (moment : ChosenMoment A) (status : ℕ) (value : Data)
+    → IsYes status (told_of moment) (numbers_of moment) value → IsYes status (told_of moment) (cut_of logs moment) value
+at_cut_of logs AtEnd status value is = is
+at_cut_of logs (AtCut cut) status value is = is
+at_cut_of logs (OfCase question number cut) status value is = is
+at_cut_of logs (Unmet number) status value is = is
 
--- the answer alone
-answer_text : (status : ℕ) (value : Data) (line : List ℕ) → IsYes status value → IsLineOf value line
-    → IsRingText status line
-answer_text status value line says is =
-    record { first = value; rest = []; answer = says; lines = one_line value line is }
+module _ (status : ℕ) (told : Told) (cut : Option (List ℕ)) where
+  -- the answer alone
+  answer_text : (value : Data) (line : List ℕ) → IsYes status told cut value → IsLineOf value line
+      → IsRingText status told cut line
+  answer_text value line says is = record { first = value; rest = []; answer = says; lines = one_line value line is }
 
-pub answered : {T : Type 0} (r : Result T ShowFault) (status : ℕ) (value : Data) (s t : SinkState) → IsYes status value
-    → WroteLine r value s t → WroteRing status r s t
-answered (Ok v) status value s t says is = (is.0, answer_text status value is.0 says is.1, is.2)
-answered (Err OutOfMemory) status value s t says is = inl is
-answered (Err Write) status value s t says is = (is.0, answer_text status value is.0 says is.1, is.2)
+  pub answered : {T : Type 0} (r : Result T ShowFault) (value : Data) (s t : SinkState) → IsYes status told cut value
+      → WroteLine r value s t → WroteRing status told cut r s t
+  answered (Ok v) value s t says is = (is.0, answer_text value is.0 says is.1, is.2)
+  answered (Err OutOfMemory) value s t says is = inl is
+  answered (Err Write) value s t says is = (is.0, answer_text value is.0 says is.1, is.2)
 
--- the answer, and lines after it
-ring_text : (status : ℕ) (text rest : List ℕ) → IsRingText status text → AreLines rest
-    → IsRingText status (text ++ rest)
-ring_text status text rest is more = record {
-  first = is.first;
-  rest = is.rest ++ more.0;
-  answer = is.answer;
-  lines = lines_append (is.first ∷ is.rest) more.0 text rest is.lines more.1;
-}
+  -- the answer, and lines after it
+  ring_text : (text rest : List ℕ) → IsRingText status told cut text → AreLines rest
+      → IsRingText status told cut (text ++ rest)
+  ring_text text rest is more = record {
+    first = is.first;
+    rest = is.rest ++ more.0;
+    answer = is.answer;
+    lines = lines_append (is.first ∷ is.rest) more.0 text rest is.lines more.1;
+  }
 
-pub ring_then : {T : Type 0} (r : Result T ShowFault) (status : ℕ) (s t u : SinkState)
-    → OfRingText status (λ text. Takes text s t) → WroteLines r t u → WroteRing status r s u
-ring_then (Ok v) status s t u so_far more = (
-  so_far.0 ++ more.0,
-  ring_text status so_far.0 more.0 so_far.1 more.1,
-  Takes-append s t u so_far.0 more.0 so_far.2 more.2,
-)
-ring_then (Err OutOfMemory) status s t u so_far more =
-    inr (
-      so_far.0 ++ more.0,
-      ring_text status so_far.0 more.0 so_far.1 more.1,
-      Takes-append s t u so_far.0 more.0 so_far.2 more.2,
-    )
-ring_then (Err Write) status s t u so_far more = (
-  so_far.0 ++ more.0,
-  ring_text status so_far.0 more.0 so_far.1 more.1,
-  Takes-StopsIn s t u so_far.0 more.0 so_far.2 more.2,
-)
-
--- the same with the moment that is told
-pub answered_at : {A : Type 0} {T : Type 0} (r : Result T ShowFault) (status : ℕ) (moment : ChosenMoment A)
-    (value : Data) (s t : SinkState) → IsYesAt status moment value → WroteLine r value s t
-    → OnOk r ((text : List ℕ) × IsRingTextAt status moment text × Takes text s t)
-answered_at (Ok v) status moment value s t says is =
-    (is.0, record { first = value; rest = []; answer = says; lines = one_line value is.0 is.1 }, is.2)
-answered_at (Err e) status moment value s t says is = tt
-
-pub ring_then_at : {A : Type 0} {T : Type 0} (r : Result T ShowFault) (status : ℕ) (moment : ChosenMoment A)
-    (s t u : SinkState) → (text : List ℕ) × IsRingTextAt status moment text × Takes text s t → WroteLines r t u
-    → OnOk r ((text : List ℕ) × IsRingTextAt status moment text × Takes text s u)
-ring_then_at (Ok v) status moment s t u so_far more =
-    let is = so_far.1 in (
-      so_far.0 ++ more.0,
-      record {
-        first = is.first;
-        rest = is.rest ++ more.1.0;
-        answer = is.answer;
-        lines = lines_append (is.first ∷ is.rest) more.1.0 so_far.0 more.0 is.lines more.1.1;
-      },
-      Takes-append s t u so_far.0 more.0 so_far.2 more.2,
-    )
-ring_then_at (Err e) status moment s t u so_far more = tt
+  pub ring_then : {T : Type 0} (r : Result T ShowFault) (s t u : SinkState)
+      → OfRingText status told cut (λ text. Takes text s t) → WroteLines r t u → WroteRing status told cut r s u
+  ring_then (Ok v) s t u so_far more = (
+    so_far.0 ++ more.0,
+    ring_text so_far.0 more.0 so_far.1 more.1,
+    Takes-append s t u so_far.0 more.0 so_far.2 more.2,
+  )
+  ring_then (Err OutOfMemory) s t u so_far more =
+      inr (
+        so_far.0 ++ more.0,
+        ring_text so_far.0 more.0 so_far.1 more.1,
+        Takes-append s t u so_far.0 more.0 so_far.2 more.2,
+      )
+  ring_then (Err Write) s t u so_far more = (
+    so_far.0 ++ more.0,
+    ring_text so_far.0 more.0 so_far.1 more.1,
+    Takes-StopsIn s t u so_far.0 more.0 so_far.2 more.2,
+  )

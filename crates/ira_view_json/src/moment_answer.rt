@@ -1,10 +1,11 @@
-ghost use Rattle.std.specs.Prelude.{ℕ, IfOk, List, OnOk};
+ghost use Rattle.std.specs.Prelude.{IfOk};
 ghost use Rattle.serde_json.specs.View.{view};
 ghost use Rattle.ira_order.specs.Matching.{Matches};
 ghost use Rattle.ira_order.specs.Run.{AreLocalRuns};
-ghost use Rattle.ira_event.specs.Sink.{Takes};
 ghost use Rattle.ira_view_json.specs.Object.{Puts};
-ghost use Rattle.ira_view_json.specs.ShownAnswer.{IsRingTextAt, IsYesAt, WroteRing, with_moment};
+ghost use Rattle.ira_view_json.specs.ShownAnswer.{IsYes, WroteRing, with_moment};
+ghost use Rattle.ira_view_moment.specs.ChosenMoment.{cut_of, numbers_of};
+ghost use Rattle.ira_view_moment.specs.Told.{told_of};
 
 use crate::line::write_line;
 use crate::object::Object;
@@ -48,7 +49,7 @@ impl Object {
 
     /// Puts which moment is told; nothing at the end of the logs.
     fn moment<A: Allocator>(&mut self, chosen: &ChosenMoment<A>)
-        ensures { Puts (with_moment chosen.now) self.old self.new }
+        ensures { Puts (with_moment (told_of chosen.now) (numbers_of chosen.now)) self.old self.new }
     {
         match chosen {
             ChosenMoment::AtEnd => {}
@@ -69,7 +70,7 @@ fn shown_value<A: Allocator>(
     chosen: &ChosenMoment<A>,
     answer: ShownAnswer<'_>,
 ) -> Result<Value, OutOfMemory>
-    ensures { IfOk result (λ value. IsYesAt answer.entry.status chosen.now (view value)) }
+    ensures { IfOk result (λ value. IsYes answer.entry.status (told_of chosen.now) (numbers_of chosen.now) (view value)) }
 {
     let mut object = Object::of(alloc, "answer");
     object.totals(end);
@@ -93,9 +94,8 @@ pub(crate) fn write_answer<A: Allocator + Clone, W: Sink>(
 ) -> Result<(), ShowFault>
     requires matches { Matches logs.now }
     requires local { AreLocalRuns logs.now }
-    ensures wrote { WroteRing answer.entry.status result (W.state sink.old) (W.state sink.new) }
-    ensures told { OnOk result ((text : List ℕ) × IsRingTextAt answer.entry.status chosen.now text
-        × Takes text (W.state sink.old) (W.state sink.new)) }
+    ensures { WroteRing answer.entry.status (told_of chosen.now) (cut_of logs.now chosen.now) result
+        (W.state sink.old) (W.state sink.new) }
 {
     let end = Moment::at_end(alloc, logs)?;
     write_line(text, &shown_value(text, &end, chosen, answer)?, sink)

@@ -1,11 +1,11 @@
-ghost use Rattle.std.specs.Prelude.{◌≡◌, ℕ, List, OnOk, length};
-ghost use Rattle.ira_event.specs.Sink.{Takes};
+ghost use Rattle.std.specs.Prelude.{◌≡◌, length};
 ghost use Rattle.ira_order.specs.Circle.{HasOrder};
 ghost use Rattle.ira_order.specs.Cut.{IsConsistentCut};
 ghost use Rattle.ira_order.specs.Run.{AreLocalRuns};
-ghost use Rattle.ira_view_moment.specs.ChosenMoment.{IsMomentOf};
+ghost use Rattle.ira_view_moment.specs.ChosenMoment.{IsMomentOf, cut_of};
+ghost use Rattle.ira_view_moment.specs.Told.{told_of};
 ghost use Rattle.ira_view_json.specs.Line.{WroteLines};
-ghost use Rattle.ira_view_json.specs.ShownAnswer.{IsRingTextAt, WroteRing};
+ghost use Rattle.ira_view_json.specs.ShownAnswer.{WroteRing};
 
 use crate::event_lines::write_events;
 use crate::moment_answer::write_answer;
@@ -57,9 +57,8 @@ pub fn write_ring<A: Allocator + Clone, W: Sink>(
     requires local { AreLocalRuns logs.now }
     requires moment { IsMomentOf logs.now chosen.now }
     requires files { length files.now ≡ length logs.now }
-    ensures wrote { WroteRing answer.entry.status result (W.state sink.old) (W.state sink.new) }
-    ensures told { OnOk result ((text : List ℕ) × IsRingTextAt answer.entry.status chosen.now text
-        × Takes text (W.state sink.old) (W.state sink.new)) }
+    ensures { WroteRing answer.entry.status (told_of chosen.now) (cut_of logs.now chosen.now) result
+        (W.state sink.old) (W.state sink.new) }
 {
     write_answer(text, alloc.clone()?, logs, chosen, answer, sink)?;
     match chosen {

@@ -4,4 +4,5 @@ pub mod Laws
 pub mod Moment
 pub mod NodeProgress
 pub mod Rounds
+pub mod Told
 pub mod Totals

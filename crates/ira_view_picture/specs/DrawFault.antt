@@ -11,9 +11,9 @@ abbrev pub IsDrawFault : DrawFault → Type 0
 IsDrawFault (TooManyEvents events) = 20000 < events
 IsDrawFault OutOfMemory = ⊤
 
--- at the columns that are asked for the logs have so many events, too many for a picture
-pub record HasTooManyEvents (logs : List Log) (from to : Option ℕ) (events : ℕ) : Type 0 where
-  pub cut : Option (List ℕ)
+-- at the columns that are asked for the logs have so many events, too many for a picture; the columns are those in which
+-- the events of the cut, if there is one, come before all others
+pub record HasTooManyEvents (logs : List Log) (cut : Option (List ℕ)) (from to : Option ℕ) (events : ℕ) : Type 0 where
   pub columns : Columns
   pub columns_are : AreColumnsOf logs (cut_or_all logs cut) columns
   pub last : ℕ

@@ -139,7 +139,7 @@ impl<A: Allocator + Clone> Picture<A> {
         ensures window { IfOk result (λ picture. picture.window ≡ asked_window from to picture.last) }
         ensures fault { IfErr result IsDrawFault }
         ensures events { (events : ℕ) → result ≡ Err (DrawFault.TooManyEvents events)
-            → HasTooManyEvents logs.now from to events }
+            → HasTooManyEvents logs.now (option_map (λ c. c.now) cut.entry) from to events }
         ensures shown { IfOk result (λ picture. IsShown logs.now (option_map (λ c. c.now) cut.entry)
             picture.window picture.last picture.line (map drawn_of picture.lanes.items) picture.arrows.items) }
     {

@@ -8,12 +8,14 @@ use Rattle.ira_event.specs.Log.{Log}
 use Rattle.ira_event.specs.Sink.{SinkState, Takes}
 use Rattle.ira_event.proofs.Writing.{Appends-nothing, Takes-append}
 use Rattle.ira_view_page.specs.Page.{Added}
+use Rattle.ira_view_page.specs.Printable.{IsPrintable}
 use Rattle.ira_view_page.specs.declared.show_fault.ShowFault.{ShowFault}
 use Rattle.ira_view_trail.specs.declared.state_step.StateStep.{StateStep}
 use Rattle.ira_view_trail.specs.declared.trail_step.TrailStep.{TrailStep}
 use Rattle.ira_view_trail.specs.Trail.{IsTrail}
 use Rattle.ira_view_show.specs.EventsText.{AreEventLines, IsEventLine, TellsEvents, between_text, more, none}
 use Rattle.ira_view_show.specs.EventsText.{trail_of}
+use Rattle.ira_view_show.proofs.Printing.{printable_append}
 use Rattle.ira_view_show.specs.Showed.{GoesOn, TookPage}
 use Rattle.ira_view_show.specs.declared.event_line.EventColumns.{EventColumns}
 
@@ -156,6 +158,7 @@ module _ (logs : List Log) (cut here : List ℕ) (columns : EventColumns) where
 -- what was on a page and then this text went to the sink, but for what is on the page now
 pub record IsPrinted (heading page : Option (List ℕ)) (text : List ℕ) (s t : SinkState) : Type 0 where
   pub taken : List ℕ
+  pub printable : IsPrintable taken
   pub took : Takes taken s t
   pub whole : (rest : List ℕ) → page ≡ Some rest → (front : List ℕ) × (heading ≡ Some front)
       × (front ++ text ≡ taken ++ rest)
@@ -163,6 +166,7 @@ pub record IsPrinted (heading page : Option (List ℕ)) (text : List ℕ) (s t :
 pub none_printed : (heading : Option (List ℕ)) (s : SinkState) → IsPrinted heading heading [] s s
 none_printed heading s = record {
   taken = [];
+  printable = refl;
   took = record { took = Appends-nothing s.taken; same = refl };
   whole = λ rest e. (rest, e, append-nil rest);
 }
@@ -171,6 +175,7 @@ pub printed_more : {heading page next : Option (List ℕ)} {text : List ℕ} {s 
     → IsPrinted heading page text s t → Added page others next → IsPrinted heading next (text ++ others) s t
 printed_more {heading} {page} {next} {text} others so_far added = record {
   taken = so_far.taken;
+  printable = so_far.printable;
   took = so_far.took;
   whole = λ rest e.
       let a = added.ends rest e in
@@ -190,10 +195,14 @@ printed_as {heading} {page} {s = s} {t = t} same p = subst (λ (x : List ℕ). I
 -- the page was written
 pub all_printed : {heading page : Option (List ℕ)} {text : List ℕ} {s t u : SinkState}
     → IsPrinted heading page text s t → TookPage page t u
-    → (front : List ℕ) × (heading ≡ Some front) × Takes (front ++ text) s u
+    → (front : List ℕ) × (heading ≡ Some front) × IsPrintable (front ++ text) × Takes (front ++ text) s u
 all_printed {heading} {page} {text} {s} {t} {u} so_far took =
-    let w = so_far.whole took.0 took.1 in
-    (w.0, w.1, subst (λ (x : List ℕ). Takes x s u) (sym w.2) (Takes-append s t u so_far.taken took.0 so_far.took took.2))
+    let w = so_far.whole took.0 took.1 in (
+      w.0,
+      w.1,
+      subst IsPrintable (sym w.2) (printable_append so_far.taken took.0 so_far.printable took.2),
+      subst (λ (x : List ℕ). Takes x s u) (sym w.2) (Takes-append s t u so_far.taken took.0 so_far.took took.3),
+    )
 
 pub printed_block : {heading page next : Option (List ℕ)} {text : List ℕ} {s t u : SinkState}
     → IsPrinted heading page text s t → GoesOn page (Ok next) t u → IsPrinted heading next text s u
@@ -204,7 +213,8 @@ printed_block {heading} {page} {next} {text} {s} {t} {u} so_far (inr wrote) =
     let w = so_far.whole took.0 took.1 in
     record {
       taken = so_far.taken ++ took.0;
-      took = Takes-append s t u so_far.taken took.0 so_far.took took.2;
+      printable = printable_append so_far.taken took.0 so_far.printable took.2;
+      took = Takes-append s t u so_far.taken took.0 so_far.took took.3;
       whole = λ rest e.
           let none : rest ≡ [] = cc in
           (w.0, w.1, w.2 ∙ sym (ap (λ (x : List ℕ). so_far.taken ++ took.0 ++ x) none ∙ append-nil (so_far.taken ++ took.0)));
@@ -247,13 +257,13 @@ module _ (logs : List Log) (cut here : List ℕ) (columns : EventColumns) (headi
       (s t u : SinkState) → IsTold is_inside steps number page s t → IsTrail logs cut steps
       → Added page (between_text is_inside false here) last → TookPage last t u
       → (front : List ℕ) × (events : List ℕ) × (heading ≡ Some front) × TellsEvents logs cut here events
-      × Takes (front ++ events) s u
+      × IsPrintable (front ++ events) × Takes (front ++ events) s u
   all_told true steps number page last s t u told trail between took =
       let all = all_printed (printed_more here told.printed between) took in
-      (all.0, told.text ++ here, all.1, all_inside logs cut here columns told.told trail, all.2)
+      (all.0, told.text ++ here, all.1, all_inside logs cut here columns told.told trail, all.2, all.3)
   all_told false steps number page last s t u told trail between took =
       let all = all_printed (printed_as (append-nil told.text) (printed_more [] told.printed between)) took in
-      (all.0, told.text, all.1, all_outside logs cut here columns told.told trail, all.2)
+      (all.0, told.text, all.1, all_outside logs cut here columns told.told trail, all.2, all.3)
 
 -- where all went well
 pub ok_so : {T E : Type 0} {P Q : Type 0} (r : Result T E) → (P → Q) → OnOk r P → OnOk r Q

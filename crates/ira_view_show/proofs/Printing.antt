@@ -9,7 +9,7 @@ use Rattle.ira_view_page.specs.declared.show_fault.ShowFault.{ShowFault}
 use Rattle.ira_view_page.specs.declared.show_fault.ShowFault.TheVariants.{OutOfMemory, Write}
 use Rattle.ira_view_show.specs.Showed.{OfPrintable, Showed}
 
-printable_append : (a b : List ℕ) → IsPrintable a → IsPrintable b → IsPrintable (a ++ b)
+pub printable_append : (a b : List ℕ) → IsPrintable a → IsPrintable b → IsPrintable (a ++ b)
 printable_append a b p q = list_all-append (λ c. is_graphic c || nat_eq c 10) a b ∙ rw p q
 
 -- nothing was taken yet

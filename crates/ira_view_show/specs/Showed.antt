@@ -15,9 +15,9 @@ Showed (Ok v) old new = OfPrintable (λ text. Takes text old new)
 Showed (Err OutOfMemory) old new = OfPrintable (λ text. Takes text old new)
 Showed (Err Write) old new = OfPrintable (λ text. StopsIn text old new)
 
--- the sink took what is on the page
+-- the sink took what is on the page, which is printable
 abbrev pub TookPage : Option (List ℕ) → SinkState → SinkState → Type 0
-TookPage page old new = (text : List ℕ) × (page ≡ Some text) × Takes text old new
+TookPage page old new = (text : List ℕ) × (page ≡ Some text) × IsPrintable text × Takes text old new
 
 -- where all went well the page goes on as it was, or the sink took what was on it, and it goes on empty
 abbrev pub GoesOn : Option (List ℕ) → Result (Option (List ℕ)) ShowFault → SinkState → SinkState → Type 0

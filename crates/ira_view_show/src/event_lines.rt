@@ -8,6 +8,7 @@ ghost use Rattle.ira_view_show.specs.Asked.{line_of_cut};
 ghost use Rattle.ira_view_show.specs.EventsText.{TellsEvents, TellsEventsOf, between_text, here_text};
 ghost use Rattle.ira_view_show.specs.Showed.{GoesOn, Showed, TookPage};
 ghost use Rattle.ira_view_page.specs.Page.{Added};
+ghost use Rattle.ira_view_page.specs.Printable.{IsPrintable};
 
 use crate::change::Change;
 use crate::event_line::EventColumns;
@@ -97,7 +98,7 @@ fn write_lines<A: Allocator + Clone, W: Sink>(
     requires { IsConsistentCut logs.now cut.now }
     ensures showed { Showed result (W.state sink.old) (W.state sink.new) }
     ensures told { OnOk result ((front : List ℕ) × (events : List ℕ) × (heading ≡ Some front)
-        × TellsEvents logs.now cut.now (here_text is_asked cut.now) events
+        × TellsEvents logs.now cut.now (here_text is_asked cut.now) events × IsPrintable (front ++ events)
         × Takes (front ++ events) (W.state sink.old) (W.state sink.new)) }
 {
     let columns = EventColumns::of(logs, logs.number_of_events());
@@ -131,7 +132,7 @@ pub fn show_events<A: Allocator + Clone, W: Sink>(
     requires moment { IsMomentOf logs.now chosen.now }
     ensures showed { Showed result (W.state sink.old) (W.state sink.new) }
     ensures told { OnOk result ((text : List ℕ)
-        × TellsEventsOf logs.now chosen.now text
+        × TellsEventsOf logs.now chosen.now text × IsPrintable text
         × Takes text (W.state sink.old) (W.state sink.new)) }
 {
     let mut page = Page::new(alloc.clone()?);

@@ -11,11 +11,8 @@ ring_text-kept-requires g c =
 
 pub returns-in-Ok : goal.returns-in-Ok
 returns-in-Ok g c = λ texts good.
-    let same = ring_of c.args.logs c.args.draw.now.moment c.args.question.now c.in-Ok.ring c.in-Ok.ensures in
-    good_drawn _ texts c.args.draw.now c.args.question.now _ _ _ _ _ c.args.logs c.in-Ok.ring c.ring_text-kept.result
-    good c.in-Ok.ensures c.ring_text-kept.ensures.drawn
-    (λ events is. rw same at c.ring_text-kept.ensures.events events is)
-    c.tell_drawn.ensures
+    good_drawn _ _ texts c.args.draw.now c.args.question.now _ _ _ _ _ c.args.logs c.in-Ok.ring c.ring_text-kept.result
+    good c.in-Ok.ensures c.ring_text-kept.ensures.drawn c.ring_text-kept.ensures.events c.tell_drawn.ensures
 
 pub report-requires : goal.report-requires
 report-requires g c = rw c.in-Err-No.field-0-is

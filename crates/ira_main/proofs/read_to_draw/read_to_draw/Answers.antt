@@ -1,4 +1,4 @@
-use Rattle.std.proofs.Common.{inr, refl}
+use Rattle.std.proofs.Common.{◌∙◌, inr, refl, sym}
 use Rattle.std.proofs.lemmas.Result.{err_from_is_err_and}
 use Rattle.ira_main.proofs.read_to_draw.read_to_draw.Goals as goal
 
@@ -34,5 +34,7 @@ returns-in_err-judged-2 g c =
 
 pub returns : goal.returns
 returns g c =
-    let taken = c.in_ok-read_logs.ensures in
-    (taken.0, taken.2, c.in_ok-judged-2.ensures taken.0 taken.1)
+    let taken = c.in_ok-read_logs.ensures in (
+      (taken.0, taken.2, c.in_ok-judged-2.ensures taken.0 taken.1),
+      λ page. absurd (let no = sym c.if-is_page.false ∙ c.is_page.ensures ∙ page in cc),
+    )

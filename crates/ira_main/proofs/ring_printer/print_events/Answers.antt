@@ -1,4 +1,4 @@
-use Rattle.std.proofs.Common.{◌≡◌, ◌∙◌, Err, Ok, inl, refl, subst, sym, true}
+use Rattle.std.proofs.Common.{◌≡◌, ◌∙◌, Err, Ok, refl, subst, sym, true}
 use Rattle.ira_view_page.specs.Printable.{IsPrintable}
 use Rattle.ira_main.proofs.RingPrinting.{no_memory_after, printed_after, ring_front, stopped_after, stopped_before}
 use Rattle.ira_main.proofs.RingPrinting.{stopped_of, taken_of}
@@ -29,8 +29,8 @@ returns-in-Ok g c =
     let u = g.W.Sink.state c.write_events.new.sink in
     let status = c.of_differences.result in
     subst (λ w. PrintsRing c.args.ring.now w true s u (Ok status)) same
-    (printed_after c.args.ring.now d true s t u status c.in-Ok.ensures.showed.0 printable c.of_differences.ensures front
-    c.in-Ok.ensures.showed.1 (inl refl) c.in-Ok.ensures.showed.2)
+    (printed_after c.args.ring.now d true s t u status c.in-Ok.ensures.told.0 printable c.of_differences.ensures front
+    c.in-Ok.ensures.told.2 c.in-Ok.ensures.told.1 c.in-Ok.ensures.told.3)
 
 pub returns-in-Err-Write : goal.returns-in-Err-Write
 returns-in-Err-Write g c =

@@ -11,7 +11,7 @@ returns-in-Ok g c =
     let status = c.of_differences-status.result in
     let is = subst (λ w. IsLeadsStatus w status) (c.bytes.ensures.text)
     c.of_differences-status.ensures in
-    inl (lines_printed d status c.number.result s t c.number.ensures is c.in-Ok.ensures)
+    inl (lines_printed c.args.ring.now d status c.number.result s t c.number.ensures is c.in-Ok.ensures)
 
 pub returns-in-Err-Write : goal.returns-in-Err-Write
 returns-in-Err-Write g c =
@@ -21,7 +21,7 @@ returns-in-Err-Write g c =
     let status = c.of_differences-status.result in
     let is = subst (λ w. IsLeadsStatus w status) (c.bytes.ensures.text)
     c.of_differences-status.ensures in
-    inl (lines_stopped d status c.number.result s t c.number.ensures is
+    inl (lines_stopped c.args.ring.now d status c.number.result s t c.number.ensures is
     (rw (c.in-Err-Write.is, c.in-Err-Write.field-0-is) at c.write_json.ensures))
 
 pub returns : goal.returns
@@ -32,5 +32,5 @@ returns g c =
     let status = c.of_differences-status.result in
     let is = subst (λ w. IsLeadsStatus w status) (c.bytes.ensures.text)
     c.of_differences-status.ensures in
-    lines_no_memory d status c.number.result s t c.number.ensures is
+    lines_no_memory c.args.ring.now d status c.number.result s t c.number.ensures is
     (rw (c.in-Err-OutOfMemory.is, c.in-Err-OutOfMemory.field-0-is) at c.write_json.ensures)

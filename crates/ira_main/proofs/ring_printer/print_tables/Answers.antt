@@ -1,4 +1,4 @@
-use Rattle.std.proofs.Common.{◌≡◌, ◌∙◌, Err, Ok, false, inl, inr, subst, sym}
+use Rattle.std.proofs.Common.{◌≡◌, ◌∙◌, Err, Ok, false, inl, subst, sym}
 use Rattle.ira_event.specs.Sink.{StopsIn, Takes}
 use Rattle.ira_view_page.specs.Printable.{IsPrintable}
 use Rattle.ira_main.proofs.RingPrinting.{printed_after, ring_front, stopped_after, stopped_before, stopped_of, taken_of}
@@ -31,7 +31,7 @@ returns-in-Ok g c =
     let status = c.of_differences.result in
     inl (subst (λ w. PrintsRing c.args.ring.now w false s u (Ok status)) same
     (printed_after c.args.ring.now d false s t u status c.in_ok-page.page printable c.of_differences.ensures front
-    c.in-Ok.ensures.printable (inr c.in_ok-page.ensures) c.in-Ok.ensures.text))
+    c.in-Ok.ensures.printable c.in_ok-page.ensures c.in-Ok.ensures.text))
 
 pub returns : goal.returns
 returns g c =

@@ -2,7 +2,7 @@ use Rattle.std.proofs.Common.{refl}
 use Rattle.ira_main.proofs.show_files.ring_at.Goals as goal
 
 pub returns-in-AtEnd : goal.returns-in-AtEnd
-returns-in-AtEnd g c = rw (c.in-AtEnd.is, c.at_end.ensures) (refl, refl)
+returns-in-AtEnd g c = rw (c.in-AtEnd.is, c.at_end.ensures) (refl, refl, refl)
 
 pub returns-in-AtCut : goal.returns-in-AtCut
 returns-in-AtCut g c = rw c.in-AtCut.is (rw c.deref.ensures.value at c.at_cut.ensures)

@@ -1,7 +1,7 @@
 use Rattle.ira_view_page.specs.Page.{Added}
 use Rattle.ira_view_page.proofs.Adding.{◌&◌}
 use Rattle.ira_view_html.proofs.Finished.{finished}
-use Rattle.ira_view_html.specs.HtmlPage.{IsPageOf, told_text}
+use Rattle.ira_view_html.specs.HtmlPage.{IsHtmlPage, told_text}
 use Rattle.ira_view_html.specs.declared.frame.TheConstants.{HEAD, MIDDLE}
 use Rattle.ira_view_html.specs.declared.told.TheConstants.{TOLD}
 use Rattle.ira_view_html.specs.declared.view.TheConstants.{VIEW, LINES}
@@ -22,6 +22,6 @@ returns g c =
     let lines : Added c.words-5.new.self LINES.now c.words-6.new.self = c.words-6.ensures in
     let panel : Added c.words-6.new.self PANEL.now c.words-7.new.self = c.words-7.ensures in
     let moves : Added c.words-7.new.self MOVES.now c.words-8.new.self = c.words-8.ensures in
-    finished {P = IsPageOf c.args.picture.now c.args.json.now} c.finish.result (λ text e. record { is = e })
+    finished {P = IsHtmlPage c.args.picture.now c.args.json.now} c.finish.result (λ text e. record { is = e })
     c.new-page.ensures
     (head & picture & middle & json & told & view & lines & panel & moves) c.finish.ensures

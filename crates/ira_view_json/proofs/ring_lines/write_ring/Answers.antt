@@ -1,26 +1,14 @@
-use Rattle.ira_view_json.proofs.LinesWritten.{ring_then, ring_then_at}
+use Rattle.ira_view_json.proofs.LinesWritten.{ring_then}
 use Rattle.ira_view_json.proofs.ring_lines.write_ring.Goals as goal
 
-pub returns-in_ok-cut-in-AtEnd-clause-wrote : goal.returns-in_ok-cut-in-AtEnd-clause-wrote
-returns-in_ok-cut-in-AtEnd-clause-wrote g c =
-    ring_then c.write_cut.result c.args.answer.status (g.W.Sink.state c.args.sink.now)
-    (g.W.Sink.state c.write_answer.new.sink) (g.W.Sink.state c.write_cut.new.sink) c.in_ok-write_answer.ensures.wrote
+pub returns-in_ok-cut-in-AtEnd : goal.returns-in_ok-cut-in-AtEnd
+returns-in_ok-cut-in-AtEnd g c =
+    ring_then c.args.answer.status _ _ c.write_cut.result (g.W.Sink.state c.args.sink.now)
+    (g.W.Sink.state c.write_answer.new.sink) (g.W.Sink.state c.write_cut.new.sink) c.in_ok-write_answer.ensures
     c.write_cut.ensures
 
-pub returns-in_ok-cut-in-AtEnd-clause-told : goal.returns-in_ok-cut-in-AtEnd-clause-told
-returns-in_ok-cut-in-AtEnd-clause-told g c =
-    ring_then_at c.write_cut.result c.args.answer.status c.args.chosen.now (g.W.Sink.state c.args.sink.now)
-    (g.W.Sink.state c.write_answer.new.sink) (g.W.Sink.state c.write_cut.new.sink) c.in_ok-write_answer.ensures.told
-    c.write_cut.ensures
-
-pub returns-in-AtCut-clause-wrote : goal.returns-in-AtCut-clause-wrote
-returns-in-AtCut-clause-wrote g c =
-    ring_then c.write_cut-in-AtCut.result c.args.answer.status (g.W.Sink.state c.args.sink.now)
+pub returns-in-AtCut : goal.returns-in-AtCut
+returns-in-AtCut g c =
+    ring_then c.args.answer.status _ _ c.write_cut-in-AtCut.result (g.W.Sink.state c.args.sink.now)
     (g.W.Sink.state c.write_answer.new.sink) (g.W.Sink.state c.write_cut-in-AtCut.new.sink)
-    c.in_ok-write_answer.ensures.wrote c.write_cut-in-AtCut.ensures
-
-pub returns-in-AtCut-clause-told : goal.returns-in-AtCut-clause-told
-returns-in-AtCut-clause-told g c =
-    ring_then_at c.write_cut-in-AtCut.result c.args.answer.status c.args.chosen.now (g.W.Sink.state c.args.sink.now)
-    (g.W.Sink.state c.write_answer.new.sink) (g.W.Sink.state c.write_cut-in-AtCut.new.sink)
-    c.in_ok-write_answer.ensures.told c.write_cut-in-AtCut.ensures
+    c.in_ok-write_answer.ensures c.write_cut-in-AtCut.ensures

@@ -1,7 +1,7 @@
 use Rattle.std.proofs.Common.{◌≡◌, refl, subst}
 use Rattle.std.proofs.lemmas.Result.{err_from_is_err_and}
 use Rattle.ira_view_moment.specs.ChosenMoment.{IsMomentOf, cut_of}
-use Rattle.ira_view_draw.specs.Told.{told_of}
+use Rattle.ira_view_moment.specs.Told.{told_of}
 use Rattle.ira_view.proofs.Moments.{no_question}
 use Rattle.ira_view.specs.FirstCut.{IsFirstMoment}
 use Rattle.ira_view.proofs.shown_ring.ShownRing.of_question.Goals as goal
