@@ -90,7 +90,7 @@ pub record AreSteps {A : Type 0} (logs : List Log) (faulty : List FaultyEvent) (
   pub stopped : IsStopped log steps.log
   pub position : steps.log.evidence.fault.position ≡ named.at.position
   pub others : AreParts (AreOtherStops logs named) faulty steps.others.items
-  pub origins : (steps.others.items ≡ []) ⊎ AreOrigins logs named.at steps.origins.items
+  pub origins : ((steps.others.items ≡ []) × (steps.origins.items ≡ [])) ⊎ AreOrigins logs named.at steps.origins.items
 
 -- of another node's event without a step: with why it has none, and whether it happened before the named one
 abbrev pub IsOtherTold : {A : Type 0} → List NamedText → OtherStop → List (Evidence A) → Type 0
@@ -146,6 +146,6 @@ IsNoRingTold files _ told = ⊥
 
 -- what is told of the texts that were judged: of the logs of a run nothing
 abbrev pub IsTold : {A : Type 0} → List NamedText → Judged A → Option NodeState → List (Evidence A) → Type 0
-IsTold files (Good logs) state told = told ≡ []
+IsTold files (Good logs) state told = (state ≡ None) × (told ≡ [])
 IsTold files (Refused refused) state told = IsRefusedTold files refused state told
 IsTold files (NoRing reason) state told = (state ≡ None) × IsNoRingTold files reason told

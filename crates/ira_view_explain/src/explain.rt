@@ -37,6 +37,7 @@ pub fn draft_of_ring<A: Allocator + Clone>(
 ) -> Result<ExplanationDraft<A>, OutOfMemory>
     ensures ring { IfOk result (λ draft. draft.ring ≡ Some (counts logs.now)) }
     ensures page { IfOk result (λ draft. Added (Some []) (codes "\n") draft.page) }
+    ensures state { IfOk result (λ draft. draft.state_before ≡ None) }
     ensures evidence { IfOk result (λ draft. evidence_of draft ≡ Some []) }
 {
     let mut draft = ExplanationDraft::after_answer(alloc)?;
@@ -50,6 +51,7 @@ pub fn draft_run<A: Allocator + Clone>(
     logs: &Logs<A>,
 ) -> Result<ExplanationDraft<A>, OutOfMemory>
     ensures ring { IfOk result (λ draft. draft.ring ≡ Some (counts logs.now)) }
+    ensures state { IfOk result (λ draft. draft.state_before ≡ None) }
     ensures evidence { IfOk result (λ draft. evidence_of draft ≡ Some []) }
 {
     let mut draft = draft_of_ring(alloc.clone()?, logs)?;

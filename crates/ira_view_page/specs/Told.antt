@@ -20,13 +20,14 @@ pub record AddedOf {A X : Type 0} (bytes : List ℕ) (made : String A → X) (ol
       → (before : List X) × (text : String A) × (old ≡ Some before) × (string_bytes text ≡ bytes)
       × (all ≡ before ++ made text ∷ [])
 
--- an explanation has what its draft has
+-- an explanation has what its draft has, and no case
 pub record IsDrafted {A : Type 0} (draft : ExplanationDraft A) (explanation : Explanation A) : Type 0 where
   pub page : draft.page ≡ Some explanation.page
   pub ring : explanation.ring ≡ draft.ring
   pub state_before : explanation.state_before ≡ draft.state_before
   pub evidence : evidence_of draft ≡ Some explanation.evidence.items
   pub hints : hints_of draft ≡ Some explanation.hints.items
+  pub cases : explanation.cases.items ≡ []
 
 -- a growth was refused to a draft, or to its page
 abbrev pub IsRefused : {A : Type 0} → ExplanationDraft A → Type 0

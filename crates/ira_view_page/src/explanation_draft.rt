@@ -1,10 +1,9 @@
-ghost use Rattle.std.specs.Prelude.{◌≡◌, ◌∷◌, [], false, IfNone, IfOk, IfSome, MatchResult, Ok, Some};
+ghost use Rattle.std.specs.Prelude.{◌≡◌, ◌∷◌, [], false, IfNone, IfOk, IfSome, MatchResult, None, Ok, Some};
 ghost use Rattle.std.specs.Prelude.{codes, string_bytes};
 ghost use Rattle.ira_view_page.specs.Page.{Added, AddedSome};
 ghost use Rattle.ira_view_page.specs.Told.{AddedOf, IsDrafted, IsRefused, evidence_of, hints_of};
 ghost use Rattle.ira_view_page.specs.declared.evidence.Evidence.TheVariants.{Text};
 
-use crate::asked_case::{AskedCase, AskedNode};
 use crate::evidence::Evidence;
 use crate::explanation::Explanation;
 use crate::named_text::NamedText;
@@ -29,7 +28,6 @@ pub struct ExplanationDraft<A: Allocator> {
     pub state_before: Option<NodeState>,
     pub evidence: Vec<Evidence<A>, A>,
     hints: Vec<String<A>, A>,
-    cases: Vec<AskedCase<A>, A>,
     is_whole: bool,
 }
 
@@ -37,6 +35,7 @@ impl<A: Allocator + Clone> ExplanationDraft<A> {
     /// Nothing yet. An error where the allocator can't be copied.
     pub fn new(alloc: A) -> Result<ExplanationDraft<A>, OutOfMemory>
         ensures page { IfOk result (λ draft. draft.page ≡ Some []) }
+        ensures state { IfOk result (λ draft. draft.state_before ≡ None) }
         ensures evidence { IfOk result (λ draft. evidence_of draft ≡ Some []) }
     {
         Ok(ExplanationDraft {
@@ -45,7 +44,6 @@ impl<A: Allocator + Clone> ExplanationDraft<A> {
             state_before: None,
             evidence: Vec::new(alloc.clone()?),
             hints: Vec::new(alloc.clone()?),
-            cases: Vec::new(alloc.clone()?),
             is_whole: true,
             alloc,
         })
@@ -54,6 +52,7 @@ impl<A: Allocator + Clone> ExplanationDraft<A> {
     /// With the empty line that comes after an answer.
     pub fn after_answer(alloc: A) -> Result<ExplanationDraft<A>, OutOfMemory>
         ensures page { IfOk result (λ draft. Added (Some []) (codes "\n") draft.page) }
+        ensures state { IfOk result (λ draft. draft.state_before ≡ None) }
         ensures evidence { IfOk result (λ draft. evidence_of draft ≡ Some []) }
     {
         let mut draft = ExplanationDraft::new(alloc)?;
@@ -74,7 +73,7 @@ impl<A: Allocator + Clone> ExplanationDraft<A> {
             state_before: self.state_before,
             evidence: self.evidence,
             hints: self.hints,
-            cases: self.cases,
+            cases: Vec::new(self.alloc),
         })
     }
 
@@ -206,30 +205,6 @@ impl<A: Allocator + Clone> ExplanationDraft<A> {
         }
     }
 
-    /// Adds a case that is explained, counted from 0.
-    pub fn case(&mut self, number: usize)
-        ensures page { self.new.page ≡ self.old.page }
-        ensures evidence { Added (evidence_of self.old) [] (evidence_of self.new) }
-    {
-        let asks = empty_list(&self.alloc);
-        if let Some(asks) = self.take(asks) {
-            let kept = self.cases.push(AskedCase { number, asks }).is_ok();
-            self.is_whole = self.is_whole && kept;
-        }
-    }
-
-    /// Adds what the last case asks of a node: the clause as the question spells it, and its line there.
-    pub fn asks(&mut self, node: u8, clause: &[u8], line: usize)
-        ensures page { self.new.page ≡ self.old.page }
-        ensures evidence { Added (evidence_of self.old) [] (evidence_of self.new) }
-    {
-        let clause = shown_text(&self.alloc, clause);
-        if let (Some(clause), Some(case)) = (self.take(clause), self.cases.last_mut()) {
-            let kept = case.asks.push(AskedNode { node, clause, line }).is_ok();
-            self.is_whole = self.is_whole && kept;
-        }
-    }
-
     /// Adds a line of a file to the evidence, or keeps that a growth was refused to it.
     fn tell_line(&mut self, line: Result<QuotedLine<A>, OutOfMemory>)
         ensures page { self.new.page ≡ self.old.page }
@@ -284,17 +259,6 @@ fn owned<A: Allocator + Clone>(alloc: &A, words: &str) -> Result<String<A>, OutO
     ensures { IfOk result (λ text. string_bytes text ≡ words.now) }
 {
     Ok(String::from_str(alloc.clone()?, words)?)
-}
-
-/// What a page shows of these bytes.
-fn shown_text<A: Allocator + Clone>(alloc: &A, bytes: &[u8]) -> Result<String<A>, OutOfMemory> {
-    let mut text = Page::new(alloc.clone()?);
-    text.show(bytes);
-    Ok(text.finish()?.into_string())
-}
-
-fn empty_list<T, A: Allocator + Clone>(alloc: &A) -> Result<Vec<T, A>, OutOfMemory> {
-    Ok(Vec::new(alloc.clone()?))
 }
 
 /// A line of a file, without carets.

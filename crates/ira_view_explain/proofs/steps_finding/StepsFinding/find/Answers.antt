@@ -20,7 +20,7 @@ returns-then-faulty-lt2 g c =
       position = position_is logs log c.args.named _ c.log-log.ensures.value c.requires.named stopped.states.faulty;
       others = rw c.new.ensures.items (no_others logs c.args.named c.args.faulty.now c.requires.faulty c.requires.named
           (omega (arith, c.if-faulty-lt2.true)));
-      origins = inl c.new.ensures.items;
+      origins = inl (c.new.ensures.items, c.new-then-faulty-lt2.ensures.items);
     }
 
 pub returns : goal.returns
