@@ -3,11 +3,11 @@ use Rattle.std.specs.Prelude.{ℕ, List, ◌++◌, codes, decimal}
 use Rattle.std.specs.Borrow.{Bor}
 use Rattle.std.specs.List.{flat_map}
 use Rattle.std.specs.String.{string_bytes}
-use Rattle.ira_order.specs.declared.event_at.EventAt.{EventAt}
 use Rattle.ira_view_moment.specs.declared.cut_fault.CutFault.{CutFault}
-use Rattle.ira_view_moment.specs.declared.cut_fault.CutFault.TheVariants as cut
 use Rattle.ira_view_picture.specs.declared.draw_fault.DrawFault.{DrawFault}
 use Rattle.ira_view_picture.specs.declared.draw_fault.DrawFault.TheVariants as draw
+use Rattle.ira_view.specs.CutFaultLine.{cut_fault_text}
+use Rattle.ira_view.specs.DrawFaultLine.{too_many_text}
 use Rattle.ira_ring_setup.specs.RunFault.{run_fault_number}
 use Rattle.ira_ring_setup.specs.declared.run_fault.RunFault.{RunFault}
 use Rattle.ira_ring_setup.specs.declared.run_fault.RunFault.TheVariants as run
@@ -55,22 +55,6 @@ abbrev pub write_fault : Bor (List ℕ) → ShelfFault → ProgramFault
 write_fault name shelf.OutOfMemory = OutOfMemory
 write_fault name other = CannotWrite name
 
--- the line of a receipt that is in the numbers of a moment, and whose sending isn't: of the one, and of the other
-abbrev pub held_text : EventAt → List ℕ
-held_text receipt =
-    codes "ira: --at is not consistent: event " ++ decimal receipt.position
-    ++ (codes " of node " ++ (decimal receipt.place ++ codes " is in it, and "))
-
-abbrev pub lacking_text : EventAt → List ℕ
-lacking_text sending =
-    codes "event " ++ decimal sending.position
-    ++ (codes " of node " ++ (decimal sending.place ++ codes ", the sending that it receives, is not\n"))
-
--- the line of numbers that are no moment
-abbrev pub cut_fault_text : CutFault → List ℕ
-cut_fault_text cut.NoCut = codes "ira: --at is no cut: one number for each node, at most as many as its events\n"
-cut_fault_text (cut.LacksSending receipt sending) = held_text receipt ++ lacking_text sending
-
 -- the line of a file that wasn't read
 abbrev pub unread_text : FileName → List ℕ
 unread_text name = codes "ira: cannot read " ++ file_name name ++ codes "\n"
@@ -84,9 +68,7 @@ program_fault_text (CannotReadSome names) = flat_map unread_text names.items
 program_fault_text RingSize = codes "ira: ring size\n"
 program_fault_text (NoMoment fault) = cut_fault_text fault
 program_fault_text NoPlace = codes "ira: --leads names a node that the ring has not\n"
-program_fault_text (TooManyEvents events) =
-    codes "ira: " ++ decimal events
-    ++ codes " events are too many for one picture, which holds 20000: give --from and --to\n"
+program_fault_text (TooManyEvents events) = too_many_text events
 program_fault_text (RunRefused fault) = codes "ira: run refused " ++ decimal (run_fault_number fault) ++ codes "\n"
 program_fault_text (CannotWriteLog folder place) =
     codes "ira: cannot write " ++ log_name folder.now place ++ codes "\n"

@@ -3,7 +3,6 @@
 
 mod asked_run;
 mod cert_file;
-mod cut_fault_line;
 mod decide_files;
 mod draw_files;
 mod drawn_text;

@@ -7,12 +7,12 @@ ghost use Rattle.ira_main.specs.ProgramFault.{draw_fault, program_fault_text, un
 ghost use Rattle.ira_main.specs.Outcome.{ReportsOutcome, outcome_number};
 ghost use Rattle.ira_main.specs.Status.{program_fault_status};
 
-use crate::cut_fault_line::write_cut_fault;
 use crate::status::Status;
 use ira_event::{Line, OutOfMemory, Sink, WriteFault, write_bytes};
 use ira_main_cli::WordsFault;
 use ira_main_files::{FileName, ShelfFault, slash_after};
 use ira_ring::RunFault;
+use ira_view::{too_many_events, write_cut_fault};
 use ira_view_moment::CutFault;
 use ira_view_picture::DrawFault;
 use std::alloc::{AllocError, AllocFailed};
@@ -158,16 +158,6 @@ fn log_in_folder(folder: &str, place: u8) -> Line
     line.add(slash_after(folder).as_bytes());
     line.add_number(u32::from(place));
     line.add(b".log\n");
-    line
-}
-
-fn too_many_events(events: u32) -> Line
-    ensures { result ≡ codes "ira: " ++ decimal events ++ codes " events are too many for one picture, which holds 20000: give --from and --to\n" }
-{
-    let mut line = Line::new();
-    line.add(b"ira: ");
-    line.add_number(events);
-    line.add(b" events are too many for one picture, which holds 20000: give --from and --to\n");
     line
 }
 

@@ -5,12 +5,11 @@ ghost use Rattle.ira_main.specs.declared.program_fault.ProgramFault.TheVariants.
 use crate::program_fault::ProgramFault;
 use crate::show_files::named_leaders;
 use crate::status::Status;
-use crate::view_printer::write_view;
 use ira_audit::Answer;
 use ira_event::{Sink, WriteFault};
 use ira_main_cli::ShowRequest;
 use ira_main_files::FileName;
-use ira_view::ShownRing;
+use ira_view::{ShownRing, write_view};
 use ira_view_json::ShownAnswer;
 use ira_view_page::{PageText, ShowFault};
 use std::alloc::{AllocError, Allocator, Global};

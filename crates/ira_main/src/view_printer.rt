@@ -1,9 +1,6 @@
-ghost use Rattle.std.specs.Prelude.{◌≡◌, ◌⊎◌, ◌++◌, Err, false};
-ghost use Rattle.ira_event.specs.Sink.{Wrote};
+ghost use Rattle.std.specs.Prelude.{◌≡◌, ◌⊎◌, Err, false};
 ghost use Rattle.ira_audit.specs.Findings.{AreReportable};
-ghost use Rattle.ira_audit.specs.FindingsText.{findings_text};
-ghost use Rattle.ira_audit.specs.Report.{IsReportable, report_line};
-ghost use Rattle.ira_view_page.specs.Printable.{IsPrintable};
+ghost use Rattle.ira_audit.specs.Report.{IsReportable};
 ghost use Rattle.ira_main.specs.Decide.{ExplainsFindings};
 ghost use Rattle.ira_main.specs.Outcome.{Explains, ExplainsAs};
 ghost use Rattle.ira_main.specs.declared.program_fault.ProgramFault.TheVariants.{OutOfMemory};
@@ -11,25 +8,10 @@ ghost use Rattle.ira_main.specs.declared.program_fault.ProgramFault.TheVariants.
 use crate::program_fault::ProgramFault;
 use crate::report::print_text;
 use crate::status::Status;
-use ira_audit::{Answer, write_findings, write_report};
-use ira_event::{MemorySink, Sink, WriteFault, write_bytes};
-use ira_view::{FindingsView, View};
+use ira_event::{MemorySink, Sink, WriteFault};
+use ira_view::{FindingsView, View, write_findings_view, write_view};
 use ira_view_json::{explained_findings_lines, explained_line};
 use std::alloc::{Allocator, Global};
-
-/// Writes the line of an answer, and the page after it.
-#[tactic(auto, using(ira_event::proofs::Writing::writes))]
-pub(crate) fn write_view<W: Sink>(
-    answer: &Answer,
-    page: &[u8],
-    sink: &mut W,
-) -> Result<(), WriteFault>
-    requires { IsReportable answer.now }
-    ensures { Wrote result (report_line answer.now ++ page.now) (W.state sink.old) (W.state sink.new) }
-{
-    write_report(answer, sink)?;
-    write_bytes(page, sink)
-}
 
 // The status of an answer whose line was printed with the page after it.
 fn print_page<'a, A: Allocator, W: Sink>(
@@ -63,22 +45,6 @@ pub(crate) fn print_view<'a, A: Allocator, W: Sink>(
         return print_text(line.as_bytes(), status, out);
     }
     print_page(view, out)
-}
-
-// Writes the lines of findings, and the page after them.
-#[tactic(auto, using(ira_event::proofs::Writing::writes))]
-fn write_findings_view<A: Allocator, W: Sink>(
-    view: &FindingsView<A>,
-    sink: &mut W,
-) -> Result<(), WriteFault>
-    requires { AreReportable view.now.findings }
-    ensures wrote { Wrote result (findings_text view.now.findings ++ view.now.explanation.page)
-        (W.state sink.old) (W.state sink.new) }
-    ensures printable { IsPrintable view.now.explanation.page }
-{
-    let page = view.explanation.page.bytes();
-    write_findings(&view.findings, sink)?;
-    write_bytes(page, sink)
 }
 
 // The status of findings whose lines were printed with the page after them. They are put together first, since the

@@ -2,6 +2,8 @@
 //! lines of JSON or as a picture.
 #![tactic(auto)]
 
+mod cut_fault_line;
+mod draw_fault_line;
 mod explain;
 mod find_moment;
 mod findings_view;
@@ -11,7 +13,10 @@ mod ring_fault;
 mod shown_ring;
 mod taken;
 mod view;
+mod view_writer;
 
+pub use cut_fault_line::write_cut_fault;
+pub use draw_fault_line::too_many_events;
 pub use explain::{explain_text, explain_texts};
 pub use findings_view::FindingsView;
 pub use ira_view_explain_question::AskedFiles;
@@ -19,5 +24,6 @@ pub use leads::{differences, missing_leader};
 pub use question::{explain_certified, explain_findings};
 pub use ring_fault::RingFault;
 pub use shown_ring::ShownRing;
-pub use taken::judge_texts;
+pub use taken::{judge_texts, take_texts};
 pub use view::View;
+pub use view_writer::{write_findings_view, write_view};

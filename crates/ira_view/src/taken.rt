@@ -10,7 +10,7 @@ use std::alloc::Allocator;
 use std::thread::Threads;
 
 /// An audit that has taken these texts.
-pub(crate) fn take_texts<A: Allocator + Clone>(
+pub fn take_texts<A: Allocator + Clone>(
     alloc: A,
     texts: &[NamedText<'_>],
 ) -> Result<RingAudit<A>, OutOfMemory>

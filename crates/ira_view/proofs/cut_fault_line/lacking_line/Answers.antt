@@ -1,5 +1,5 @@
 use Rattle.std.proofs.Common.{◌≡◌, ◌∙◌, ◌++◌, List, append_assoc, codes, decimal, ℕ}
-use Rattle.ira_main.proofs.cut_fault_line.lacking_line.Goals as goal
+use Rattle.ira_view.proofs.cut_fault_line.lacking_line.Goals as goal
 
 -- five texts that are put after one another
 joined : (a b c d e : List ℕ) → (((a ++ b) ++ c) ++ d) ++ e ≡ a ++ (b ++ (c ++ (d ++ e)))

@@ -1,12 +1,12 @@
 ghost use Rattle.std.specs.Prelude.{◌≡◌, ◌++◌, codes, decimal};
 ghost use Rattle.ira_event.specs.Sink.{Wrote};
-ghost use Rattle.ira_main.specs.ProgramFault.{cut_fault_text, held_text, lacking_text};
+ghost use Rattle.ira_view.specs.CutFaultLine.{cut_fault_text, held_text, lacking_text};
 
 use ira_event::{Line, Sink, WriteFault, write_bytes};
 use ira_order::EventAt;
 use ira_view_moment::CutFault;
 
-// The line of a receipt that is in the numbers, up to its sending.
+/// The line of a receipt that is in the numbers, up to its sending.
 fn held_line(receipt: EventAt) -> Line
     ensures { result ≡ held_text receipt }
 {
@@ -19,7 +19,7 @@ fn held_line(receipt: EventAt) -> Line
     line
 }
 
-// The rest of it, from its sending on.
+/// The rest of it, from its sending on.
 fn lacking_line(sending: EventAt) -> Line
     ensures { result ≡ lacking_text sending }
 {
@@ -41,7 +41,7 @@ fn write_lines<V: Sink>(first: &Line, rest: &Line, err: &mut V) -> Result<(), Wr
 }
 
 /// Writes why the numbers of `--at` aren't a moment.
-pub(crate) fn write_cut_fault<V: Sink>(fault: CutFault, err: &mut V) -> Result<(), WriteFault>
+pub fn write_cut_fault<V: Sink>(fault: CutFault, err: &mut V) -> Result<(), WriteFault>
     ensures { Wrote result (cut_fault_text fault) (V.state err.old) (V.state err.new) }
 {
     match fault {
