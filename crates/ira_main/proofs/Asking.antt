@@ -16,7 +16,8 @@ use Rattle.ira_ring.specs.Recording.{IsRecording, HasOwnEnd}
 use Rattle.ira_ring.specs.Run.{Run}
 use Rattle.ira_ring.specs.Setup.{Setup, KeepsRules}
 use Rattle.ira_ring.specs.ShownEnd.{IsLoneRun}
-use Rattle.ira_main.specs.AskedRun.{IsAskedRun, IsAskedRunFault, IsAskedSetup, IsRunOf}
+use Rattle.ira_ring.specs.SeededRing.{first_initiators, setup_of}
+use Rattle.ira_main.specs.AskedRun.{IsAskedRun, IsAskedRunFault, IsAskedSetup, IsRunOf, ring_of}
 
 -- what holds of the member at a place holds of what is seen of it there
 seen_at : {V : Type 0} (see : V → List ℕ) (rows : List V) (i : ℕ) (ids : List ℕ) → i < length rows
@@ -71,6 +72,11 @@ asked_seeded request n terms kinds size so_many first =
       cap = refl;
       terms = so_many;
     }
+
+-- the setup of the ring that is asked for is the one that is named
+pub asked_of_ring : (request : RunRequest) (n : ℕ) → n ≡ request.nodes → IsAskedSetup request (setup_of (ring_of request n))
+asked_of_ring request n size =
+    asked_seeded request n request.terms (first_initiators (ring_of request n)) size refl refl
 
 -- more terms than a number of 32 bits says are those of a setup that breaks the rules
 pub asked_of_too_many : (request : RunRequest) (n : ℕ) → n ≡ request.nodes → ¬ (request.terms < 4294967296)

@@ -5,9 +5,21 @@ use Rattle.ira_ring.specs.Recording.{IsRecording, HasOwnEnd}
 use Rattle.ira_ring.specs.Run.{Run}
 use Rattle.ira_ring.specs.Setup.{Setup, KeepsRules, IsForEachNode, is_initiator, node_draws}
 use Rattle.ira_ring.specs.ShownEnd.{IsLoneRun}
+use Rattle.ira_ring.specs.declared.seeded_ring.SeededRing.{SeededRing}
 use Rattle.ira_ring_setup.specs.declared.run_fault.RunFault.{RunFault}
 use Rattle.ira_ring_setup.specs.declared.run_fault.RunFault.TheVariants as run
 use Rattle.ira_main_cli.specs.declared.run_request.RunRequest.{RunRequest}
+
+-- the ring that a request names, which has this size
+abbrev pub ring_of : RunRequest → ℕ → SeededRing
+ring_of request size = record {
+  nodes = size;
+  initiators = unwrap_or request.initiators size;
+  seed = request.seed;
+  draws = request.draws;
+  cap = request.cap;
+  terms = request.terms;
+}
 
 -- the setup that a request names
 pub record IsAskedSetup (request : RunRequest) (s : Setup) : Type 0 where

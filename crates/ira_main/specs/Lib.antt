@@ -9,7 +9,6 @@ pub mod InputAudit
 pub mod LeftFiles
 pub mod LogFiles
 pub mod Mend
-pub mod MendedLines
 pub mod Outcome
 pub mod Overwriting
 pub mod Progress

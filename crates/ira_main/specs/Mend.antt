@@ -12,13 +12,13 @@ use Rattle.ira_audit.specs.declared.answer.Answer.TheVariants.{No}
 use Rattle.ira_audit.specs.declared.reason.Reason.{Reason}
 use Rattle.ira_audit.specs.declared.reason.Reason.TheVariants.{Match}
 use Rattle.ira_main_cli.specs.declared.mend_request.MendRequest.{MendRequest}
+use Rattle.ira_view.specs.MendedLines.{mended_lines}
 use Rattle.ira_main_files.specs.FileName.{file_name}
 use Rattle.ira_main_files.specs.Shelf.{Reading, Writing}
 use Rattle.ira_main_files.specs.declared.file_name.FileName.{FileName}
 use Rattle.ira_main.specs.FilesRead.{ReadsFiles, names_of}
 use Rattle.ira_main.specs.LeftFiles.{HasLeftNames, IsLeftFault, IsLeftNamesFault, left_by}
 use Rattle.ira_main.specs.LogFiles.{StopsInLogs, WritesLogs}
-use Rattle.ira_main.specs.MendedLines.{mended_lines}
 use Rattle.ira_main.specs.Outcome.{GivesNoAnswer, Outcome, Prints, Reports}
 use Rattle.ira_main.specs.Overwriting.{KeepsInput, Overwrites}
 use Rattle.ira_main.specs.declared.program_fault.ProgramFault.{ProgramFault}

@@ -1,5 +1,5 @@
 -- Why the program ends with neither yes nor no.
-use Rattle.std.specs.Prelude.{ℕ, List, ◌++◌, codes, decimal}
+use Rattle.std.specs.Prelude.{ℕ, List, ◌++◌, codes}
 use Rattle.std.specs.Borrow.{Bor}
 use Rattle.std.specs.List.{flat_map}
 use Rattle.std.specs.String.{string_bytes}
@@ -8,7 +8,7 @@ use Rattle.ira_view_picture.specs.declared.draw_fault.DrawFault.{DrawFault}
 use Rattle.ira_view_picture.specs.declared.draw_fault.DrawFault.TheVariants as draw
 use Rattle.ira_view.specs.CutFaultLine.{cut_fault_text}
 use Rattle.ira_view.specs.DrawFaultLine.{too_many_text}
-use Rattle.ira_ring_setup.specs.RunFault.{run_fault_number}
+use Rattle.ira_view.specs.RunFaultLine.{run_fault_text}
 use Rattle.ira_ring_setup.specs.declared.run_fault.RunFault.{RunFault}
 use Rattle.ira_ring_setup.specs.declared.run_fault.RunFault.TheVariants as run
 use Rattle.ira_main_cli.specs.declared.words_fault.WordsFault.{WordsFault}
@@ -69,7 +69,7 @@ program_fault_text RingSize = codes "ira: ring size\n"
 program_fault_text (NoMoment fault) = cut_fault_text fault
 program_fault_text NoPlace = codes "ira: --leads names a node that the ring has not\n"
 program_fault_text (TooManyEvents events) = too_many_text events
-program_fault_text (RunRefused fault) = codes "ira: run refused " ++ decimal (run_fault_number fault) ++ codes "\n"
+program_fault_text (RunRefused fault) = run_fault_text fault
 program_fault_text (CannotWriteLog folder place) =
     codes "ira: cannot write " ++ log_name folder.now place ++ codes "\n"
 program_fault_text (WouldOverwrite name) = codes "ira: would overwrite " ++ file_name name ++ codes "\n"

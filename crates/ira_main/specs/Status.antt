@@ -1,11 +1,11 @@
 -- The statuses that the program ends with, and their numbers.
-use Rattle.std.specs.Prelude.{◌≡◌, ◌≢◌, ◌⊎◌, ℕ, List, [], Some, slice_get}
+use Rattle.std.specs.Prelude.{◌≡◌, ◌≢◌, ◌⊎◌, ℕ, List, []}
 use Rattle.ira_audit.specs.Findings.{MakeNoCertificate}
 use Rattle.ira_audit.specs.declared.answer.Answer.{Answer}
 use Rattle.ira_audit.specs.declared.answer.Answer.TheVariants as answer
 use Rattle.ira_audit.specs.declared.findings.Findings.{Findings}
 use Rattle.ira_ring_setup.specs.declared.node_end.NodeEnd.{NodeEnd}
-use Rattle.ira_ring_setup.specs.declared.node_end.NodeEnd.TheVariants.{Leader}
+use Rattle.ira_ring.specs.SeededRing.{HasLeader}
 use Rattle.ira_main.specs.declared.program_fault.ProgramFault.{ProgramFault}
 use Rattle.ira_main.specs.declared.program_fault.ProgramFault.TheVariants as program
 use Rattle.ira_main.specs.declared.status.Status.{Status}
@@ -27,10 +27,6 @@ answer_status (answer.No reason) = No
 abbrev pub IsFindingsStatus : {A : Type 0} → Findings A → Status → Type 0
 IsFindingsStatus findings status =
     (MakeNoCertificate findings × (status ≡ No)) ⊎ (¬ (MakeNoCertificate findings) × (status ≡ Yes))
-
--- a node ended as the leader
-abbrev pub HasLeader : List NodeEnd → Type 0
-HasLeader ends = (i : ℕ) × (slice_get ends i ≡ Some Leader)
 
 -- the status of a run: yes where a node leads, else no
 abbrev pub IsElectionStatus : List NodeEnd → Status → Type 0

@@ -1,5 +1,5 @@
 -- What the program does that is asked to upgrade logs.
-use Rattle.std.specs.Prelude.{◌≡◌, ℕ, List, ◌++◌, Err, codes, decimal, length, map}
+use Rattle.std.specs.Prelude.{◌≡◌, ℕ, List, Err, length, map}
 use Rattle.std.specs.Borrow.{Bor}
 use Rattle.ira_event.specs.Log.{Log}
 use Rattle.ira_event.specs.Logs.{AreLogs}
@@ -10,6 +10,7 @@ use Rattle.ira_audit.specs.RingAnswer.{IsRingAnswer}
 use Rattle.ira_audit.specs.Refusal.{IsTextOrHeadsReason}
 use Rattle.ira_audit.specs.declared.answer.Answer.TheVariants.{No}
 use Rattle.ira_audit.specs.declared.reason.Reason.{Reason}
+use Rattle.ira_view.specs.UpgradedLine.{upgraded_text}
 use Rattle.ira_main_cli.specs.declared.rewrite_request.RewriteRequest.{RewriteRequest}
 use Rattle.ira_main_files.specs.Shelf.{Reading, Writing}
 use Rattle.ira_main.specs.FilesRead.{IsFilesFault, ReadsFiles}
@@ -18,16 +19,12 @@ use Rattle.ira_main.specs.Outcome.{GivesNoAnswer, Outcome, Prints, Reports}
 use Rattle.ira_main.specs.declared.program_fault.ProgramFault.TheVariants.{OutOfMemory}
 use Rattle.ira_main.specs.declared.status.Status.TheVariants.{Yes}
 
--- how many logs were upgraded
-abbrev pub upgraded_line : ℕ → List ℕ
-upgraded_line number = codes "upgraded " ++ decimal number ++ codes " logs\n"
-
 -- each log was written in version 2 to the file of its place in this folder, and then their number was printed; or a
 -- log wasn't written, and nothing was printed; or memory ran out, and the shelf is as it was
 pub data KeepsUpgrades {S : Type 0} (writes : Writing S) (folder : Bor (List ℕ)) (logs : List Log) (shelf shelf' : S)
     (out out' : SinkState) (outcome : Outcome) : Type 0 where
   written : WritesLogs writes folder.now (map upgraded logs) shelf shelf'
-      → Prints (upgraded_line (length logs)) Yes out out' outcome
+      → Prints (upgraded_text (length logs)) Yes out out' outcome
       → KeepsUpgrades writes folder logs shelf shelf' out out' outcome
   unwritten : GivesNoAnswer (StopsInLogs writes folder (map upgraded logs) shelf shelf') out out' outcome
       → KeepsUpgrades writes folder logs shelf shelf' out out' outcome

@@ -4,7 +4,6 @@ ghost use Rattle.ira_main.specs.Mend.{KeepsMended, MendsLogs};
 
 use crate::left_files::{left_names, read_left};
 use crate::log_files::write_files;
-use crate::mended_lines::write_mended;
 use crate::overwriting::overwritten;
 use crate::program_fault::ProgramFault;
 use crate::report::report;
@@ -14,6 +13,7 @@ use ira_event::{Logs, MemorySink, Sink, WriteFault, write_bytes};
 use ira_main_cli::MendRequest;
 use ira_main_files::Shelf;
 use ira_mend::{MendFault, mend};
+use ira_view::write_mended;
 use std::alloc::Allocator;
 
 // Writes what is kept of each log, and then how many events these are. The lines are put together before a file is made,

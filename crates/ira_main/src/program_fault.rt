@@ -1,7 +1,6 @@
 ghost use Rattle.std.specs.Prelude.{◌≡◌, ◌++◌, codes, decimal};
 ghost use Rattle.std.specs.List.{flat_map};
 ghost use Rattle.ira_event.specs.Sink.{Wrote};
-ghost use Rattle.ira_ring_setup.specs.RunFault.{run_fault_number};
 ghost use Rattle.ira_main_files.specs.FileName.{file_name, slash_after};
 ghost use Rattle.ira_main.specs.ProgramFault.{draw_fault, program_fault_text, unread_text, read_fault, write_fault, write_log_fault};
 ghost use Rattle.ira_main.specs.Outcome.{ReportsOutcome, outcome_number};
@@ -12,7 +11,7 @@ use ira_event::{Line, OutOfMemory, Sink, WriteFault, write_bytes};
 use ira_main_cli::WordsFault;
 use ira_main_files::{FileName, ShelfFault, slash_after};
 use ira_ring::RunFault;
-use ira_view::{too_many_events, write_cut_fault};
+use ira_view::{refused_run, too_many_events, write_cut_fault};
 use ira_view_moment::CutFault;
 use ira_view_picture::DrawFault;
 use std::alloc::{AllocError, AllocFailed};
@@ -158,16 +157,6 @@ fn log_in_folder(folder: &str, place: u8) -> Line
     line.add(slash_after(folder).as_bytes());
     line.add_number(u32::from(place));
     line.add(b".log\n");
-    line
-}
-
-fn refused_run(fault: RunFault) -> Line
-    ensures { result ≡ codes "ira: run refused " ++ decimal (run_fault_number fault) ++ codes "\n" }
-{
-    let mut line = Line::new();
-    line.add(b"ira: run refused ");
-    line.add_number(u32::from(fault.number()));
-    line.add(b"\n");
     line
 }
 

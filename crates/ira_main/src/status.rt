@@ -2,7 +2,7 @@ ghost use Rattle.std.specs.Prelude.{◌≡◌, IsFalse, IsTrue};
 ghost use Rattle.ira_main.specs.Status.{IsElectionStatus, IsFindingsStatus, IsLeadsStatus, answer_status, status_number};
 
 use ira_audit::{Answer, Findings};
-use ira_ring::NodeEnd;
+use ira_ring::{NodeEnd, has_leader};
 use std::alloc::Allocator;
 
 /// What the program ends with.
@@ -46,7 +46,7 @@ impl Status {
     pub(crate) fn of_ends(ends: &[NodeEnd]) -> Status
         ensures { IsElectionStatus ends.now result }
     {
-        if ends.contains(&NodeEnd::Leader) {
+        if has_leader(ends) {
             Status::Yes
         } else {
             Status::No

@@ -1,8 +1,7 @@
-ghost use Rattle.std.specs.Prelude.{◌≡◌};
 ghost use Rattle.ira_main_files.specs.Shelf.{WritesFile};
 ghost use Rattle.ira_main.specs.FilesRead.{names_of};
 ghost use Rattle.ira_main.specs.SourceNames.{OfSource};
-ghost use Rattle.ira_main.specs.Upgrade.{KeepsUpgrades, Upgrades, upgraded_line};
+ghost use Rattle.ira_main.specs.Upgrade.{KeepsUpgrades, Upgrades};
 
 use crate::log_files::write_files;
 use crate::program_fault::ProgramFault;
@@ -11,22 +10,12 @@ use crate::report::report;
 use crate::source_names::source_names;
 use crate::status::Status;
 use ira_audit::{Answer, Refusal};
-use ira_event::{Line, Logs, RingSize, Sink, WriteFault};
+use ira_event::{Logs, Sink, WriteFault};
 use ira_main_cli::RewriteRequest;
 use ira_main_files::Shelf;
+use ira_view::upgraded_logs;
 use std::alloc::Allocator;
 use std::thread::Threads;
-
-// How many logs were upgraded.
-fn upgraded(size: RingSize) -> Line
-    ensures { result ≡ upgraded_line size }
-{
-    let mut line = Line::new();
-    line.add(b"upgraded ");
-    line.add_number(u32::from(size.get()));
-    line.add(b" logs\n");
-    line
-}
 
 // Writes the logs in version 2, and then their number. All are upgraded before a file is made, since memory may run out.
 fn keep_upgrades<'a, A: Allocator + Clone, F: Shelf, W: Sink>(
@@ -41,7 +30,7 @@ fn keep_upgrades<'a, A: Allocator + Clone, F: Shelf, W: Sink>(
 {
     let logs = logs.upgrade()?;
     write_files(&alloc, folder, &logs, shelf)?;
-    match upgraded(logs.size()).write(out) {
+    match upgraded_logs(logs.size()).write(out) {
         Ok(()) => Ok(Status::Yes),
         Err(WriteFault) => Err(ProgramFault::CannotWriteAnswer),
     }

@@ -1,3 +1,4 @@
+pub mod SeededRing
 pub use Rattle.ira_ring_alone.specs.Existence
 pub use Rattle.ira_ring_alone.specs.SeededRun
 pub use Rattle.ira_ring_setup.specs.Agreement

@@ -3,6 +3,10 @@
 //! stands in a crate of its own, so that the parts are proved side by side.
 #![tactic(auto)]
 
+mod leader;
+mod seeded_ring;
+mod sizes;
+
 pub use ira_ring_alone::{run_alone, run_alone_seeded, setups_have_full_runs};
 pub use ira_ring_setup::{
     Collector, NodeEnd, NodePart, Run, RunFault, Setup, draw_lists, full_runs_are_runs,
@@ -10,3 +14,6 @@ pub use ira_ring_setup::{
     write_ends,
 };
 pub use ira_ring_threads::{NodeWork, node_body, run_ring};
+pub use leader::has_leader;
+pub use seeded_ring::SeededRing;
+pub use sizes::ring_size;

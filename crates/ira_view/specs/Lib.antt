@@ -2,5 +2,8 @@ pub mod CutFaultLine
 pub mod Differences
 pub mod DrawFaultLine
 pub mod FirstCut
+pub mod MendedLines
+pub mod RunFaultLine
 pub mod ShownRing
 pub mod Texts
+pub mod UpgradedLine

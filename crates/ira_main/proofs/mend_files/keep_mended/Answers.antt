@@ -1,7 +1,7 @@
 use Rattle.std.proofs.Common.{◌≡◌, ◌∙◌, ◌++◌, Err, ap, inl, inr, refl, rules, subst}
 use Rattle.std.proofs.lemmas.Result.{err_from_is_err_and}
 use Rattle.ira_event.specs.Sink.{Memory, StopsIn, Takes}
-use Rattle.ira_main.specs.MendedLines.{mended_lines}
+use Rattle.ira_view.specs.MendedLines.{mended_lines}
 use Rattle.ira_main.specs.Mend.KeepsMended.{no_memory, unwritten, written}
 use Rattle.ira_main.proofs.mend_files.keep_mended.Goals as goal
 

@@ -3,7 +3,7 @@ use Rattle.std.proofs.lemmas.List.{length-map}
 use Rattle.std.proofs.lemmas.Result.{err_from_is_err_and}
 use Rattle.ira_event.specs.Sink.{StopsIn, Takes}
 use Rattle.ira_event.specs.Upgrade.{upgraded}
-use Rattle.ira_main.specs.Upgrade.{upgraded_line}
+use Rattle.ira_view.specs.UpgradedLine.{upgraded_text}
 use Rattle.ira_main.specs.Upgrade.KeepsUpgrades.{no_memory, unwritten, written}
 use Rattle.ira_main.proofs.upgrade_files.keep_upgrades.Goals as goal
 
@@ -21,7 +21,7 @@ returns-in-Ok g c =
     let news = c.in_ok-logs.ensures in
     let size : c.size.result ≡ length c.args.logs = c.size.ensures.value ∙ ap length news
     ∙ length-map c.args.logs upgraded in
-    let text_is = c.upgraded.ensures ∙ ap upgraded_line size in
+    let text_is = c.upgraded_logs.ensures ∙ ap upgraded_text size in
     let printed = subst (λ t. Takes t (g.W.Sink.state c.args.out.now) (g.W.Sink.state c.write.new.sink)) text_is
     c.in-Ok.ensures in
     written (rw news at c.in_ok-write_files.ensures) (inl (printed, refl))
@@ -31,7 +31,7 @@ returns g c =
     let news = c.in_ok-logs.ensures in
     let size : c.size.result ≡ length c.args.logs = c.size.ensures.value ∙ ap length news
     ∙ length-map c.args.logs upgraded in
-    let text_is = c.upgraded.ensures ∙ ap upgraded_line size in
+    let text_is = c.upgraded_logs.ensures ∙ ap upgraded_text size in
     let stopped = subst (λ t. StopsIn t (g.W.Sink.state c.args.out.now) (g.W.Sink.state c.write.new.sink)) text_is
     c.in-Err.ensures in
     written (rw news at c.in_ok-write_files.ensures) (inr (stopped, refl))

@@ -8,8 +8,8 @@ use Rattle.std.proofs.lemmas.Slice.Zip.{length-zip}
 use Rattle.ira_event.specs.Log.{Log}
 use Rattle.ira_event.proofs.Writing.{HasWritten-more, HasWritten-stops}
 use Rattle.ira_ring_setup.proofs.EndLines.{drop-zip, next-text, HasWritten-whole}
-use Rattle.ira_main.specs.MendedLines.{mended_line, mended_lines}
-use Rattle.ira_main.proofs.mended_lines.write_mended.Goals as goal
+use Rattle.ira_view.specs.MendedLines.{mended_line, mended_lines}
+use Rattle.ira_view.proofs.mended_lines.write_mended.Goals as goal
 
 -- the pair at a place
 pair_at : (xs ys : List Log) (i : ℕ) (x y : Log) → slice_get xs i ≡ Some x → slice_get ys i ≡ Some y

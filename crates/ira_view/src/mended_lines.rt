@@ -1,6 +1,6 @@
 ghost use Rattle.std.specs.Prelude.{◌≡◌, ◌≤◌, length};
 ghost use Rattle.ira_event.specs.Sink.{Wrote};
-ghost use Rattle.ira_main.specs.MendedLines.{counts_text, mended_line, mended_lines};
+ghost use Rattle.ira_view.specs.MendedLines.{counts_text, mended_line, mended_lines};
 
 use ira_event::{Line, Logs, NodeLog, Sink, WriteFault};
 use std::alloc::Allocator;
@@ -38,7 +38,7 @@ fn mended_line<A: Allocator>(log: &NodeLog<A>, mended: &NodeLog<A>, is_lost: boo
 }
 
 /// Writes a line for each node, in the order of the places. Of which nothing was left is said by `lost`.
-pub(crate) fn write_mended<A: Allocator, W: Sink>(
+pub fn write_mended<A: Allocator, W: Sink>(
     logs: &Logs<A>,
     mended: &Logs<A>,
     lost: &[bool],

@@ -4,7 +4,7 @@ ghost use Rattle.ira_event.specs.RingSize.{IsRingSize};
 use ira_event::RingSize;
 
 /// The size of a ring of so many nodes, where a ring has so many.
-pub(crate) fn ring_size(nodes: u64) -> Option<RingSize>
+pub fn ring_size(nodes: u64) -> Option<RingSize>
     ensures some { IsSome result ↔ IsRingSize nodes }
     ensures value { IfSome result (λ size. size ≡ nodes) }
 {

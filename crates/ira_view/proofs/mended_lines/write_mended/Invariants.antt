@@ -1,8 +1,8 @@
 use Rattle.std.proofs.Common.{drop}
 use Rattle.std.specs.List.{flat_map, zip}
 use Rattle.ira_event.proofs.Writing.{HasWritten}
-use Rattle.ira_main.specs.MendedLines.{mended_line, mended_lines}
-use Rattle.ira_main.proofs.mended_lines.write_mended.Given as goal
+use Rattle.ira_view.specs.MendedLines.{mended_line, mended_lines}
+use Rattle.ira_view.proofs.mended_lines.write_mended.Given as goal
 
 abbrev pub invariant-loop-place : goal.invariant-loop-place
 invariant-loop-place g l =
