@@ -23,7 +23,7 @@ use Rattle.ira_main.specs.ProgramFault.{draw_fault}
 use Rattle.ira_main.specs.Show.{IsAskedRing}
 use Rattle.ira_main.specs.declared.program_fault.ProgramFault.TheVariants.{OutOfMemory}
 
-module _ (A : Type 0) {S : Type 0} (writes : Writing S) (texts : List (List ℕ)) (request : DrawRequest)
+module _ (A : Type 0) {S : Type 0} (writes : Writing S) (names texts : List (List ℕ)) (request : DrawRequest)
     (question : List ℕ) (shelf shelf' : S) (out out' : SinkState) (outcome : Outcome) where
   -- memory ran out, and nothing was printed or kept
   abbrev pub NoMemory : Type 0
@@ -35,7 +35,7 @@ module _ (A : Type 0) {S : Type 0} (writes : Writing S) (texts : List (List ℕ)
       → ((events : ℕ) → r ≡ Err (draw.TooManyEvents events) → HasTooManyAt ring request.from request.to events)
       → MatchResult r (λ page. PrintsDrawn writes Yes page request.picture shelf shelf' out out' outcome)
       (λ f. (shelf' ≡ shelf) × (out' ≡ out) × (outcome ≡ Err (draw_fault f)))
-      → TellsDrawn A writes texts request question shelf shelf' out out' outcome ⊎ NoMemory
+      → TellsDrawn A writes names texts request question shelf shelf' out out' outcome ⊎ NoMemory
   good_drawn logs ring (Ok page) are asked is many told = inl (drawn logs ring page are asked is told)
   good_drawn logs ring (Err (draw.TooManyEvents events)) are asked is many told =
       inl (too_many logs ring events are asked (many events refl) told.0 told.1 told.2)
@@ -43,12 +43,12 @@ module _ (A : Type 0) {S : Type 0} (writes : Writing S) (texts : List (List ℕ)
 
   -- refused ones
   pub refused_drawn : (logs : RefusedLogs) (r : Result (List ℕ) DrawFault) → AreLogTexts texts logs.logs
-      → AreRefused logs → IfOk r (IsRefusalDrawn A request logs.logs logs.reason)
+      → AreRefused logs → IfOk r (IsRefusalDrawn A request names texts logs.logs logs.reason)
       → ((events : ℕ) → r ≡ Err (draw.TooManyEvents events)
       → HasTooManyEvents logs.logs None request.from request.to events)
       → MatchResult r (λ page. PrintsDrawn writes (No logs.reason) page request.picture shelf shelf' out out' outcome)
       (λ f. (shelf' ≡ shelf) × (out' ≡ out) × (outcome ≡ Err (draw_fault f)))
-      → TellsDrawn A writes texts request question shelf shelf' out out' outcome ⊎ NoMemory
+      → TellsDrawn A writes names texts request question shelf shelf' out out' outcome ⊎ NoMemory
   refused_drawn logs (Ok page) are h is many told =
       inl (refused logs.logs logs.reason page are h.ring (refused_reason texts logs are h) is told)
   refused_drawn logs (Err (draw.TooManyEvents events)) are h is many told =

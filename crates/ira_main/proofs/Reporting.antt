@@ -7,7 +7,8 @@ use Rattle.ira_view_page.specs.declared.explanation.Explanation.{Explanation}
 use Rattle.ira_view_json.specs.AnswerValue.{findings_values}
 use Rattle.ira_view_json.specs.ExplainedFindings.{explained_findings}
 use Rattle.ira_view_json.specs.Line.{AreLinesOf}
-use Rattle.ira_main.specs.Decide.{IsExplainedText, IsFindingsText}
+use Rattle.ira_main.specs.Decide.{IsFindingsText}
+use Rattle.ira_main.specs.Explain.{IsExplainedText}
 use Rattle.ira_main.specs.Outcome.{Outcome, Prints, ReportsText}
 use Rattle.ira_main.specs.Status.{IsFindingsStatus, answer_status, status_number}
 use Rattle.ira_main.specs.declared.status.Status.{Status}
@@ -41,11 +42,11 @@ findings_json findings status n text lent number is lines same =
 -- the same of findings that are explained
 pub explained_json : {A : Type 0} (findings : Findings A) (explanation : Explanation A) (status : Status) (n : ℕ)
     (text lent : List ℕ) → n ≡ status_number status → IsFindingsStatus findings status
-    → AreLinesOf (explained_findings n findings explanation) text → lent ≡ text → IsExplainedText true findings lent
+    → AreLinesOf (explained_findings n findings explanation) text → lent ≡ text
+    → IsExplainedText true findings explanation lent
 explained_json findings explanation status n text lent number is lines same =
     let told = subst (λ k. AreLinesOf (explained_findings k findings explanation) text) number lines in (
       status,
       is,
-      explanation,
       subst (AreLinesOf (explained_findings (status_number status) findings explanation)) (sym same) told,
     )

@@ -1,5 +1,5 @@
 -- Why the input isn't judged.
-use Rattle.std.proofs.Common.{◌≡◌, ◌≢◌, Err, ap, refl, true}
+use Rattle.std.proofs.Common.{◌≡◌, ◌≢◌, ℕ, Err, List, ap, refl, true}
 use Rattle.std.specs.Prelude.{codes}
 use Rattle.ira_event.specs.Sink.{SinkState}
 use Rattle.ira_main_files.specs.CountingReader.{Reads}
@@ -14,7 +14,7 @@ use Rattle.ira_main.specs.Serve.OneLogOutcome.{no_memory, unread}
 use Rattle.ira_main.specs.declared.program_fault.ProgramFault.{ProgramFault}
 
 -- it wasn't read, whatever would have been told of its answer
-pub unjudged : (Tells : Telling) (name : FileName) (why : ShelfFault) (f : ProgramFault) (old new : Reads)
+pub unjudged : (Tells : List ℕ → Telling) (name : FileName) (why : ShelfFault) (f : ProgramFault) (old new : Reads)
     (out : SinkState)
     → file_name name ≡ codes "-" → f ≡ read_fault name why
     → (why ≡ Device → (new.has_failed ≡ true) × (new.is_over ≡ true)) → why ≢ NotFound

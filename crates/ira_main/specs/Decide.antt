@@ -6,10 +6,7 @@ use Rattle.ira_cert_text.specs.Certificate.{Certificate}
 use Rattle.ira_audit.specs.Findings.{AreFindings, IsCertificateOf, MakeNoCertificate}
 use Rattle.ira_audit.specs.FindingsText.{findings_text}
 use Rattle.ira_audit.specs.declared.findings.Findings.{Findings}
-use Rattle.ira_view_page.specs.Printable.{IsPrintable}
-use Rattle.ira_view_page.specs.declared.explanation.Explanation.{Explanation}
 use Rattle.ira_view_json.specs.AnswerValue.{findings_values}
-use Rattle.ira_view_json.specs.ExplainedFindings.{explained_findings}
 use Rattle.ira_view_json.specs.Line.{AreLinesOf}
 use Rattle.ira_main_cli.specs.declared.decide_request.DecideRequest.{DecideRequest}
 use Rattle.ira_main_files.specs.Shelf.{Reading, Writing}
@@ -46,14 +43,14 @@ pub data KeepsFindings {A S : Type 0} (writes : Writing S) (findings : Findings 
       → KeepsCertificate writes c file old new outcome → KeepsFindings writes findings name old new outcome
 
 -- the files of a question and of logs were read, and what is found for their texts is told
-pub record DecidesTogether {A S : Type 0} (Tells : Findings A → Type 0) (reads : Reading S) (asked : List ℕ)
-    (names : List FileName) (shelf : S) : Type 0 where
+pub record DecidesTogether {A S : Type 0} (Tells : List ℕ → List (List ℕ) → Findings A → Type 0) (reads : Reading S)
+    (asked : List ℕ) (names : List FileName) (shelf : S) : Type 0 where
   pub question : List ℕ
   pub texts : List (List ℕ)
   pub given : ReadsFiles reads (asked ∷ names_of names) shelf (question ∷ texts)
   pub findings : Findings A
   pub found : AreFindings texts question findings
-  pub told : Tells findings
+  pub told : Tells question texts findings
 
 -- the text that is printed of findings: as JSON, where that is wanted, which tells their status too; or else their
 -- lines
@@ -79,26 +76,11 @@ PrintsFound is_json out out' outcome findings =
     (text : List ℕ) × IsFindingsText is_json findings text
     × (status : Status) × IsFindingsStatus findings status × Prints text status out out' outcome
 
--- the text that is printed of findings that are explained: as JSON with what they rest on, where that is wanted; or
--- else their lines, and a page of printable text after them
-abbrev pub IsExplainedText : {A : Type 0} → Bool → Findings A → List ℕ → Type 0
-IsExplainedText {A} true findings text =
-    (status : Status) × IsFindingsStatus findings status × (explanation : Explanation A)
-    × AreLinesOf (explained_findings (status_number status) findings explanation) text
-IsExplainedText false findings text = (page : List ℕ) × IsPrintable page × (text ≡ findings_text findings ++ page)
-
--- that text was printed, with the status of the findings
-abbrev pub ExplainsFindings : {A : Type 0} → Bool → SinkState → SinkState → Outcome → Findings A → Type 0
-ExplainsFindings is_json out out' outcome findings =
-    (text : List ℕ) × IsExplainedText is_json findings text
-    × (status : Status) × IsFindingsStatus findings status × Prints text status out out' outcome
-
 -- the certificate would be written over none of the files that are named, and these were read; what is found was
 -- printed, and perhaps kept
 pub record Decides (A : Type 0) {S : Type 0} (reads : Reading S) (writes : Writing S)
     (decide : DecideRequest) (names : List FileName) (shelf shelf' : S) (out out' : SinkState)
     (outcome : Outcome) : Type 0 where
   pub kept : KeepsFiles decide.certificate (decide_names decide names)
-  pub decided : DecidesTogether {A = A} (PrintsFindings writes decide.is_json decide.certificate shelf shelf' out out'
-      outcome) reads
-      decide.question.now names shelf
+  pub decided : DecidesTogether {A = A} (λ _ _. PrintsFindings writes decide.is_json decide.certificate shelf shelf' out
+      out' outcome) reads decide.question.now names shelf

@@ -1,7 +1,7 @@
 -- What the program does that is asked to draw a ring.
-use Rattle.std.specs.Prelude.{◌≡◌, ◌⊎◌, ℕ, Bool, List, ◌++◌, None, Some, Ok, Err, codes, false, nat_eq, true, ⊤}
+use Rattle.std.specs.Prelude.{◌≡◌, ◌⊎◌, ℕ, Bool, List, ◌++◌, None, Some, Ok, Err, codes, false, map, nat_eq, true, ⊤}
 use Rattle.std.specs.Borrow.{Bor}
-use Rattle.std.specs.List.{ends_with}
+use Rattle.std.specs.List.{ends_with, zip}
 use Rattle.ira_event.specs.Log.{Log}
 use Rattle.ira_event.specs.Logs.{AreLogs}
 use Rattle.ira_event.specs.Sink.{SinkState, StopsIn, Takes}
@@ -21,7 +21,9 @@ use Rattle.ira_view_picture.specs.DrawFault.{HasTooManyEvents}
 use Rattle.ira_view_draw.specs.Drawing.{IsRefusedDrawing}
 use Rattle.ira_view_html.specs.HtmlPage.{IsHtmlPage}
 use Rattle.ira_view_json.specs.ExplainedValue.{explained_value}
-use Rattle.ira_view_json.specs.Line.{IsLineOf}
+use Rattle.ira_view_json.specs.Line.{AreLinesOf, IsLineOf}
+use Rattle.ira_view_json.specs.LogValue.{log_value}
+use Rattle.ira_view.specs.Explained.{IsExplanation, OfJudged}
 use Rattle.ira_view.specs.ShownRing.{HasTooManyAt, IsPictureOf, ShownRing}
 use Rattle.ira_main_cli.specs.declared.draw_request.DrawRequest.{DrawRequest}
 use Rattle.ira_main_files.specs.Shelf.{Reading, Writing}
@@ -61,23 +63,29 @@ IsRingTold ring told =
 abbrev pub IsRingDrawn : DrawRequest → ShownRing → List ℕ → Type 0
 IsRingDrawn draw ring text = IsDrawn draw.picture.now (IsPictureOf ring draw.from draw.to) (IsRingTold ring) text
 
--- the lines of JSON that a page tells of refused logs: that of the answer with its reason and what it rests on, and others
-abbrev pub IsRefusalTold : Type 0 → Reason → List ℕ → Type 0
-IsRefusalTold A reason told =
+-- the lines of JSON on logs, each with the name of its file: its node, and how that starts
+abbrev pub AreLogLines : List (List ℕ × Log) → List ℕ → Type 0
+AreLogLines files text = AreLinesOf (map (λ file. log_value file.0 file.1.place file.1.initiator) files) text
+
+-- the lines of JSON that a page tells of refused logs, in files of these names and with these texts: that of the answer
+-- with its reason and what it rests on, and those on the logs
+abbrev pub IsRefusalTold : Type 0 → List (List ℕ) → List (List ℕ) → List Log → Reason → List ℕ → Type 0
+IsRefusalTold A names texts logs reason told =
     (explanation : Explanation A) × (line : List ℕ) × (others : List ℕ)
+    × OfJudged A names texts (λ files judged. IsExplanation files judged explanation)
     × IsLineOf (explained_value (status_number (answer_status (No reason))) (No reason) explanation) line
-    × (told ≡ line ++ others)
+    × AreLogLines (zip names logs) others × (told ≡ line ++ others)
 
 -- the same of logs that were judged, where they are refused
-abbrev pub IsJudgedTold : {A : Type 0} → Judged A → List ℕ → Type 0
-IsJudgedTold (Good logs) told = ⊤
-IsJudgedTold {A} (Refused refused) told = IsRefusalTold A refused.reason told
-IsJudgedTold (NoRing reason) told = ⊤
+abbrev pub IsJudgedTold : {A : Type 0} → List (List ℕ) → List (List ℕ) → Judged A → List ℕ → Type 0
+IsJudgedTold names texts (Good logs) told = ⊤
+IsJudgedTold {A} names texts (Refused refused) told = IsRefusalTold A names texts refused.logs refused.reason told
+IsJudgedTold names texts (NoRing reason) told = ⊤
 
--- what is kept of logs that this reason stands against
-abbrev pub IsRefusalDrawn : Type 0 → DrawRequest → List Log → Reason → List ℕ → Type 0
-IsRefusalDrawn A draw logs reason text =
-    IsDrawn draw.picture.now (IsRefusedDrawing logs draw.from draw.to) (IsRefusalTold A reason) text
+-- what is kept of logs, in files of these names and with these texts, that this reason stands against
+abbrev pub IsRefusalDrawn : Type 0 → DrawRequest → List (List ℕ) → List (List ℕ) → List Log → Reason → List ℕ → Type 0
+IsRefusalDrawn A draw names texts logs reason text =
+    IsDrawn draw.picture.now (IsRefusedDrawing logs draw.from draw.to) (IsRefusalTold A names texts logs reason) text
 
 -- what comes of a picture on a shelf: it is written to a new file of this name, and the status is that of the answer; or
 -- a fault of that is the outcome
@@ -96,36 +104,37 @@ PrintsDrawn writes answer picture name shelf shelf' out out' outcome =
     (Takes (report_line answer) out out' × KeepsPicture writes answer picture name shelf shelf' outcome)
     ⊎ (StopsIn (report_line answer) out out' × (shelf' ≡ shelf) × (outcome ≡ Err CannotWriteAnswer))
 
--- what comes of texts and of the text of a question. They are those of good logs, and a picture is kept of the ring at
--- the moment that is asked for, after the line of a yes; or of other logs of one ring, after the line of the reason against
--- them. Where the question isn't one of this ring, or they aren't those of the logs of one, the line of the reason is printed
--- alone. Or nothing is printed or kept: the moment is none of theirs, or the events at the columns that are asked for are
--- too many for a picture
-pub data TellsDrawn (A : Type 0) {S : Type 0} (writes : Writing S) (texts : List (List ℕ)) (draw : DrawRequest) (question : List ℕ)
-    (shelf shelf' : S) (out out' : SinkState) (outcome : Outcome) : Type 0 where
+-- what comes of the texts of files of these names and of the text of a question. They are those of good logs, and a
+-- picture is kept of the ring at the moment that is asked for, after the line of a yes; or of other logs of one ring,
+-- after the line of the reason against them. Where the question isn't one of this ring, or they aren't those of the
+-- logs of one, the line of the reason is printed alone. Or nothing is printed or kept: the moment is none of theirs, or
+-- the events at the columns that are asked for are too many for a picture
+pub data TellsDrawn (A : Type 0) {S : Type 0} (writes : Writing S) (names texts : List (List ℕ)) (draw : DrawRequest)
+    (question : List ℕ) (shelf shelf' : S) (out out' : SinkState) (outcome : Outcome) : Type 0 where
   good : (logs : List Log) (ring : ShownRing) (page : List ℕ) → AreGoodLogs texts logs
       → IsAskedRing logs draw.moment question ring → IsRingDrawn draw ring page
       → PrintsDrawn writes Yes page draw.picture shelf shelf' out out' outcome
-      → TellsDrawn A writes texts draw question shelf shelf' out out' outcome
+      → TellsDrawn A writes names texts draw question shelf shelf' out out' outcome
   refused : (logs : List Log) (r : Reason) (page : List ℕ) → AreLogTexts texts logs → AreLogs logs
-      → IsLogsReason texts r → IsRefusalDrawn A draw logs r page
+      → IsLogsReason texts r → IsRefusalDrawn A draw names texts logs r page
       → PrintsDrawn writes (No r) page draw.picture shelf shelf' out out' outcome
-      → TellsDrawn A writes texts draw question shelf shelf' out out' outcome
+      → TellsDrawn A writes names texts draw question shelf shelf' out out' outcome
   no_question : (logs : List Log) (r : Reason) → AreGoodLogs texts logs → IsReasonAgainst texts draw.moment question r
       → shelf' ≡ shelf → Reports (No r) out out' outcome
-      → TellsDrawn A writes texts draw question shelf shelf' out out' outcome
+      → TellsDrawn A writes names texts draw question shelf shelf' out out' outcome
   no_ring : (r : Reason) → IsRingReason texts r → shelf' ≡ shelf → Reports (No r) out out' outcome
-      → TellsDrawn A writes texts draw question shelf shelf' out out' outcome
+      → TellsDrawn A writes names texts draw question shelf shelf' out out' outcome
   no_moment : (logs : List Log) (f : CutFault) → AreGoodLogs texts logs → IsCutFaultOf logs draw.moment f
       → shelf' ≡ shelf → out' ≡ out → outcome ≡ Err (NoMoment f)
-      → TellsDrawn A writes texts draw question shelf shelf' out out' outcome
+      → TellsDrawn A writes names texts draw question shelf shelf' out out' outcome
   too_many : (logs : List Log) (ring : ShownRing) (events : ℕ) → AreGoodLogs texts logs
       → IsAskedRing logs draw.moment question ring → HasTooManyAt ring draw.from draw.to events → shelf' ≡ shelf
       → out' ≡ out → outcome ≡ Err (TooManyEvents events)
-      → TellsDrawn A writes texts draw question shelf shelf' out out' outcome
+      → TellsDrawn A writes names texts draw question shelf shelf' out out' outcome
   too_many_refused : (logs : List Log) (r : Reason) (events : ℕ) → AreLogTexts texts logs → AreLogs logs
       → IsLogsReason texts r → HasTooManyEvents logs None draw.from draw.to events → shelf' ≡ shelf → out' ≡ out
-      → outcome ≡ Err (TooManyEvents events) → TellsDrawn A writes texts draw question shelf shelf' out out' outcome
+      → outcome ≡ Err (TooManyEvents events)
+      → TellsDrawn A writes names texts draw question shelf shelf' out out' outcome
 
 -- the names of the files to draw: that of a question first, if the moment is the first that meets one
 abbrev pub draw_names : DrawRequest → List FileName → List (List ℕ)
@@ -145,7 +154,7 @@ pub record DrawsTogether (A : Type 0) {S : Type 0} (reads : Reading S) (writes :
   pub question : List ℕ
   pub texts : List (List ℕ)
   pub given : ReadsFiles reads (draw_names draw names) shelf (moment_texts draw.moment question ++ texts)
-  pub told : TellsDrawn A writes texts draw question shelf shelf' out out' outcome
+  pub told : TellsDrawn A writes (names_of names) texts draw question shelf shelf' out out' outcome
 
 -- the logs of a source were drawn; or no answer is given, and the shelf is as it was
 abbrev pub DrawsLogs : Type 0 → {S : Type 0} → Reading S → Writing S → DrawRequest → S → S → SinkState → SinkState

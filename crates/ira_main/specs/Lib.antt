@@ -4,11 +4,13 @@ pub mod ProgramFault
 pub mod Decide
 pub mod Draw
 pub mod Each
+pub mod Explain
 pub mod FilesRead
 pub mod InputAudit
 pub mod LeftFiles
 pub mod LogFiles
 pub mod Mend
+pub mod NamedFile
 pub mod Outcome
 pub mod Overwriting
 pub mod Progress

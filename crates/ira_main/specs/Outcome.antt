@@ -44,11 +44,6 @@ ReportsText IsText answer out out' outcome =
     (text : List ℕ) × IsText (status_number (answer_status answer)) answer text
     × Prints text (answer_status answer) out out' outcome
 
--- the line of the answer was printed, and a page of printable text after it
-abbrev pub Explains : Answer → SinkState → SinkState → Outcome → Type 0
-Explains answer out out' outcome =
-    (page : List ℕ) × IsPrintable page × Prints (report_line answer ++ page) (answer_status answer) out out' outcome
-
 -- what is printed of an answer, and what comes of it
 abbrev pub Telling : Type 1
 Telling = Answer → SinkState → SinkState → Outcome → Type 0
@@ -58,13 +53,14 @@ abbrev pub ReportsAs : Bool → Telling
 ReportsAs true = ReportsText (λ status answer. IsLineOf (answer_value status answer))
 ReportsAs false = Reports
 
--- an answer is printed with its reason and what it rests on, as JSON, where that is wanted, or else as its line and a
--- page
-abbrev pub ExplainsAs : Type 0 → Bool → Telling
-ExplainsAs A true answer out out' outcome =
-    (explanation : Explanation A)
-    × ReportsText (λ status answer. IsLineOf (explained_value status answer explanation)) answer out out' outcome
-ExplainsAs A false answer out out' outcome = Explains answer out out' outcome
+-- an answer is printed with its reason and this explanation: as JSON, where that is wanted, or else as its line and the
+-- page, which is printable
+abbrev pub ExplainsAs : {A : Type 0} → Explanation A → Bool → Telling
+ExplainsAs explanation true answer out out' outcome =
+    ReportsText (λ status answer. IsLineOf (explained_value status answer explanation)) answer out out' outcome
+ExplainsAs explanation false answer out out' outcome =
+    IsPrintable explanation.page
+    × Prints (report_line answer ++ explanation.page) (answer_status answer) out out' outcome
 
 -- nothing was printed, and the outcome is a fault of this kind
 abbrev pub GivesNoAnswer : (ProgramFault → Type 0) → SinkState → SinkState → Outcome → Type 0

@@ -18,6 +18,7 @@ use Rattle.ira_ring.specs.Run.{Run}
 use Rattle.ira_ring_setup.specs.declared.run_fault.RunFault.{RunFault}
 use Rattle.ira_main_cli.specs.Request.{IsCheckLine, IsDecideLine, IsDrawLine, IsEachLine, IsExplainLine, IsLogsLine, IsMendLine}
 use Rattle.ira_main_cli.specs.Request.{IsPairsLine, IsRunLine, IsShowLine, IsUpgradeLine, IsVersionLine, MayBeRefused}
+use Rattle.ira_main_cli.specs.declared.case_selection.CaseSelection.{CaseSelection}
 use Rattle.ira_main_cli.specs.declared.check_request.CheckRequest.{CheckRequest}
 use Rattle.ira_main_cli.specs.declared.decide_request.DecideRequest.{DecideRequest}
 use Rattle.ira_main_cli.specs.declared.draw_request.DrawRequest.{DrawRequest}
@@ -38,13 +39,14 @@ use Rattle.ira_main_files.specs.ReadText.{IsReadTo}
 use Rattle.ira_main_files.specs.Shelf.{Reading, Writing}
 use Rattle.ira_main_files.specs.declared.file_name.FileName.{FileName}
 use Rattle.ira_main.specs.AskedRun.{IsAskedRun, IsAskedRunFault}
-use Rattle.ira_main.specs.Decide.{Decides, DecidesTogether, ExplainsFindings, IsUndecided}
+use Rattle.ira_main.specs.Decide.{Decides, DecidesTogether, IsUndecided}
 use Rattle.ira_main.specs.Draw.{DrawsLogs}
 use Rattle.ira_main.specs.Each.{JudgesEach}
+use Rattle.ira_main.specs.Explain.{ExplainsCheck, ExplainsFindings, ExplainsLog, ExplainsLogs}
 use Rattle.ira_main.specs.FilesRead.{IsFilesFault, ReadsFiles, names_of}
 use Rattle.ira_main.specs.LogFiles.{StopsInLogs, WritesLogs}
 use Rattle.ira_main.specs.Mend.{MendsLogs}
-use Rattle.ira_main.specs.Outcome.{ExplainsAs, GivesNoAnswer, Outcome, Prints, Reports, ReportsAs, Telling}
+use Rattle.ira_main.specs.Outcome.{GivesNoAnswer, Outcome, Prints, Reports, ReportsAs, Telling}
 use Rattle.ira_main.specs.ProgramFault.{run_fault, words_fault}
 use Rattle.ira_main.specs.Show.{ShowsLogs}
 use Rattle.ira_main.specs.SourceNames.{OfSource}
@@ -59,26 +61,28 @@ use Rattle.ira_main.specs.declared.status.Status.TheVariants.{Yes}
 
 -- the text that the input had left was judged, and its answer told; or a read failed, or there was no memory, and
 -- nothing was written
-pub data OneLogOutcome (Tells : Telling) (old new : Reads) (out out' : SinkState) (outcome : Outcome) : Type 0 where
+pub data OneLogOutcome (Tells : List ℕ → Telling) (old new : Reads) (out out' : SinkState) (outcome : Outcome)
+    : Type 0 where
   judged : (text : List ℕ) (answer : Answer) → IsReadTo (MAX_TEXT + 1) old new text → IsLogTextAnswer text answer
-      → Tells answer out out' outcome → OneLogOutcome Tells old new out out' outcome
+      → Tells text answer out out' outcome → OneLogOutcome Tells old new out out' outcome
   unread : (name : FileName) → file_name name ≡ codes "-" → new.has_failed ≡ true → new.is_over ≡ true
       → out' ≡ out → outcome ≡ Err (CannotRead name) → OneLogOutcome Tells old new out out' outcome
   no_memory : out' ≡ out → outcome ≡ Err OutOfMemory → OneLogOutcome Tells old new out out' outcome
 
 -- the files of these names were read, their texts were judged together, and their answer told; after a yes they are the
 -- texts of runs
-pub record LogsOutcome (Tells : Telling) {S : Type 0} (reads : Reading S) (names : List (List ℕ)) (shelf : S)
-    (out out' : SinkState) (outcome : Outcome) : Type 0 where
+pub record LogsOutcome (Tells : List (List ℕ) → List (List ℕ) → Telling) {S : Type 0} (reads : Reading S)
+    (names : List (List ℕ)) (shelf : S) (out out' : SinkState) (outcome : Outcome) : Type 0 where
   pub texts : List (List ℕ)
   pub given : ReadsFiles reads names shelf texts
   pub answer : Answer
   pub judged : IsRingAnswer texts answer
   pub runs : answer ≡ audit.Yes → AreTextsOfRuns texts
-  pub told : Tells answer out out' outcome
+  pub told : Tells names texts answer out out' outcome
 
 -- the logs of a source were judged together, and their answer told; or no answer is given
-abbrev pub JudgesLogs : Telling → {S : Type 0} → Reading S → LogSource → S → SinkState → SinkState → Outcome → Type 0
+abbrev pub JudgesLogs : (List (List ℕ) → List (List ℕ) → Telling) → {S : Type 0} → Reading S → LogSource → S → SinkState
+    → SinkState → Outcome → Type 0
 JudgesLogs Tells reads source shelf out out' outcome =
     OfSource reads source shelf shelf out out' outcome (λ names.
     LogsOutcome Tells reads (names_of names) shelf out out' outcome
@@ -90,8 +94,9 @@ check_names asked certified names = asked ∷ certified ∷ names_of names
 
 -- the files of a question, a certificate and logs were read, the texts of the logs were judged together with the text
 -- of the question and the text of the certificate, and their answer told; after a yes no case of the question is met
-pub record CheckOutcome (Tells : Telling) {S : Type 0} (reads : Reading S) (asked certified : List ℕ)
-    (names : List FileName) (shelf : S) (out out' : SinkState) (outcome : Outcome) : Type 0 where
+pub record CheckOutcome (Tells : List (List ℕ) → List ℕ → List (List ℕ) → Telling) {S : Type 0} (reads : Reading S)
+    (asked certified : List ℕ) (names : List FileName) (shelf : S) (out out' : SinkState) (outcome : Outcome)
+    : Type 0 where
   pub question : List ℕ
   pub certificate : List ℕ
   pub texts : List (List ℕ)
@@ -99,11 +104,11 @@ pub record CheckOutcome (Tells : Telling) {S : Type 0} (reads : Reading S) (aske
   pub answer : Answer
   pub judged : IsCheckAnswer texts question certificate answer
   pub never : answer ≡ audit.Yes → NoCaseIsMet texts question certificate
-  pub told : Tells answer out out' outcome
+  pub told : Tells (names_of names) question texts answer out out' outcome
 
 -- the logs of a source were judged with a question and a certificate, and their answer told; or no answer is given
-abbrev pub JudgesCheck : Telling → {S : Type 0} → Reading S → List ℕ → List ℕ → LogSource → S → SinkState → SinkState
-    → Outcome → Type 0
+abbrev pub JudgesCheck : (List (List ℕ) → List ℕ → List (List ℕ) → Telling) → {S : Type 0} → Reading S → List ℕ → List ℕ
+    → LogSource → S → SinkState → SinkState → Outcome → Type 0
 JudgesCheck Tells reads asked certified source shelf out out' outcome =
     OfSource reads source shelf shelf out out' outcome (λ names.
     CheckOutcome Tells reads asked certified names shelf out out' outcome
@@ -118,23 +123,24 @@ DecidesLogs A reads writes decide shelf shelf' out out' outcome =
     ⊎ ((shelf' ≡ shelf) × GivesNoAnswer (IsUndecided reads decide names shelf) out out' outcome))
 
 -- a question is decided of the logs of a source, and why what is found is so is told; or no answer is given
-abbrev pub ExplainsQuestion : Type 0 → Bool → {S : Type 0} → Reading S → List ℕ → LogSource → S → SinkState → SinkState
-    → Outcome → Type 0
+abbrev pub ExplainsQuestion : Type 0 → Bool → {S : Type 0} → Reading S → CaseSelection → LogSource → S → SinkState
+    → SinkState → Outcome → Type 0
 ExplainsQuestion A is_json reads asked source shelf out out' outcome =
     OfSource reads source shelf shelf out out' outcome (λ names.
-    DecidesTogether {A = A} (ExplainsFindings is_json out out' outcome) reads asked names shelf
-    ⊎ GivesNoAnswer (IsFilesFault reads (asked ∷ names_of names) shelf) out out' outcome)
+    DecidesTogether (ExplainsFindings A is_json asked (names_of names) out out' outcome) reads asked.question.now names
+    shelf
+    ⊎ GivesNoAnswer (IsFilesFault reads (asked.question.now ∷ names_of names) shelf) out out' outcome)
 
 -- the answer that is asked for was explained; that of one log is none of these, since it comes of the input
 abbrev pub ExplainsAnswer : Type 0 → Bool → {S : Type 0} → Reading S → ExplainedAnswer → S → SinkState → SinkState
     → Outcome → Type 0
 ExplainsAnswer A is_json reads OneLog shelf out out' outcome = ⊥
 ExplainsAnswer A is_json reads (Logs source) shelf out out' outcome =
-    JudgesLogs (ExplainsAs A is_json) reads source shelf out out' outcome
+    JudgesLogs (ExplainsLogs A is_json) reads source shelf out out' outcome
 ExplainsAnswer A is_json reads (Findings asked source) shelf out out' outcome =
-    ExplainsQuestion A is_json reads asked.question.now source shelf out out' outcome
+    ExplainsQuestion A is_json reads asked source shelf out out' outcome
 ExplainsAnswer A is_json reads (Certificate question certificate source) shelf out out' outcome =
-    JudgesCheck (ExplainsAs A is_json) reads question.now certificate.now source shelf out out' outcome
+    JudgesCheck (ExplainsCheck A is_json question.now) reads question.now certificate.now source shelf out out' outcome
 
 -- the question whether two nodes of a ring of so many ever lead at once was printed
 pub record AsksPairs (nodes : ℕ) (out out' : SinkState) (outcome : Outcome) : Type 0 where
@@ -187,7 +193,7 @@ pub data CommandOutcome (A : Type 0) {S : Type 0} (reads : Reading S) (writes : 
       → outcome ≡ Err (words_fault fault)
       → CommandOutcome A reads writes words shelf shelf' out out' outcome
   judged : (logs : LogsRequest) → IsLogsLine words logs → shelf' ≡ shelf
-      → JudgesLogs (ReportsAs logs.is_json) reads logs.logs shelf out out' outcome
+      → JudgesLogs (λ _ _. ReportsAs logs.is_json) reads logs.logs shelf out out' outcome
       → CommandOutcome A reads writes words shelf shelf' out out' outcome
   each : (asked : EachRequest) → IsEachLine words asked → shelf' ≡ shelf → JudgesEach reads asked shelf out out' outcome
       → CommandOutcome A reads writes words shelf shelf' out out' outcome
@@ -199,7 +205,7 @@ pub data CommandOutcome (A : Type 0) {S : Type 0} (reads : Reading S) (writes : 
   drawn : (draw : DrawRequest) → IsDrawLine words draw → DrawsLogs A reads writes draw shelf shelf' out out' outcome
       → CommandOutcome A reads writes words shelf shelf' out out' outcome
   certified : (check : CheckRequest) → IsCheckLine words check → shelf' ≡ shelf
-      → JudgesCheck (ReportsAs check.is_json) reads check.question.now check.certificate.now check.logs shelf
+      → JudgesCheck (λ _ _ _. ReportsAs check.is_json) reads check.question.now check.certificate.now check.logs shelf
       out out' outcome
       → CommandOutcome A reads writes words shelf shelf' out out' outcome
   decided : (decide : DecideRequest) → IsDecideLine words decide
@@ -226,10 +232,10 @@ pub data CommandOutcome (A : Type 0) {S : Type 0} (reads : Reading S) (writes : 
 pub data Serves (A : Type 0) {S : Type 0} (reads : Reading S) (writes : Writing S)
     (words : List (List ℕ)) (input input' : Reads) (shelf shelf' : S)
     (out out' : SinkState) (outcome : Outcome) : Type 0 where
-  without_words : words ≡ [] → shelf' ≡ shelf → OneLogOutcome Reports input input' out out' outcome
+  without_words : words ≡ [] → shelf' ≡ shelf → OneLogOutcome (λ _. Reports) input input' out out' outcome
       → Serves A reads writes words input input' shelf shelf' out out' outcome
   explained : (explain : ExplainRequest) → IsExplainLine words explain → explain.answer ≡ OneLog → shelf' ≡ shelf
-      → OneLogOutcome (ExplainsAs A explain.is_json) input input' out out' outcome
+      → OneLogOutcome (ExplainsLog A explain.is_json) input input' out out' outcome
       → Serves A reads writes words input input' shelf shelf' out out' outcome
   with_words : words ≢ [] → input' ≡ input → CommandOutcome A reads writes words shelf shelf' out out' outcome
       → Serves A reads writes words input input' shelf shelf' out out' outcome

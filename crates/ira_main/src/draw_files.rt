@@ -108,8 +108,8 @@ fn draw_good<'a, A: Allocator + Clone, F: Shelf, W: Sink>(
 ) -> Result<Status, ProgramFault<'a>>
     requires { length names.now ≡ length logs }
     ensures { (texts : List (List ℕ)) → AreGoodLogs texts logs
-        → TellsDrawn A (WritesFile F.creates F.closes F.Out.state) texts draw.now question.now shelf.old shelf.new
-        (W.state out.old) (W.state out.new) result
+        → TellsDrawn A (WritesFile F.creates F.closes F.Out.state) (names_of names.now) texts draw.now question.now
+        shelf.old shelf.new (W.state out.old) (W.state out.new) result
         ⊎ ((shelf.new ≡ shelf.old) × (W.state out.new ≡ W.state out.old) × (result ≡ Err OutOfMemory)) }
 {
     match ring_at(alloc.clone()?, logs, &draw.moment, question) {
@@ -135,11 +135,12 @@ fn draw_judged<'a, A: Allocator + Clone, F: Shelf, W: Sink>(
     shelf: &mut F,
     out: &mut W,
 ) -> Result<Status, ProgramFault<'a>>
-    requires judged { (texts : List (List ℕ)) × IsJudged texts read.judged × (length names.now ≡ length texts) }
-    requires told { names_page draw.now.picture.now ≡ true → IsJudgedTold read.judged (string_bytes read.told) }
+    requires { (texts : List (List ℕ)) × IsJudged texts read.judged × (length names.now ≡ length texts) }
     ensures { (texts : List (List ℕ)) → IsJudged texts read.judged
-        → TellsDrawn A (WritesFile F.creates F.closes F.Out.state) texts draw.now question.now shelf.old shelf.new
-        (W.state out.old) (W.state out.new) result
+        → (names_page draw.now.picture.now ≡ true
+        → IsJudgedTold (names_of names.now) texts read.judged (string_bytes read.told))
+        → TellsDrawn A (WritesFile F.creates F.closes F.Out.state) (names_of names.now) texts draw.now question.now
+        shelf.old shelf.new (W.state out.old) (W.state out.new) result
         ⊎ ((shelf.new ≡ shelf.old) × (W.state out.new ≡ W.state out.old) × (result ≡ Err OutOfMemory)) }
 {
     let ToDraw { judged, told } = read;

@@ -125,8 +125,10 @@ pub(crate) fn refused_text<A: Allocator + Clone>(
     told: &[u8],
     draw: &DrawRequest<'_>,
 ) -> Result<PageText<A>, DrawFault>
-    requires { names_page draw.now.picture.now ≡ true → IsRefusalTold A refused.now.reason told.now }
-    ensures drawn { IfOk result (IsRefusalDrawn A draw.now refused.now.logs refused.now.reason) }
+    ensures drawn { (names texts : List (List ℕ))
+        → (names_page draw.now.picture.now ≡ true
+        → IsRefusalTold A names texts refused.now.logs refused.now.reason told.now)
+        → IfOk result (IsRefusalDrawn A draw.now names texts refused.now.logs refused.now.reason) }
     ensures events { (events : ℕ) → result ≡ Err (DrawFault.TooManyEvents events)
         → HasTooManyEvents refused.now.logs None draw.now.from draw.now.to events }
 {

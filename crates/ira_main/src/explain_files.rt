@@ -1,5 +1,5 @@
 ghost use Rattle.std.specs.Prelude.{◌≤◌, ◌+◌};
-ghost use Rattle.ira_main.specs.Outcome.{ExplainsAs};
+ghost use Rattle.ira_main.specs.Explain.{ExplainsLog, ExplainsLogs};
 ghost use Rattle.ira_main.specs.Serve.{OneLogOutcome, JudgesLogs};
 
 use crate::named_file::{named_texts, read_named};
@@ -31,7 +31,8 @@ where
     A: Allocator + Clone + Sync,
     F: TextSource,
     W: Sink,
-    ensures { JudgesLogs (ExplainsAs A is_json) F.reads source.now shelf.now (W.state out.old) (W.state out.new) result }
+    ensures { JudgesLogs (ExplainsLogs A is_json) F.reads source.now shelf.now
+        (W.state out.old) (W.state out.new) result }
 {
     let names = source_names(&alloc, source, shelf)?;
     let files = read_named(&alloc, &names, shelf)?;
@@ -49,7 +50,8 @@ pub(crate) fn explain_input<'a, A: Allocator + Clone, I: Read, W: Sink>(
     input: &mut CountingReader<I>,
     out: &mut W,
 ) -> Result<Status, ProgramFault<'a>>
-    ensures judged { OneLogOutcome (ExplainsAs A is_json) input.old input.new (W.state out.old) (W.state out.new) result }
+    ensures judged { OneLogOutcome (ExplainsLog A is_json) input.old input.new
+        (W.state out.old) (W.state out.new) result }
     ensures reads { input.new.reads ≤ input.old.reads + (MAX_TEXT + 1) }
 {
     let mut text = TextBuffer::new(alloc.clone()?);

@@ -1,4 +1,4 @@
-ghost use Rattle.ira_main.specs.Outcome.{ExplainsAs};
+ghost use Rattle.ira_main.specs.Explain.{ExplainsCheck};
 ghost use Rattle.ira_main.specs.Serve.{ExplainsQuestion, JudgesCheck};
 
 use crate::named_file::{NamedFile, named_texts, read_named};
@@ -30,7 +30,7 @@ where
     A: Allocator + Clone + Sync,
     F: TextSource,
     W: Sink,
-    ensures { ExplainsQuestion A is_json F.reads asked.entry.question.now source.now shelf.now
+    ensures { ExplainsQuestion A is_json F.reads asked.entry source.now shelf.now
         (W.state out.old) (W.state out.new) result }
 {
     let names = source_names(&alloc, source, shelf)?;
@@ -63,8 +63,8 @@ where
     A: Allocator + Clone + Send + Sync,
     F: TextSource,
     W: Sink,
-    ensures { JudgesCheck (ExplainsAs A is_json) F.reads question.now certificate.now source.now shelf.now (W.state out.old)
-        (W.state out.new) result }
+    ensures { JudgesCheck (ExplainsCheck A is_json question.now) F.reads question.now certificate.now source.now
+        shelf.now (W.state out.old) (W.state out.new) result }
 {
     let names = source_names(&alloc, source, shelf)?;
     let question = NamedFile::read(&alloc, FileName::Given(question), shelf)?;

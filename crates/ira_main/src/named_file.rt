@@ -1,29 +1,21 @@
-ghost use Rattle.std.specs.Prelude.{◌≡◌, ◌∷◌, [], IfErr, IfOk, MatchResult, Ok};
+ghost use Rattle.std.specs.Prelude.{◌≡◌, ◌∷◌, [], IfErr, IfOk, MatchResult, Ok, string_bytes};
 ghost use Rattle.ira_main_files.specs.FileName.{file_name};
-ghost use Rattle.ira_main.specs.FilesRead.{IsFilesFault, ReadsFiles, names_of};
-ghost use Rattle.ira_view.specs.Texts.{texts_of};
+ghost use Rattle.ira_view.specs.Texts.{AreFiles};
+ghost use Rattle.ira_main.specs.FilesRead.{IsFilesFault, names_of};
+ghost use Rattle.ira_main.specs.NamedFile.{AreRead, names_in, texts_in};
 
 use crate::program_fault::ProgramFault;
 use crate::read_files::read_into;
 use ira_main_files::{FileName, TextBuffer, TextSource};
 use ira_view_page::NamedText;
 use std::alloc::{AllocError, Allocator};
-use std::marker::Model;
 
-/// A file that was read: its name, and its text. Contracts see it as the text.
+/// A file that was read.
 #[derive(Drop)]
 pub(crate) struct NamedFile<A: Allocator> {
     name: String<A>,
-    /// At its own size.
+    /// Its text, at its own size.
     text: Vec<u8, A>,
-}
-
-impl<A: Allocator> Model for NamedFile<A> {
-    ghost use Rattle.std.specs.Prelude.{ℕ, List};
-
-    ghost Value = { List ℕ };
-
-    ghost view = { λ f. f.text.items };
 }
 
 impl<A: Allocator> NamedFile<A> {
@@ -35,7 +27,8 @@ impl<A: Allocator> NamedFile<A> {
     ) -> Result<NamedFile<A>, ProgramFault<'a>>
     where
         A: Clone,
-        ensures read { IfOk result (λ file. F.reads shelf.now (file_name name.entry) (Ok file)) }
+        ensures named { IfOk result (λ file. string_bytes file.name ≡ file_name name.entry) }
+        ensures read { IfOk result (λ file. F.reads shelf.now (file_name name.entry) (Ok file.text.items)) }
         ensures fault { IfErr result (IsFilesFault F.reads (file_name name.entry ∷ []) shelf.now) }
     {
         let mut buffer = TextBuffer::new(alloc.clone()?);
@@ -51,7 +44,8 @@ impl<A: Allocator> NamedFile<A> {
     ) -> Result<NamedFile<A>, ProgramFault<'a>>
     where
         A: Clone,
-        ensures read { IfOk result (λ file. F.reads shelf.now (file_name name.entry) (Ok file)) }
+        ensures named { IfOk result (λ file. string_bytes file.name ≡ file_name name.entry) }
+        ensures read { IfOk result (λ file. F.reads shelf.now (file_name name.entry) (Ok file.text.items)) }
         ensures fault { IfErr result (IsFilesFault F.reads (file_name name.entry ∷ []) shelf.now) }
     {
         read_into(alloc, name, buffer, shelf)?;
@@ -63,7 +57,8 @@ impl<A: Allocator> NamedFile<A> {
 
     /// Its text with its name.
     pub(crate) fn named(&self) -> NamedText<'_>
-        ensures { result.text.now ≡ self.now }
+        ensures name { result.name.now ≡ string_bytes self.now.name }
+        ensures text { result.text.now ≡ self.now.text.items }
     {
         NamedText {
             name: self.name.as_str(),
@@ -79,7 +74,7 @@ pub(crate) fn read_named<'a, A: Allocator + Clone, F: TextSource>(
     shelf: &F,
 ) -> Result<Vec<NamedFile<A>, A>, ProgramFault<'a>>
     ensures { MatchResult result
-        (λ files. ReadsFiles F.reads (names_of names.now) shelf.now files.items)
+        (λ files. AreRead F.reads (names_of names.now) shelf.now files.items)
         (IsFilesFault F.reads (names_of names.now) shelf.now) }
 {
     let mut buffer = TextBuffer::new(alloc.clone()?);
@@ -95,7 +90,7 @@ pub(crate) fn named_texts<'t, A: Allocator>(
     alloc: A,
     files: &'t [NamedFile<A>],
 ) -> Result<Vec<NamedText<'t>, A>, AllocError>
-    ensures { IfOk result (λ named. texts_of named.items ≡ files.now) }
+    ensures { IfOk result (λ named. AreFiles (names_in files.now) (texts_in files.now) named.items) }
 {
     let mut named = Vec::with_capacity(alloc, files.len())?;
     for file in files {

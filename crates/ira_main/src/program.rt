@@ -43,7 +43,7 @@ fn judge_input<'a, A: Allocator, I: Read, W: Sink>(
     input: &mut CountingReader<I>,
     out: &mut W,
 ) -> Result<Status, ProgramFault<'a>>
-    ensures judged { OneLogOutcome Reports input.old input.new (W.state out.old) (W.state out.new) result }
+    ensures judged { OneLogOutcome (λ _. Reports) input.old input.new (W.state out.old) (W.state out.new) result }
     ensures reads { input.new.reads ≤ input.old.reads + (MAX_TEXT + 1) }
 {
     match audit_input(alloc, input) {
@@ -65,7 +65,7 @@ where
     A: Allocator + Clone + Send + Sync,
     F: Shelf + Sync,
     W: Sink,
-    ensures { JudgesLogs (ReportsAs asked.now.is_json) F.reads asked.now.logs shelf.now
+    ensures { JudgesLogs (λ _ _. ReportsAs asked.now.is_json) F.reads asked.now.logs shelf.now
         (W.state out.old) (W.state out.new) result }
 {
     let names = source_names(&alloc, &asked.logs, shelf)?;
@@ -89,8 +89,8 @@ where
     F: Shelf + Sync,
     W: Sink,
     requires depth { check.now.depth ≤ 4 }
-    ensures { JudgesCheck (ReportsAs check.now.is_json) F.reads check.now.question.now check.now.certificate.now
-        check.now.logs shelf.now (W.state out.old) (W.state out.new) result }
+    ensures { JudgesCheck (λ _ _ _. ReportsAs check.now.is_json) F.reads check.now.question.now
+        check.now.certificate.now check.now.logs shelf.now (W.state out.old) (W.state out.new) result }
 {
     let names = source_names(&alloc, &check.logs, shelf)?;
     let question = read_file(&alloc, FileName::Given(check.question), shelf)?;

@@ -1,7 +1,8 @@
-ghost use Rattle.std.specs.Prelude.{◌≡◌, ◌++◌, ℕ, IfOk, List, MatchResult, OnOk, string_bytes, true};
+ghost use Rattle.std.specs.Prelude.{◌≡◌, ◌++◌, ℕ, IfOk, List, MatchResult, OnOk, length, map, string_bytes, true};
+ghost use Rattle.std.specs.List.{zip};
 ghost use Rattle.ira_audit.specs.Judged.{IsJudged};
-ghost use Rattle.ira_view.specs.Texts.{texts_of};
-ghost use Rattle.ira_main.specs.Draw.{IsJudgedTold, names_page};
+ghost use Rattle.ira_view.specs.Texts.{AreFiles, texts_of};
+ghost use Rattle.ira_main.specs.Draw.{AreLogLines, IsJudgedTold, names_page};
 ghost use Rattle.ira_main.specs.FilesRead.{IsFilesFault, ReadsFiles, names_of};
 
 use crate::drawn_text::is_page;
@@ -27,19 +28,20 @@ pub(crate) struct ToDraw<A: Allocator> {
     pub(crate) told: String<Global>,
 }
 
-/// Adds the lines of refused logs, in the files of these names.
+/// Adds the lines of logs, in the files of these names.
 fn add_logs<A: Allocator>(
     text: Global,
     told: &mut String<Global>,
     logs: &Logs<A>,
     texts: &[NamedText<'_>],
 ) -> Result<(), OutOfMemory>
-    ensures { OnOk result ((added : List ℕ) × (string_bytes told.new ≡ string_bytes told.old ++ added)) }
+    requires { length texts.now ≡ length logs.now }
+    ensures { OnOk result ((added : List ℕ) × AreLogLines (zip (map (λ file. file.name.now) texts.now) logs.now) added
+        × (string_bytes told.new ≡ string_bytes told.old ++ added)) }
 {
     for place in 0..logs.size().get() {
-        if let Some(file) = texts.get(usize::from(place)) {
-            told.push_str(log_line(text, logs.log(place), file.name)?.as_str())?;
-        }
+        let file = texts[usize::from(place)].name;
+        told.push_str(log_line(text, logs.log(place), file)?.as_str())?;
     }
     Ok(())
 }
@@ -52,7 +54,8 @@ fn told_refused<A: Allocator + Clone>(
     judged: &Judged<A>,
 ) -> Result<String<Global>, OutOfMemory>
     requires { IsJudged (texts_of texts.now) judged.now }
-    ensures { IfOk result (λ told. IsJudgedTold judged.now (string_bytes told)) }
+    ensures { (names : List (List ℕ)) → AreFiles names (texts_of texts.now) texts.now
+        → IfOk result (λ told. IsJudgedTold names (texts_of texts.now) judged.now (string_bytes told)) }
 {
     let Judged::Refused(refused) = judged else {
         return Ok(String::new(text));
@@ -79,9 +82,10 @@ where
     A: Allocator + Clone + Send + Sync,
     F: TextSource + Sync,
     ensures { MatchResult result
-        (λ read. ((texts : List (List ℕ)) × ReadsFiles F.reads (names_of names.now) shelf.now texts
-        × IsJudged texts read.judged)
-        × (names_page draw.now.picture.now ≡ true → IsJudgedTold read.judged (string_bytes read.told)))
+        (λ read. (texts : List (List ℕ)) × ReadsFiles F.reads (names_of names.now) shelf.now texts
+        × IsJudged texts read.judged
+        × (names_page draw.now.picture.now ≡ true
+        → IsJudgedTold (names_of names.now) texts read.judged (string_bytes read.told)))
         (IsFilesFault F.reads (names_of names.now) shelf.now) }
 {
     if is_page(draw.picture) {

@@ -1,8 +1,8 @@
 ghost use Rattle.std.specs.Prelude.{◌≡◌, ◌⊎◌, Err, false};
 ghost use Rattle.ira_audit.specs.Findings.{AreReportable};
 ghost use Rattle.ira_audit.specs.Report.{IsReportable};
-ghost use Rattle.ira_main.specs.Decide.{ExplainsFindings};
-ghost use Rattle.ira_main.specs.Outcome.{Explains, ExplainsAs};
+ghost use Rattle.ira_main.specs.Explain.{PrintsExplained};
+ghost use Rattle.ira_main.specs.Outcome.{ExplainsAs};
 ghost use Rattle.ira_main.specs.declared.program_fault.ProgramFault.TheVariants.{OutOfMemory};
 
 use crate::program_fault::ProgramFault;
@@ -19,7 +19,7 @@ fn print_page<'a, A: Allocator, W: Sink>(
     out: &mut W,
 ) -> Result<Status, ProgramFault<'a>>
     requires { IsReportable view.now.answer }
-    ensures { Explains view.now.answer (W.state out.old) (W.state out.new) result }
+    ensures { ExplainsAs view.now.explanation false view.now.answer (W.state out.old) (W.state out.new) result }
 {
     match write_view(&view.answer, view.explanation.page.bytes(), out) {
         Ok(()) => Ok(Status::of_answer(&view.answer)),
@@ -36,7 +36,7 @@ pub(crate) fn print_view<'a, A: Allocator, W: Sink>(
     out: &mut W,
 ) -> Result<Status, ProgramFault<'a>>
     requires { IsReportable view.now.answer }
-    ensures { ExplainsAs A is_json view.now.answer (W.state out.old) (W.state out.new) result
+    ensures { ExplainsAs view.now.explanation is_json view.now.answer (W.state out.old) (W.state out.new) result
         ⊎ ((W.state out.new ≡ W.state out.old) × (result ≡ Err OutOfMemory)) }
 {
     if is_json {
@@ -55,7 +55,7 @@ fn print_findings_page<'a, A: Allocator + Clone, W: Sink>(
     out: &mut W,
 ) -> Result<Status, ProgramFault<'a>>
     requires { AreReportable view.now.findings }
-    ensures { ExplainsFindings false (W.state out.old) (W.state out.new) result view.now.findings
+    ensures { PrintsExplained false view.now.explanation (W.state out.old) (W.state out.new) result view.now.findings
         ⊎ ((W.state out.new ≡ W.state out.old) × (result ≡ Err OutOfMemory)) }
 {
     let mut text = MemorySink::new(alloc);
@@ -74,7 +74,7 @@ pub(crate) fn print_findings_view<'a, A: Allocator + Clone, W: Sink>(
     out: &mut W,
 ) -> Result<Status, ProgramFault<'a>>
     requires { AreReportable view.now.findings }
-    ensures { ExplainsFindings is_json (W.state out.old) (W.state out.new) result view.now.findings
+    ensures { PrintsExplained is_json view.now.explanation (W.state out.old) (W.state out.new) result view.now.findings
         ⊎ ((W.state out.new ≡ W.state out.old) × (result ≡ Err OutOfMemory)) }
 {
     if is_json {

@@ -1,5 +1,5 @@
 -- What is found for a question that is asked of the ring of logs.
-use Rattle.std.proofs.Common.{◌≡◌, ℕ, List, Err, IfOk, Ok, Result, subst}
+use Rattle.std.proofs.Common.{◌≡◌, ℕ, List, Err, IfOk, Ok, Option, Result, Some, subst}
 use Rattle.ira_audit.proofs.NeverMet.{no_case}
 use Rattle.ira_audit.specs.AskedQuestion.{AreFoundOf, AskedQuestion}
 use Rattle.ira_audit.specs.CheckAnswer.{IsCheckAnswer}
@@ -10,6 +10,15 @@ use Rattle.ira_audit.specs.declared.answer.Answer.{Answer}
 use Rattle.ira_audit.specs.declared.answer.Answer.TheVariants.{Yes}
 use Rattle.ira_audit.specs.declared.findings.Findings.{Findings}
 use Rattle.ira_audit.specs.declared.findings.Findings.TheVariants.{Refused, Cases}
+use Rattle.ira_audit.specs.declared.judged.Judged.{Judged}
+use Rattle.ira_view_explain.specs.Counts.{counts}
+use Rattle.ira_view_explain_question.specs.Explanation.{AreFindingsExplained}
+use Rattle.ira_view_explain_question.specs.declared.asked_files.AskedFiles.{AskedFiles}
+use Rattle.ira_view.specs.Explained.{IsAsked, IsCheckExplanation, IsFindingsExplanation}
+use Rattle.ira_view.specs.Explained.IsCheckExplanation.{of_asked as of_check}
+use Rattle.ira_view.specs.Explained.IsFindingsExplanation.{of_asked as of_findings}
+use Rattle.ira_view.specs.declared.findings_view.FindingsView.{FindingsView}
+use Rattle.ira_view.specs.declared.view.View.{View}
 
 pub found_of_asked : {A : Type 0} (texts : List (List ℕ)) (question : List ℕ) (asked : AskedQuestion)
     (findings : Findings A) → QuestionFitsLogs texts question asked.logs asked.question → AreFoundOf asked findings
@@ -24,3 +33,19 @@ pub never_met : {V E : Type 0} (answer : V → Answer) (texts : List (List ℕ))
 never_met answer texts question certificate (Ok v) h = λ e.
     no_case texts question certificate (subst (λ (a : Answer). IsCheckAnswer texts question certificate a) e h)
 never_met answer texts question certificate (Err f) h = tt
+
+-- what is found for a question that is asked is explained
+pub findings_explained : {A E : Type 0} (files : AskedFiles) (judged : Judged A) (case : Option ℕ)
+    (asked : AskedQuestion) (r : Result (FindingsView A) E) → IsAsked files asked
+    → IfOk r (λ view. AreFindingsExplained files.logs.now asked view.findings case view.explanation)
+    → IfOk r (λ view. IsFindingsExplanation files judged case view.findings view.explanation)
+findings_explained files judged case asked (Ok view) fits explained = of_findings asked fits explained
+findings_explained files judged case asked (Err f) fits explained = tt
+
+-- so is the answer to one with a certificate
+pub check_explained : {A E : Type 0} (files : AskedFiles) (judged : Judged A) (asked : AskedQuestion)
+    (r : Result (View A) E) → IsAsked files asked
+    → IfOk r (λ view. view.explanation.ring ≡ Some (counts asked.logs))
+    → IfOk r (λ view. IsCheckExplanation files judged view.explanation)
+check_explained files judged asked (Ok view) fits ring = of_check asked fits ring
+check_explained files judged asked (Err f) fits ring = tt

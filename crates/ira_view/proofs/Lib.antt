@@ -1,3 +1,4 @@
 pub mod Asked
 pub mod Moments
+pub mod Pairs
 pub mod Texts

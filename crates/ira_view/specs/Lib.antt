@@ -1,6 +1,7 @@
 pub mod CutFaultLine
 pub mod Differences
 pub mod DrawFaultLine
+pub mod Explained
 pub mod FirstCut
 pub mod MendedLines
 pub mod RunFaultLine

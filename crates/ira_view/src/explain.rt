@@ -1,11 +1,9 @@
-ghost use Rattle.std.specs.Prelude.{◌≡◌, IfOk};
+ghost use Rattle.std.specs.Prelude.{IfOk};
 ghost use Rattle.ira_audit.specs.Judged.{IsJudged};
 ghost use Rattle.ira_audit.specs.LogTextAnswer.{IsLogTextAnswer};
 ghost use Rattle.ira_audit.specs.RingAnswer.{IsRingAnswer};
 ghost use Rattle.ira_audit.specs.Report.{IsReportable};
-ghost use Rattle.ira_view_explain.specs.Counts.{ring_of};
-ghost use Rattle.ira_view_explain.specs.LogTold.{IsLogTold};
-ghost use Rattle.ira_view_explain.specs.Refused.{IsTold};
+ghost use Rattle.ira_view.specs.Explained.{IsExplanation, IsLogExplanation};
 ghost use Rattle.ira_view.specs.Texts.{texts_of};
 
 use crate::view::View;
@@ -24,9 +22,7 @@ pub fn explain_texts<A: Allocator + Clone>(
     requires { IsJudged (texts_of texts.now) judged.now }
     ensures answer { IfOk result (λ view. IsRingAnswer (texts_of texts.now) view.answer) }
     ensures reportable { IfOk result (λ view. IsReportable view.answer) }
-    ensures ring { IfOk result (λ view. view.explanation.ring ≡ ring_of judged.now) }
-    ensures told { IfOk result (λ view.
-        IsTold texts.now judged.now view.explanation.state_before view.explanation.evidence.items) }
+    ensures explained { IfOk result (λ view. IsExplanation texts.now judged.now view.explanation) }
 {
     let answer = judged.answer();
     let explanation = explain_logs(alloc, texts, judged)?;
@@ -43,8 +39,7 @@ pub fn explain_text<A: Allocator + Clone>(
 ) -> Result<View<A>, OutOfMemory>
     ensures answer { IfOk result (λ view. IsLogTextAnswer text.now.text.now view.answer) }
     ensures reportable { IfOk result (λ view. IsReportable view.answer) }
-    ensures told { IfOk result (λ view.
-        IsLogTold text.now view.answer view.explanation.state_before view.explanation.evidence.items) }
+    ensures explained { IfOk result (λ view. IsLogExplanation text.now view.answer view.explanation) }
 {
     let (answer, explanation) = explain_log(alloc, text)?;
     Ok(View {

@@ -1,4 +1,4 @@
-ghost use Rattle.std.specs.Prelude.{◌≡◌, IfOk};
+ghost use Rattle.std.specs.Prelude.{◌≡◌, IfOk, Some};
 ghost use Rattle.ira_audit.specs.CheckAnswer.{IsCheckAnswer};
 ghost use Rattle.ira_audit.specs.Findings.{AreFindings, AreReportable};
 ghost use Rattle.ira_audit.specs.Judged.{IsJudged};
@@ -6,6 +6,9 @@ ghost use Rattle.ira_audit.specs.Never.{NoCaseIsMet};
 ghost use Rattle.ira_audit.specs.QuestionFitsLogs.{QuestionFitsLogs};
 ghost use Rattle.ira_audit.specs.Report.{IsReportable};
 ghost use Rattle.ira_audit.specs.declared.answer.Answer.TheVariants.{Yes};
+ghost use Rattle.ira_view_explain.specs.Counts.{counts};
+ghost use Rattle.ira_view_explain_question.specs.Explanation.{AreFindingsExplained};
+ghost use Rattle.ira_view.specs.Explained.{IsCheckExplanation, IsFindingsExplanation};
 ghost use Rattle.ira_view.specs.Texts.{texts_of};
 
 use crate::findings_view::FindingsView;
@@ -38,6 +41,8 @@ pub fn explain_findings<A: Allocator + Clone>(
     ensures found { IfOk result (λ view.
         AreFindings (texts_of files.entry.logs.now) files.entry.question.now.text.now view.findings) }
     ensures reportable { IfOk result (λ view. AreReportable view.findings) }
+    ensures explained { IfOk result (λ view.
+        IsFindingsExplanation files.entry judged.now case view.findings view.explanation) }
 {
     match judged.ask(files.question.text) {
         Ok(asked) => explain_asked(alloc, files, &asked, case),
@@ -64,6 +69,8 @@ fn explain_asked<A: Allocator + Clone>(
     ensures found { IfOk result (λ view.
         AreFindings (texts_of files.entry.logs.now) files.entry.question.now.text.now view.findings) }
     ensures reportable { IfOk result (λ view. AreReportable view.findings) }
+    ensures explained { IfOk result (λ view.
+        AreFindingsExplained files.entry.logs.now asked.now view.findings case view.explanation) }
 {
     let findings = asked.decide()?;
     let explanation = explain_found(alloc, files, asked, &findings, case)?;
@@ -90,6 +97,7 @@ where
     ensures reportable { IfOk result (λ view. IsReportable view.answer) }
     ensures never { IfOk result (λ view. view.answer ≡ Yes → NoCaseIsMet (texts_of files.entry.logs.now)
         files.entry.question.now.text.now certificate.now.text.now) }
+    ensures explained { IfOk result (λ view. IsCheckExplanation files.entry judged.now view.explanation) }
 {
     match judged.ask(files.question.text) {
         Ok(asked) => explain_check(rt, alloc, files, certificate, &asked),
@@ -117,6 +125,7 @@ where
     ensures answer { IfOk result (λ view. IsCheckAnswer (texts_of files.entry.logs.now)
         files.entry.question.now.text.now certificate.now.text.now view.answer) }
     ensures reportable { IfOk result (λ view. IsReportable view.answer) }
+    ensures ring { IfOk result (λ view. view.explanation.ring ≡ Some (counts asked.now.logs)) }
 {
     let read = match asked.read_certificate(certificate.text) {
         Ok(read) => read,

@@ -62,28 +62,25 @@ returns-in_err-read g c =
       ),
     )
 
-pub draw_judged-requires-clause-judged : goal.draw_judged-requires-clause-judged
-draw_judged-requires-clause-judged g c =
+pub draw_judged-requires : goal.draw_judged-requires
+draw_judged-requires g c =
     let names = c.in_ok-names.names.items in
-    let read = rw c.deref-2.ensures.value at c.in_ok-read.ensures.0 in
+    let read = rw c.deref-2.ensures.value at c.in_ok-read.ensures in
     let many = sym (length-map names file_name)
     ∙ sym (zipped_length (λ name text. g.F.TextSource.reads c.args.shelf.now name (Ok text)) (names_of names) read.0
     read.1) in
     (read.0, read.2, rw c.deref-3.ensures.value many)
 
-pub draw_judged-requires-clause-told : goal.draw_judged-requires-clause-told
-draw_judged-requires-clause-told g c = c.in_ok-read.ensures.1
-
 pub returns : goal.returns
 returns g c =
     let draw = c.args.draw.now in
     let logs = names_of c.in_ok-names.names.items in
-    let read = rw c.deref-2.ensures.value at c.in_ok-read.ensures.0 in
+    let read = rw c.deref-2.ensures.value at c.in_ok-read.ensures in
     let kept = rw (
       c.deref.ensures.value,
       c.asked_name.ensures c.in_ok-names.names.items,
     ) at c.in_ok-keep_inputs.ensures in
-    elim (c.draw_judged.ensures read.0 read.2) [
+    elim (rw c.deref-3.ensures.value at c.draw_judged.ensures read.0 read.2 read.3) [
       | inl told ↦
           inl (
             _,

@@ -2,6 +2,7 @@ use Rattle.std.proofs.Common.{◌∙◌, ap, inl, length, refl, sym}
 use Rattle.ira_main.proofs.Drawing.{good_drawn}
 use Rattle.ira_main.proofs.Showing.{against, no_cut, reportable, ring_of}
 use Rattle.ira_main.specs.Draw.TellsDrawn.{no_moment, no_question}
+use Rattle.ira_main.specs.FilesRead.{names_of}
 use Rattle.ira_main.proofs.draw_files.draw_good.Goals as goal
 
 pub ring_text-kept-requires : goal.ring_text-kept-requires
@@ -11,7 +12,8 @@ ring_text-kept-requires g c =
 
 pub returns-in-Ok : goal.returns-in-Ok
 returns-in-Ok g c = λ texts good.
-    good_drawn _ _ texts c.args.draw.now c.args.question.now _ _ _ _ _ c.args.logs c.in-Ok.ring c.ring_text-kept.result
+    good_drawn _ _ (names_of c.args.names.now) texts c.args.draw.now c.args.question.now _ _ _ _ _ c.args.logs c.in-Ok.ring
+    c.ring_text-kept.result
     good c.in-Ok.ensures c.ring_text-kept.ensures.drawn c.ring_text-kept.ensures.events c.tell_drawn.ensures
 
 pub report-requires : goal.report-requires

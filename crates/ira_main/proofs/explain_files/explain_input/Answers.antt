@@ -15,6 +15,10 @@ returns-clause-judged g c =
     elim c.print_view.ensures [
       | inl told ↦
           judged _ view.answer c.in_default.ensures.text
-          (subst (λ text. IsLogTextAnswer text view.answer) c.bytes.ensures c.in_ok-view.ensures.answer) told
+          (subst (λ text. IsLogTextAnswer text view.answer) c.bytes.ensures c.in_ok-view.ensures.answer) (
+            view.explanation,
+            (_, refl, c.bytes.ensures, c.in_ok-view.ensures.explained),
+            told,
+          )
       | inr full ↦ no_memory full.0 full.1
     ]

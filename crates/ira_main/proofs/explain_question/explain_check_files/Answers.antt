@@ -3,6 +3,8 @@ use Rattle.ira_audit.specs.Judged.{IsJudged}
 use Rattle.std.proofs.lemmas.Result.{err_from_is_err_and}
 use Rattle.ira_view_page.specs.declared.named_text.NamedText.{NamedText}
 use Rattle.ira_view.specs.Texts.{texts_of}
+use Rattle.ira_main.specs.NamedFile.{texts_in}
+use Rattle.ira_main.proofs.NamedFiles.{named_files}
 use Rattle.ira_main.proofs.FilesRead.{of_back, of_front}
 use Rattle.ira_main.specs.FilesRead.{names_of}
 use Rattle.ira_main.specs.declared.program_fault.ProgramFault.TheVariants.{OutOfMemory}
@@ -11,31 +13,42 @@ use Rattle.ira_main.proofs.explain_question.explain_check_files.Goals as goal
 pub returns : goal.returns
 returns g c =
     let view = c.in_ok-view.view in
-    let same : texts_of c.deref-4.result.now ≡ c.in_ok-files.files.items =
-    ap (λ (named : List NamedText). texts_of named) c.deref-4.ensures.value ∙ c.in_ok-named.ensures
-    ∙ c.deref-2.ensures.value in
-    let asked : c.named.result.text.now ≡ c.in_ok-question.question = c.named.ensures in
-    let certified : c.named-2.result.text.now ≡ c.in_ok-certificate.certificate = c.named-2.ensures in
+    let read = rw c.deref.ensures.value at c.in_ok-files.ensures in
+    let handed_on = λ (passed : List NamedText) (same : passed ≡ c.in_ok-named.named.items).
+    named_files g.F.TextSource.reads _ c.args.shelf.now c.in_ok-files.files.items c.deref-2.result.now
+    c.in_ok-named.named.items passed read c.deref-2.ensures.value c.in_ok-named.ensures same in
+    let first = handed_on c.deref-3.result.now c.deref-3.ensures.value in
+    let files = handed_on c.deref-4.result.now c.deref-4.ensures.value in
+    let judged = subst (λ (texts : List (List ℕ)). IsJudged texts c.in_ok-judged.judged) first.texts_are
+    c.in_ok-judged.ensures in
+    let named = c.named.ensures.name ∙ c.in_ok-question.ensures.named in
+    let asked : c.named.result.text.now ≡ c.in_ok-question.question.text.items = c.named.ensures.text in
+    let certified : c.named-2.result.text.now ≡ c.in_ok-certificate.certificate.text.items = c.named-2.ensures.text in
     elim c.print_view.ensures [
       | inl told ↦
           inl (
             _,
             c.in_ok-names.ensures,
             inl (record {
-              question = c.in_ok-question.question;
-              certificate = c.in_ok-certificate.certificate;
-              texts = c.in_ok-files.files.items;
-              given = (
-                c.in_ok-question.ensures.read,
-                (
-                  c.in_ok-certificate.ensures.read,
-                  rw c.deref.ensures.value at c.in_ok-files.ensures,
-                ),
-              );
+              question = c.in_ok-question.question.text.items;
+              certificate = c.in_ok-certificate.certificate.text.items;
+              texts = texts_in c.in_ok-files.files.items;
+              given = (c.in_ok-question.ensures.read, (c.in_ok-certificate.ensures.read, read.given));
               answer = view.answer;
-              judged = rw (same, asked, certified) at c.in_ok-view.ensures.answer;
-              never = λ e. rw (same, asked, certified) at (c.in_ok-view.ensures.never e);
-              told = told;
+              judged = rw (files.texts_are, asked, certified) at c.in_ok-view.ensures.answer;
+              never = λ e. rw (files.texts_are, asked, certified) at (c.in_ok-view.ensures.never e);
+              told = (
+                view.explanation,
+                (
+                  _,
+                  c.in_ok-judged.judged,
+                  files,
+                  judged,
+                  record { names_are = ap (λ n. n ∷ []) named; texts_are = ap (λ t. t ∷ []) asked },
+                  c.in_ok-view.ensures.explained,
+                ),
+                told,
+              );
             }),
           )
       | inr full ↦ inl (_, c.in_ok-names.ensures, inr (OutOfMemory, inr refl, full.0, full.1))

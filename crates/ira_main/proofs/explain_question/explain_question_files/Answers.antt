@@ -4,6 +4,8 @@ use Rattle.ira_audit.specs.Findings.{AreFindings}
 use Rattle.std.proofs.lemmas.Result.{err_from_is_err_and}
 use Rattle.ira_view_page.specs.declared.named_text.NamedText.{NamedText}
 use Rattle.ira_view.specs.Texts.{texts_of}
+use Rattle.ira_main.specs.NamedFile.{texts_in}
+use Rattle.ira_main.proofs.NamedFiles.{named_files}
 use Rattle.ira_main.proofs.FilesRead.{of_back, of_front}
 use Rattle.ira_main.specs.FilesRead.{names_of}
 use Rattle.ira_main.specs.declared.program_fault.ProgramFault.TheVariants.{OutOfMemory}
@@ -11,23 +13,40 @@ use Rattle.ira_main.proofs.explain_question.explain_question_files.Goals as goal
 
 pub returns : goal.returns
 returns g c =
-    let findings = c.in_ok-view.view.findings in
-    let same : texts_of c.deref-4.result.now ≡ c.in_ok-files.files.items =
-    ap (λ (named : List NamedText). texts_of named) c.deref-4.ensures.value ∙ c.in_ok-named.ensures
-    ∙ c.deref-2.ensures.value in
-    let asked : c.named.result.text.now ≡ c.in_ok-question.question = c.named.ensures in
+    let view = c.in_ok-view.view in
+    let read = rw c.deref.ensures.value at c.in_ok-files.ensures in
+    let handed_on = λ (passed : List NamedText) (same : passed ≡ c.in_ok-named.named.items).
+    named_files g.F.TextSource.reads _ c.args.shelf.now c.in_ok-files.files.items c.deref-2.result.now
+    c.in_ok-named.named.items passed read c.deref-2.ensures.value c.in_ok-named.ensures same in
+    let first = handed_on c.deref-3.result.now c.deref-3.ensures.value in
+    let files = handed_on c.deref-4.result.now c.deref-4.ensures.value in
+    let judged = subst (λ (texts : List (List ℕ)). IsJudged texts c.in_ok-judged.judged) first.texts_are
+    c.in_ok-judged.ensures in
+    let named = c.named.ensures.name ∙ c.in_ok-question.ensures.named in
+    let asked : c.named.result.text.now ≡ c.in_ok-question.question.text.items = c.named.ensures.text in
     elim c.print_findings_view.ensures [
       | inl told ↦
           inl (
             _,
             c.in_ok-names.ensures,
             inl (record {
-              question = c.in_ok-question.question;
-              texts = c.in_ok-files.files.items;
-              given = (c.in_ok-question.ensures.read, rw c.deref.ensures.value at c.in_ok-files.ensures);
-              findings = findings;
-              found = rw (same, asked) at c.in_ok-view.ensures.found;
-              told = told;
+              question = c.in_ok-question.question.text.items;
+              texts = texts_in c.in_ok-files.files.items;
+              given = (c.in_ok-question.ensures.read, read.given);
+              findings = view.findings;
+              found = rw (files.texts_are, asked) at c.in_ok-view.ensures.found;
+              told = (
+                view.explanation,
+                (
+                  _,
+                  c.in_ok-judged.judged,
+                  files,
+                  judged,
+                  record { names_are = ap (λ n. n ∷ []) named; texts_are = ap (λ t. t ∷ []) asked },
+                  c.in_ok-view.ensures.explained,
+                ),
+                told,
+              );
             }),
           )
       | inr full ↦ inl (_, c.in_ok-names.ensures, inr (OutOfMemory, inr refl, full.0, full.1))

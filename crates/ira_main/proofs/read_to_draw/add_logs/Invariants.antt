@@ -1,5 +1,9 @@
-use Rattle.std.proofs.Common.{◌≡◌, ◌++◌, List, ℕ, string_bytes}
+use Rattle.std.proofs.Common.{◌≡◌, ◌++◌, List, ℕ, map, string_bytes, take}
+use Rattle.std.specs.List.{zip}
+use Rattle.ira_main.specs.Draw.{AreLogLines}
 use Rattle.ira_main.proofs.read_to_draw.add_logs.Given as goal
 
 abbrev pub invariant-loop-place : goal.invariant-loop-place
-invariant-loop-place g l = (added : List ℕ) × (string_bytes l.told ≡ string_bytes l.initial.told ++ added)
+invariant-loop-place g l =
+    (added : List ℕ) × AreLogLines (take l.place (zip (map (λ file. file.name.now) l.texts) l.logs)) added
+    × (string_bytes l.told ≡ string_bytes l.initial.told ++ added)

@@ -35,6 +35,8 @@ returns-in_err-judged-2 g c =
 pub returns : goal.returns
 returns g c =
     let taken = c.in_ok-read_logs.ensures in (
-      (taken.0, taken.2, c.in_ok-judged-2.ensures taken.0 taken.1),
+      taken.0,
+      taken.2,
+      c.in_ok-judged-2.ensures taken.0 taken.1,
       λ page. absurd (let no = sym c.if-is_page.false ∙ c.is_page.ensures ∙ page in cc),
     )

@@ -11,7 +11,7 @@ returns g c =
     ∙ ap (λ (m : Memory). m.bytes ++ whole) c.new-text.ensures in
     inl (
       c.bytes.result.now,
-      (view.explanation.page, c.in-Ok.ensures.printable, lines),
+      (c.in-Ok.ensures.printable, lines),
       c.of_findings.result,
       c.of_findings.ensures,
       c.print_text.ensures,

@@ -8,19 +8,9 @@ use Rattle.std.proofs.lemmas.Slice.Zip.{length-zip}
 use Rattle.ira_event.specs.Log.{Log}
 use Rattle.ira_event.proofs.Writing.{HasWritten-more, HasWritten-stops}
 use Rattle.ira_ring_setup.proofs.EndLines.{drop-zip, next-text, HasWritten-whole}
+use Rattle.ira_view.proofs.Pairs.{pair_at}
 use Rattle.ira_view.specs.MendedLines.{mended_line, mended_lines}
 use Rattle.ira_view.proofs.mended_lines.write_mended.Goals as goal
-
--- the pair at a place
-pair_at : (xs ys : List Log) (i : ℕ) (x y : Log) → slice_get xs i ≡ Some x → slice_get ys i ≡ Some y
-    → slice_get (zip xs ys) i ≡ Some (x, y)
-pair_at [] ys i x y p q = cc
-pair_at (a ∷ xs) [] i x y p q = cc
-pair_at (a ∷ xs) (b ∷ ys) zero x y p q =
-    let a_is : a ≡ x = cc in
-    let b_is : b ≡ y = cc in
-    cc
-pair_at (a ∷ xs) (b ∷ ys) (suc i) x y p q = pair_at xs ys i x y p q
 
 -- what is said at a place
 said_at : (lost : List Bool) (i : ℕ) (d : Bool) → i < length lost → slice_get lost i ≡ Some (slice_index_or lost i d)

@@ -1,0 +1,73 @@
+-- What is told of texts beside their answer.
+use Rattle.std.specs.Prelude.{◌≡◌, ℕ, List, [], ◌∷◌, None, Option, Some}
+use Rattle.ira_audit.specs.AskedQuestion.{AskedQuestion}
+use Rattle.ira_audit.specs.Judged.{IsJudged}
+use Rattle.ira_audit.specs.QuestionFitsLogs.{QuestionFitsLogs}
+use Rattle.ira_audit.specs.declared.answer.Answer.{Answer}
+use Rattle.ira_audit.specs.declared.findings.Findings.{Findings}
+use Rattle.ira_audit.specs.declared.findings.Findings.TheVariants.{Refused}
+use Rattle.ira_audit.specs.declared.judged.Judged.{Judged}
+use Rattle.ira_audit.specs.declared.reason.Reason.{Reason}
+use Rattle.ira_view_page.specs.declared.explanation.Explanation.{Explanation}
+use Rattle.ira_view_page.specs.declared.named_text.NamedText.{NamedText}
+use Rattle.ira_view_explain.specs.Counts.{counts, ring_of}
+use Rattle.ira_view_explain.specs.LogTold.{IsLogTold}
+use Rattle.ira_view_explain.specs.Refused.{IsTold}
+use Rattle.ira_view_explain_question.specs.declared.asked_files.AskedFiles.{AskedFiles}
+use Rattle.ira_view_explain_question.specs.Explanation.{AreFindingsExplained, IsRefusalTold}
+use Rattle.ira_view.specs.Texts.{AreFiles, texts_of}
+
+-- of the text of one log alone, which has this answer: the evidence for it
+pub record IsLogExplanation {A : Type 0} (file : NamedText) (answer : Answer) (explanation : Explanation A)
+    : Type 0 where
+  pub ring : explanation.ring ≡ None
+  pub told : IsLogTold file answer explanation.state_before explanation.evidence.items
+
+-- of texts that were judged: how many nodes and events there are, and the evidence for the answer
+pub record IsExplanation {A : Type 0} (files : List NamedText) (judged : Judged A) (explanation : Explanation A)
+    : Type 0 where
+  pub ring : explanation.ring ≡ ring_of judged
+  pub told : IsTold files judged explanation.state_before explanation.evidence.items
+
+-- the same of texts for which a question isn't asked; where they are good, the evidence is left open
+pub record IsRefusal {A : Type 0} (files : List NamedText) (judged : Judged A) (explanation : Explanation A)
+    : Type 0 where
+  pub ring : explanation.ring ≡ ring_of judged
+  pub told : IsRefusalTold files judged explanation
+
+-- this is the question in its file, as it is asked of the logs in theirs
+abbrev pub IsAsked : AskedFiles → AskedQuestion → Type 0
+IsAsked files asked =
+    QuestionFitsLogs (texts_of files.logs.now) files.question.now.text.now asked.logs asked.question
+
+-- of what is found for a question about texts that were judged: where it is asked of them, its cases
+pub data IsFindingsExplanation {A : Type 0} (files : AskedFiles) (judged : Judged A) (case : Option ℕ)
+    (findings : Findings A) (explanation : Explanation A) : Type 0 where
+  of_asked :
+      (asked : AskedQuestion) → IsAsked files asked
+      → AreFindingsExplained files.logs.now asked findings case explanation
+      → IsFindingsExplanation files judged case findings explanation
+  not_asked :
+      (reason : Reason) → findings ≡ Refused reason → IsRefusal files.logs.now judged explanation
+      → IsFindingsExplanation files judged case findings explanation
+
+-- of an answer with a certificate: where the question is asked of the texts, how many nodes and events there are
+pub data IsCheckExplanation {A : Type 0} (files : AskedFiles) (judged : Judged A) (explanation : Explanation A)
+    : Type 0 where
+  of_asked :
+      (asked : AskedQuestion) → IsAsked files asked → explanation.ring ≡ Some (counts asked.logs)
+      → IsCheckExplanation files judged explanation
+  not_asked : IsRefusal files.logs.now judged explanation → IsCheckExplanation files judged explanation
+
+-- the files have these names and texts, the texts are judged, and this holds of both
+abbrev pub OfJudged : (A : Type 0) → List (List ℕ) → List (List ℕ) → (List NamedText → Judged A → Type 0) → Type 0
+OfJudged A names texts Holds =
+    (files : List NamedText) × (judged : Judged A) × AreFiles names texts files × IsJudged texts judged
+    × Holds files judged
+
+-- the same with a question, in a file of this name and with this text
+abbrev pub OfAsked : (A : Type 0) → List ℕ → List (List ℕ) → List ℕ → List (List ℕ)
+    → (AskedFiles → Judged A → Type 0) → Type 0
+OfAsked A asked names question texts Holds =
+    (files : AskedFiles) × (judged : Judged A) × AreFiles names texts files.logs.now × IsJudged texts judged
+    × AreFiles (asked ∷ []) (question ∷ []) (files.question.now ∷ []) × Holds files judged
