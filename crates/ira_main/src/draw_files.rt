@@ -27,7 +27,7 @@ use ira_main_files::{FileName, Shelf};
 use ira_view::RingFault;
 use ira_view_page::PageText;
 use ira_view_picture::DrawFault;
-use std::alloc::{Allocator, Global};
+use std::alloc::Allocator;
 use std::thread::Threads;
 
 // The file of the question whose first moment is asked for, if one is.
@@ -97,7 +97,6 @@ fn tell_drawn<'a, A: Allocator, F: Shelf, W: Sink>(
 // Draws good logs, in the files of these names, at the moment that is asked for; where a question isn't one of their ring, its
 // line is printed alone.
 fn draw_good<'a, A: Allocator + Clone, F: Shelf, W: Sink>(
-    text: Global,
     alloc: A,
     logs: GoodLogs<A>,
     draw: &DrawRequest<'a>,
@@ -114,7 +113,7 @@ fn draw_good<'a, A: Allocator + Clone, F: Shelf, W: Sink>(
 {
     match ring_at(alloc.clone()?, logs, &draw.moment, question) {
         Ok(ring) => {
-            let kept = ring_text(text, alloc, &ring, names, draw);
+            let kept = ring_text(alloc, &ring, names, draw);
             tell_drawn(&Answer::Yes, kept, draw.picture, shelf, out)
         }
         Err(RingFault::No(reason)) => report(&Answer::No(reason), out),
@@ -126,7 +125,6 @@ fn draw_good<'a, A: Allocator + Clone, F: Shelf, W: Sink>(
 // Draws what was read from the files of these names; where the texts aren't those of the logs of one ring, the line of the
 // reason is printed alone.
 fn draw_judged<'a, A: Allocator + Clone, F: Shelf, W: Sink>(
-    text: Global,
     alloc: A,
     read: ToDraw<A>,
     draw: &DrawRequest<'a>,
@@ -145,7 +143,7 @@ fn draw_judged<'a, A: Allocator + Clone, F: Shelf, W: Sink>(
 {
     let ToDraw { judged, told } = read;
     match judged {
-        Judged::Good(logs) => draw_good(text, alloc, logs, draw, question, names, shelf, out),
+        Judged::Good(logs) => draw_good(alloc, logs, draw, question, names, shelf, out),
         Judged::Refused(refused) => {
             let kept = refused_text(alloc, &refused, told.as_bytes(), draw);
             let answer = Answer::No(refused.reason());
@@ -177,14 +175,5 @@ where
     keep_inputs(&alloc, Some(draw.picture), asked_name(&draw.moment), &names)?;
     let question = read_asked(&alloc, &draw.moment, shelf)?;
     let read = read_to_draw(rt, alloc.clone()?, draw, &names, shelf)?;
-    draw_judged(
-        rt.alloc(),
-        alloc,
-        read,
-        draw,
-        question.bytes(),
-        &names,
-        shelf,
-        out,
-    )
+    draw_judged(alloc, read, draw, question.bytes(), &names, shelf, out)
 }

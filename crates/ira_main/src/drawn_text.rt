@@ -20,7 +20,7 @@ use ira_view_html::html_page;
 use ira_view_json::ShownAnswer;
 use ira_view_page::PageText;
 use ira_view_picture::{ColumnRange, DrawFault};
-use std::alloc::{Allocator, Global};
+use std::alloc::Allocator;
 
 /// Whether a name is that of a page.
 pub(crate) fn is_page(name: &str) -> bool
@@ -41,7 +41,6 @@ fn columns_of(draw: &DrawRequest<'_>) -> ColumnRange
 
 /// Adds what is told of a ring, of its moment or of all events, as lines of JSON.
 fn add_told<A: Allocator + Clone>(
-    text: Global,
     alloc: A,
     ring: &ShownRing<A>,
     files: &[String<A>],
@@ -56,7 +55,7 @@ fn add_told<A: Allocator + Clone>(
         status: Status::of_answer(&Answer::Yes).number(),
         named: None,
     };
-    match ring.write_json(text, alloc, files, answer, has_events, lines) {
+    match ring.write_json(alloc, files, answer, has_events, lines) {
         Ok(()) => Ok(()),
         Err(_) => Err(OutOfMemory),
     }
@@ -64,7 +63,6 @@ fn add_told<A: Allocator + Clone>(
 
 /// What is told of a ring, whose logs are in the files of these names: of its moment, and then of all events.
 fn told_lines<A: Allocator + Clone>(
-    text: Global,
     alloc: A,
     ring: &ShownRing<A>,
     names: &[FileName<'_>],
@@ -74,8 +72,8 @@ fn told_lines<A: Allocator + Clone>(
 {
     let files = paths(&alloc, names)?;
     let mut lines = MemorySink::new(alloc.clone()?);
-    add_told(text, alloc.clone()?, ring, &files, false, &mut lines)?;
-    add_told(text, alloc, ring, &files, true, &mut lines)?;
+    add_told(alloc.clone()?, ring, &files, false, &mut lines)?;
+    add_told(alloc, ring, &files, true, &mut lines)?;
     Ok(lines)
 }
 
@@ -98,7 +96,6 @@ fn page_of<A: Allocator>(
 
 /// What is kept of a ring, whose logs are in the files of these names: a picture, or a page.
 pub(crate) fn ring_text<A: Allocator + Clone>(
-    text: Global,
     alloc: A,
     ring: &ShownRing<A>,
     names: &[FileName<'_>],
@@ -111,7 +108,7 @@ pub(crate) fn ring_text<A: Allocator + Clone>(
 {
     let picture = ring.picture(alloc.clone()?, columns_of(draw));
     if is_page(draw.picture) {
-        let told = told_lines(text, alloc.clone()?, ring, names)?;
+        let told = told_lines(alloc.clone()?, ring, names)?;
         page_of(alloc, picture, told.bytes())
     } else {
         picture

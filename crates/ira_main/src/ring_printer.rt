@@ -12,7 +12,7 @@ use ira_main_files::FileName;
 use ira_view::{ShownRing, write_view};
 use ira_view_json::ShownAnswer;
 use ira_view_page::{PageText, ShowFault};
-use std::alloc::{AllocError, Allocator, Global};
+use std::alloc::{AllocError, Allocator};
 
 // The status of a ring of which the tables were printed. They are put together before anything is printed.
 fn print_tables<'a, A: Allocator + Clone, W: Sink>(
@@ -71,7 +71,6 @@ pub(crate) fn paths<A: Allocator + Clone>(
 
 // The status of a ring that was printed as lines of JSON, block by block.
 fn print_json<'a, A: Allocator + Clone, W: Sink>(
-    global: Global,
     alloc: A,
     ring: &ShownRing<A>,
     differences: &PageText<A>,
@@ -89,7 +88,7 @@ fn print_json<'a, A: Allocator + Clone, W: Sink>(
         status: status.number(),
         named: named_leaders(show),
     };
-    match ring.write_json(global, alloc, &files, answer, show.has_events, out) {
+    match ring.write_json(alloc, &files, answer, show.has_events, out) {
         Ok(()) => Ok(status),
         Err(ShowFault::Write) => Err(ProgramFault::CannotWriteAnswer),
         Err(ShowFault::OutOfMemory) => Err(ProgramFault::OutOfMemory),
@@ -99,7 +98,6 @@ fn print_json<'a, A: Allocator + Clone, W: Sink>(
 /// The status of a ring that was printed as is asked for: as JSON; or an order of all events, or else the tables. The
 /// names are those of the files of its logs.
 pub(crate) fn print_ring<'a, A: Allocator + Clone, W: Sink>(
-    global: Global,
     alloc: A,
     ring: &ShownRing<A>,
     differences: &PageText<A>,
@@ -112,7 +110,7 @@ pub(crate) fn print_ring<'a, A: Allocator + Clone, W: Sink>(
         ⊎ ((W.state out.new ≡ W.state out.old) × (result ≡ Err OutOfMemory)) }
 {
     if show.is_json {
-        print_json(global, alloc, ring, differences, names, show, out)
+        print_json(alloc, ring, differences, names, show, out)
     } else if show.has_events {
         print_events(alloc, ring, differences, out)
     } else {

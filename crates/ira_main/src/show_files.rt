@@ -104,7 +104,7 @@ fn show_good<'a, A: Allocator + Clone, W: Sink>(
 {
     let differences = asked_differences(alloc.clone()?, &logs, &show.leads)?;
     match ring_at(alloc.clone()?, logs, &show.moment, question) {
-        Ok(ring) => print_ring(global, alloc, &ring, &differences, names, show, out),
+        Ok(ring) => print_ring(alloc, &ring, &differences, names, show, out),
         Err(RingFault::No(reason)) => report_as(global, show.is_json, &Answer::No(reason), out),
         Err(RingFault::Cut(fault)) => Err(ProgramFault::NoMoment(fault)),
         Err(RingFault::OutOfMemory) => Err(ProgramFault::OutOfMemory),

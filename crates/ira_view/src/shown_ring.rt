@@ -19,7 +19,7 @@ use ira_view_moment::ChosenMoment;
 use ira_view_page::{PageText, ShowFault};
 use ira_view_picture::{ColumnRange, DrawFault};
 use ira_view_show::{show_events, show_moment};
-use std::alloc::{Allocator, Global};
+use std::alloc::Allocator;
 use std::marker::Model;
 
 /// A ring against whose logs nothing stands, at a moment. Contracts see how many events each node has made by then, if
@@ -102,7 +102,6 @@ impl<A: Allocator + Clone> ShownRing<A> {
     /// written block by block.
     pub fn write_json<W: Sink>(
         &self,
-        text: Global,
         alloc: A,
         files: &[String<A>],
         answer: ShownAnswer<'_>,
@@ -113,16 +112,7 @@ impl<A: Allocator + Clone> ShownRing<A> {
         ensures { WroteRing answer.entry.status self.now.told self.now.cut result (W.state sink.old) (W.state sink.new) }
     {
         let logs = self.logs.logs();
-        write_ring(
-            text,
-            alloc,
-            logs,
-            files,
-            &self.moment,
-            answer,
-            has_events,
-            sink,
-        )
+        write_ring(alloc, logs, files, &self.moment, answer, has_events, sink)
     }
 
     /// A picture of what happened at these columns, with a line at the moment where it isn't the end of the logs.

@@ -57,7 +57,7 @@ abbrev are_small : List ℕ → Bool
 are_small [] = true
 are_small (c ∷ text) = nat_lt c 128 && are_small text
 
-written : (text : List ℕ) → are_small text ≡ true → IsUtf8 text
+pub written : (text : List ℕ) → are_small text ≡ true → IsUtf8 text
 written [] are = IsUtf8-nil
 written (c ∷ text) are = of_first (nat_lt c 128) refl are (written text)
   where

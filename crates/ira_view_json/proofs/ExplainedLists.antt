@@ -1,21 +1,24 @@
 -- Lists of values, and the lines of cases.
-use Rattle.std.proofs.Common.{◌≡◌, ◌∙◌, ℕ, ◌+◌, ◌<◌, false, List, [], ◌∷◌, ◌++◌, ap, get_or, length, map}
+use Rattle.std.proofs.Common.{◌≡◌, ◌∙◌, ℕ, ◌+◌, ◌<◌, ◌≤◌, false, List, [], ◌∷◌, ◌++◌, Vec, ap, get_or, length, map}
 use Rattle.std.proofs.Common.{refl, sym, take}
 use Rattle.std.specs.Prelude.{◌==◌, codes}
 use Rattle.std.specs.List.{enumerate_from}
-use Rattle.std.proofs.lemmas.List.{map-append, take_more}
-use Rattle.serde_json.specs.Data.{Data, Members, array, put}
-use Rattle.serde_json.specs.View.{items_of, view}
-use Rattle.serde_json.specs.declared.value.Value.{Value}
+use Rattle.std.proofs.lemmas.List.{map-append, take_all, take_more}
+use Rattle.json.specs.Json.{Json, Members, array}
+use Rattle.json.specs.Value.{items_of}
+use Rattle.ira_view_json.specs.Members.{put}
+use Rattle.ira_view_json.specs.View.{view}
+use Rattle.ira_view_json.specs.declared.value.Value.{Array, Value}
 use Rattle.ira_elim.specs.declared.found.Found.{Found}
 use Rattle.ira_view_page.specs.declared.asked_case.AskedCase.{AskedCase}
 use Rattle.ira_view_page.specs.declared.evidence.Evidence.{Evidence}
 use Rattle.ira_view_json.specs.EvidenceValue.{evidence_value}
 use Rattle.ira_view_json.specs.ExplainedFindings.{explained_case}
 use Rattle.ira_view_json.specs.ExplainedValue.{with_evidence}
+use Rattle.ira_view_json.proofs.Views.{view-Array}
 
 -- a value more for an element more
-pub list_more : {X : Type 0} (f : X → Data) (values : List Value) (v : Value) (xs : List X) (i : ℕ) (x : X)
+pub list_more : {X A : Type 0} (f : X → Json) (values : List (Value A)) (v : Value A) (xs : List X) (i : ℕ) (x : X)
     → i < length xs → x ≡ get_or xs i x → map view values ≡ map f (take i xs) → view v ≡ f x
     → map view (values ++ v ∷ []) ≡ map f (take (i + 1) xs)
 list_more f values v xs i x there at same is =
@@ -23,14 +26,20 @@ list_more f values v xs i x there at same is =
     ∙ ap (λ y. map f (take i xs) ++ y ∷ []) (is ∙ ap f at)
     ∙ sym (map-append f (take i xs) (get_or xs i x ∷ [])) ∙ ap (map f) (sym (take_more xs i x there))
 
+-- the list of all of them
+pub list_whole : {X A : Type 0} (f : X → Json) (list : Vec (Value A) A) (xs : List X) (i : ℕ) → length xs ≤ i
+    → map view list.items ≡ map f (take i xs) → view (Array list) ≡ array (items_of (map f xs))
+list_whole f list xs i all same =
+    view-Array list ∙ ap (λ values. array (items_of values)) (same ∙ ap (map f) (take_all i xs all))
+
 -- what is there is told
 pub some_evidence : {A : Type 0} (evidence : List (Evidence A)) (members : Members) → (length evidence == 0) ≡ false
     → put (codes "evidence") (array (items_of (map evidence_value evidence))) members ≡ with_evidence evidence members
-some_evidence [] members none = absurd cc
-some_evidence (e ∷ es) members some = refl
+some_evidence [] ms none = absurd cc
+some_evidence (e ∷ es) ms some = refl
 
 -- a first value, and those of cases, of other lists that are the same
-pub lists_are : {A B : Type 0} (first d : Data) (explained asked : List (AskedCase A)) (found given : List (Found B))
+pub lists_are : {A B : Type 0} (first d : Json) (explained asked : List (AskedCase A)) (found given : List (Found B))
     → first ≡ d → explained ≡ asked → found ≡ given
     → first ∷ map (explained_case explained) (enumerate_from 0 found)
     ≡ d ∷ map (explained_case asked) (enumerate_from 0 given)

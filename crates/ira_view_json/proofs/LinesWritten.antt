@@ -1,9 +1,9 @@
 -- Lines that are written one after the other.
 use Rattle.std.proofs.Common.{◌≡◌, ◌∙◌, ℕ, List, [], ◌∷◌, ◌++◌, Option, Result, Ok, Err, IfOk, ap, inl, inr, refl}
 use Rattle.std.specs.Prelude.{codes}
-use Rattle.serde_json.specs.Data.{Data, object}
-use Rattle.serde_json.specs.View.{members_view, view}
-use Rattle.serde_json.specs.declared.value.Value.{Value}
+use Rattle.json.specs.Json.{Json, object}
+use Rattle.ira_view_json.specs.View.{view}
+use Rattle.ira_view_json.specs.declared.value.Value.{Value}
 use Rattle.ira_event.specs.Log.{Log}
 use Rattle.ira_event.specs.Sink.{SinkState, StopsIn, Takes}
 use Rattle.ira_event.proofs.Writing.{Appends-nothing, Takes-append, Takes-StopsIn}
@@ -11,7 +11,8 @@ use Rattle.ira_view_page.specs.declared.show_fault.ShowFault.{ShowFault}
 use Rattle.ira_view_page.specs.declared.show_fault.ShowFault.TheVariants.{OutOfMemory, Write}
 use Rattle.ira_view_json.specs.Line.{AreLines, IsLineOf, OfLines, WroteLine, WroteLines}
 use Rattle.ira_view_json.specs.Members.{with_number, with_words}
-use Rattle.ira_view_json.specs.Object.{Entries, Gives, Puts}
+use Rattle.ira_view_json.specs.Object.{Gives, Puts}
+use Rattle.ira_view_json.specs.declared.object.Object.{Object}
 use Rattle.ira_view_moment.specs.declared.chosen_moment.ChosenMoment.{ChosenMoment}
 use Rattle.ira_view_moment.specs.declared.chosen_moment.ChosenMoment.TheVariants.{AtEnd, AtCut, OfCase, Unmet}
 use Rattle.ira_view_moment.specs.ChosenMoment.{cut_of, numbers_of}
@@ -23,7 +24,7 @@ pub none_are_lines : AreLines []
 none_are_lines = ([], no_lines)
 
 -- a line more
-pub add_line : (text line : List ℕ) (value : Data) → AreLines text → IsLineOf value line → AreLines (text ++ line)
+pub add_line : (text line : List ℕ) (value : Json) → AreLines text → IsLineOf value line → AreLines (text ++ line)
 add_line text line value are is =
     (are.0 ++ value ∷ [], lines_append are.0 (value ∷ []) text line are.1 (one_line value line is))
 
@@ -64,7 +65,7 @@ pub failed_then : {T : Type 0} (r : Result T ShowFault) (f : ShowFault) (s t u :
 failed_then {T} r f s t u is so_far more = rw is (wrote_then {T = T} (Err f) s t u so_far more)
 
 -- an object that was told the moment, the status, and then that the answer is yes
-pub says_yes : {E : Type 0} {a b c d : Option Entries} (r : Result Value E) (status : ℕ) (told : Told)
+pub says_yes : {A E : Type 0} {a b c d : Object A} (r : Result (Value A) E) (status : ℕ) (told : Told)
     (cut : Option (List ℕ)) → Puts (with_moment told cut) a b → Puts (with_number (codes "status") status) b c
     → Puts (with_words (codes "answer") (codes "yes")) c d → Gives d r
     → IfOk r (λ value. IsYes status told cut (view value))
@@ -72,14 +73,14 @@ says_yes (Ok value) status told cut m p q gives =
     let r = q.ends gives.0 gives.1 in
     let s = p.ends r.0 r.1 in
     let t = m.ends s.0 s.1 in (
-      members_view t.0,
+      t.0,
       gives.2 ∙ ap object (r.2 ∙ ap (with_words (codes "answer") (codes "yes"))
           (s.2 ∙ ap (with_number (codes "status") status) t.2)),
     )
 says_yes (Err e) status told cut m p q gives = tt
 
 -- of the end of the logs no numbers are told, so they may be those of all events
-pub at_cut_of : {A : Type 0} (logs : List Log) (moment : ChosenMoment A) (status : ℕ) (value : Data)
+pub at_cut_of : {A : Type 0} (logs : List Log) (moment : ChosenMoment A) (status : ℕ) (value : Json)
     → IsYes status (told_of moment) (numbers_of moment) value → IsYes status (told_of moment) (cut_of logs moment) value
 at_cut_of logs AtEnd status value is = is
 at_cut_of logs (AtCut cut) status value is = is
@@ -88,11 +89,11 @@ at_cut_of logs (Unmet number) status value is = is
 
 module _ (status : ℕ) (told : Told) (cut : Option (List ℕ)) where
   -- the answer alone
-  answer_text : (value : Data) (line : List ℕ) → IsYes status told cut value → IsLineOf value line
+  answer_text : (value : Json) (line : List ℕ) → IsYes status told cut value → IsLineOf value line
       → IsRingText status told cut line
   answer_text value line says is = record { first = value; rest = []; answer = says; lines = one_line value line is }
 
-  pub answered : {T : Type 0} (r : Result T ShowFault) (value : Data) (s t : SinkState) → IsYes status told cut value
+  pub answered : {T : Type 0} (r : Result T ShowFault) (value : Json) (s t : SinkState) → IsYes status told cut value
       → WroteLine r value s t → WroteRing status told cut r s t
   answered (Ok v) value s t says is = (is.0, answer_text value is.0 says is.1, is.2)
   answered (Err OutOfMemory) value s t says is = inl is

@@ -1,7 +1,7 @@
 -- What an answer, and what is found for cases, are as JSON.
 use Rattle.std.specs.Prelude.{ℕ, List, [], ◌∷◌, Bool, true, false, codes, map}
 use Rattle.std.specs.List.{enumerate_from, list_any}
-use Rattle.serde_json.specs.Data.{Data, Members, member, no_members, object, string}
+use Rattle.json.specs.Json.{Json, Members, member, no_members, object, string}
 use Rattle.ira_elim.specs.declared.decided.Decided.{Decided}
 use Rattle.ira_elim.specs.declared.decided.Decided.TheVariants.{Absent, Present}
 use Rattle.ira_elim.specs.declared.found.Found.{Found}
@@ -30,7 +30,7 @@ worded_members words status =
 abbrev pub answer_members : ℕ → Answer → Members
 answer_members status answer = worded_members (answer_words answer) status
 
-abbrev pub answer_value : ℕ → Answer → Data
+abbrev pub answer_value : ℕ → Answer → Json
 answer_value status answer = object (answer_members status answer)
 
 -- what is found for all cases in a word
@@ -39,7 +39,7 @@ decision_word true = codes "present"
 decision_word false = codes "absent"
 
 -- that a question about a ring of so many nodes was decided, in a word
-abbrev pub decision_value : List ℕ → ℕ → ℕ → Data
+abbrev pub decision_value : List ℕ → ℕ → ℕ → Json
 decision_value word nodes status =
     object (member (codes "answer") (string word)
     (member (codes "nodes") (natural nodes)
@@ -73,7 +73,7 @@ abbrev pub found_members : {A : Type 0} → ℕ → Found A → Members
 found_members case found = decided_members case (counted found)
 
 -- the same of a case with its number
-abbrev pub case_value : {A : Type 0} → ℕ × Decided ℕ A → Data
+abbrev pub case_value : {A : Type 0} → ℕ × Decided ℕ A → Json
 case_value case = object (decided_members case.0 case.1)
 
 -- whether it is present
@@ -82,11 +82,11 @@ is_met (Absent steps spent) = false
 is_met (Present cut) = true
 
 -- what is found for all cases of a question about a ring of so many nodes, and then for each, in order
-abbrev pub cases_values : {A : Type 0} → ℕ → ℕ → List (Decided ℕ A) → List Data
+abbrev pub cases_values : {A : Type 0} → ℕ → ℕ → List (Decided ℕ A) → List Json
 cases_values nodes status cases =
     decision_value (decision_word (list_any is_met cases)) nodes status ∷ map case_value (enumerate_from 0 cases)
 
 -- findings, and the status that goes with them: the answer by a reason, or what is found for the cases
-abbrev pub findings_values : {A : Type 0} → ℕ → Findings A → List Data
+abbrev pub findings_values : {A : Type 0} → ℕ → Findings A → List Json
 findings_values status (Refused reason) = answer_value status (No reason) ∷ []
 findings_values status (Cases nodes found) = cases_values nodes status (map counted found.items)

@@ -1,6 +1,6 @@
 -- What the evidence of an answer is as JSON: objects, each with a role.
 use Rattle.std.specs.Prelude.{ℕ, ◌+◌, Bool, List, Option, Some, None, codes, string_bytes}
-use Rattle.serde_json.specs.Data.{Data, Members, boolean, member, no_members, object, put, string}
+use Rattle.json.specs.Json.{Json, Members, boolean, member, no_members, object, string}
 use Rattle.ira_cert_text.specs.declared.cert_step.CertStep.{CertStep}
 use Rattle.ira_node.specs.declared.node_state.NodeState.{NodeState}
 use Rattle.ira_node.specs.declared.step_fault.StepFault.{StepFault}
@@ -17,7 +17,7 @@ use Rattle.ira_view_page.specs.declared.quoted_line.QuotedLine.{QuotedLine}
 use Rattle.ira_view_page.specs.declared.record_at.RecordAt.{RecordAt}
 use Rattle.ira_view_page.specs.declared.remark.Remark.{Remark}
 use Rattle.ira_view_page.specs.declared.remark.Remark.TheVariants.{Due, Note}
-use Rattle.ira_view_json.specs.Members.{with_number, with_words}
+use Rattle.ira_view_json.specs.Members.{put, with_number, with_words}
 use Rattle.ira_view_json.specs.StateValue.{with_state}
 
 -- an event: its node and its number, and its record, which stands four lines further on in its file
@@ -114,6 +114,6 @@ with_told (Spent file line node) members = with_place (string_bytes file) line n
 with_told (FrontOf front) members = with_front front members
 
 -- one thing that an answer rests on
-abbrev pub evidence_value : {A : Type 0} → Evidence A → Data
+abbrev pub evidence_value : {A : Type 0} → Evidence A → Json
 evidence_value evidence =
     object (with_told evidence (member (codes "role") (string (role_of evidence)) no_members))

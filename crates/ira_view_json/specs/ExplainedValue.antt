@@ -1,8 +1,8 @@
 -- What an answer is as JSON, with its reason and what it rests on: what is wrong, in words without numbers; the numbers
 -- by what they count; evidence, and usual causes.
 use Rattle.std.specs.Prelude.{ℕ, List, [], Option, Some, None, String, codes, map, string_bytes}
-use Rattle.serde_json.specs.Data.{Data, Members, array, no_members, null, object, put, string}
-use Rattle.serde_json.specs.View.{items_of}
+use Rattle.json.specs.Json.{Json, Members, array, no_members, null, object, string}
+use Rattle.json.specs.Value.{items_of}
 use Rattle.ira_event.specs.FaultWords.{FaultWords}
 use Rattle.ira_event.specs.HeadFault.{head_fault_words}
 use Rattle.ira_event.specs.LogFault.{log_fault_words}
@@ -28,7 +28,7 @@ use Rattle.ira_view_page.specs.declared.explanation.Explanation.{Explanation}
 use Rattle.ira_view_page.specs.declared.ring_counts.RingCounts.{RingCounts}
 use Rattle.ira_view_json.specs.AnswerValue.{answer_members}
 use Rattle.ira_view_json.specs.EvidenceValue.{evidence_value}
-use Rattle.ira_view_json.specs.Members.{with_number, with_words}
+use Rattle.ira_view_json.specs.Members.{put, with_number, with_words}
 use Rattle.ira_view_json.specs.StateValue.{with_state}
 
 -- of which kind the reason is, and what is wrong
@@ -112,7 +112,7 @@ with_evidence [] members = members
 with_evidence evidence members = put (codes "evidence") (array (items_of (map evidence_value evidence))) members
 
 -- usual causes, each as words
-abbrev pub hint_value : {A : Type 0} → String A → Data
+abbrev pub hint_value : {A : Type 0} → String A → Json
 hint_value hint = string (string_bytes hint)
 
 abbrev pub with_hints : {A : Type 0} → List (String A) → Members → Members
@@ -127,6 +127,6 @@ with_explanation explanation members =
     (with_ring explanation.ring members)))
 
 -- an answer with its reason and what it rests on, and the status that goes with it
-abbrev pub explained_value : {A : Type 0} → ℕ → Answer → Explanation A → Data
+abbrev pub explained_value : {A : Type 0} → ℕ → Answer → Explanation A → Json
 explained_value status answer explanation =
     object (with_explanation explanation (with_reason_of answer (answer_members status answer)))

@@ -1,12 +1,12 @@
 -- What the answer of a folder's logs, and a file that can't be read, are as JSON.
 use Rattle.std.specs.Prelude.{ℕ, List, Option, Some, None, codes}
-use Rattle.serde_json.specs.Data.{Data, Members, member, no_members, object, string}
+use Rattle.json.specs.Json.{Json, Members, member, no_members, object, string}
 use Rattle.ira_audit.specs.declared.answer.Answer.{Answer}
 use Rattle.ira_view_json.specs.AnswerValue.{answer_members}
 use Rattle.ira_view_json.specs.Members.{natural, with_words}
 
 -- an answer, the status that goes with it, and the folder of the logs
-abbrev pub folder_answer_value : List ℕ → ℕ → Answer → Data
+abbrev pub folder_answer_value : List ℕ → ℕ → Answer → Json
 folder_answer_value folder status answer = object (with_words (codes "dir") folder (answer_members status answer))
 
 -- a file that can't be read, and the status that goes with it
@@ -23,5 +23,5 @@ abbrev pub with_folder : Option (List ℕ) → Members → Members
 with_folder (Some folder) members = with_words (codes "dir") folder members
 with_folder None members = members
 
-abbrev pub unread_value : Option (List ℕ) → List ℕ → ℕ → Data
+abbrev pub unread_value : Option (List ℕ) → List ℕ → ℕ → Json
 unread_value folder file status = object (with_folder folder (unread_members file status))

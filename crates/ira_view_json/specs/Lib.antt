@@ -9,3 +9,4 @@ pub mod Members
 pub mod Object
 pub mod ShownAnswer
 pub mod StateValue
+pub mod View

@@ -1,36 +1,36 @@
 -- Lines of JSON Lines.
-use Rattle.std.specs.Prelude.{◌≡◌, ◌≤◌, ℕ, List, ◌++◌, Some, Result, Ok, Err, codes, false}
+use Rattle.std.specs.Prelude.{◌≡◌, ◌≤◌, ℕ, List, ◌++◌, Some, Result, Ok, Err, codes}
 use Rattle.std.specs.List.{AllZip, concat}
-use Rattle.serde_json.specs.Data.{Data, depth}
-use Rattle.serde_json.specs.Read.{max_depth, read}
-use Rattle.serde_json.specs.Written.{compact_text, has_float}
+use Rattle.json.specs.Json.{Json, document, max_depth}
+use Rattle.json.specs.Print.{print}
+use Rattle.json.specs.Tree.{depth, json_tokens}
 use Rattle.ira_event.specs.Sink.{SinkState, StopsIn, Takes}
 use Rattle.ira_view_page.specs.declared.show_fault.ShowFault.{ShowFault}
 use Rattle.ira_view_page.specs.declared.show_fault.ShowFault.TheVariants.{OutOfMemory, Write}
 
 -- the text ends in a line feed, and what stands in front of it reads as the value, where that nests no deeper than
--- readers take it; it is the value's compact text, where the value has no float
-pub record IsLineOf (value : Data) (text : List ℕ) : Type 0 where
+-- readers take it; it is the value's text without spaces
+pub record IsLineOf (value : Json) (text : List ℕ) : Type 0 where
   pub line : List ℕ
   pub ends : text ≡ line ++ codes "\n"
-  pub reads : depth value ≤ max_depth → read line ≡ Some value
-  pub compact : has_float value ≡ false → line ≡ compact_text value
+  pub reads : depth value ≤ max_depth → document line ≡ Some value
+  pub compact : line ≡ print (json_tokens value)
 
 -- the text is the lines of the values, one after another
-pub record AreLinesOf (values : List Data) (text : List ℕ) : Type 0 where
+pub record AreLinesOf (values : List Json) (text : List ℕ) : Type 0 where
   pub lines : List (List ℕ)
   pub each : AllZip IsLineOf values lines
   pub whole : text ≡ concat lines
 
 -- the sink took the line; a first part of it, where it failed; or nothing, where memory ran out
-abbrev pub WroteLine : {T : Type 0} → Result T ShowFault → Data → SinkState → SinkState → Type 0
+abbrev pub WroteLine : {T : Type 0} → Result T ShowFault → Json → SinkState → SinkState → Type 0
 WroteLine (Ok v) value old new = (text : List ℕ) × IsLineOf value text × Takes text old new
 WroteLine (Err Write) value old new = (text : List ℕ) × IsLineOf value text × StopsIn text old new
 WroteLine (Err OutOfMemory) value old new = new ≡ old
 
 -- the text is the lines of some values
 abbrev pub AreLines : List ℕ → Type 0
-AreLines text = (values : List Data) × AreLinesOf values text
+AreLines text = (values : List Json) × AreLinesOf values text
 
 -- this holds of some lines
 abbrev pub OfLines : (List ℕ → Type 0) → Type 0

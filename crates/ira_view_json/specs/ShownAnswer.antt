@@ -1,12 +1,12 @@
 -- What is written of good logs: an answer, and lines after it.
 use Rattle.std.specs.Prelude.{◌≡◌, ◌⊎◌, ℕ, List, ◌∷◌, Option, Some, None, Result, Ok, Err, codes}
-use Rattle.serde_json.specs.Data.{Data, Members, null, object, put}
+use Rattle.json.specs.Json.{Json, Members, null, object}
 use Rattle.ira_event.specs.Sink.{SinkState, StopsIn, Takes}
 use Rattle.ira_view_page.specs.declared.show_fault.ShowFault.{ShowFault}
 use Rattle.ira_view_page.specs.declared.show_fault.ShowFault.TheVariants.{OutOfMemory, Write}
 use Rattle.ira_view_moment.specs.Told.{Told, at_cut, at_end, of_case, unmet}
 use Rattle.ira_view_json.specs.Line.{AreLinesOf}
-use Rattle.ira_view_json.specs.Members.{naturals, with_number, with_words}
+use Rattle.ira_view_json.specs.Members.{naturals, put, with_number, with_words}
 
 -- members, and how many events each node has made; null where there is no such moment
 abbrev pub with_cut : Option (List ℕ) → Members → Members
@@ -21,7 +21,7 @@ with_moment (of_case number case) cut members = with_cut cut (with_number (codes
 with_moment (unmet number) cut members = with_cut cut members
 
 -- the value is an object that says yes, with this status and this moment
-abbrev pub IsYes : ℕ → Told → Option (List ℕ) → Data → Type 0
+abbrev pub IsYes : ℕ → Told → Option (List ℕ) → Json → Type 0
 IsYes status told cut value =
     (others : Members)
     × (value ≡ object (with_words (codes "answer") (codes "yes")
@@ -29,8 +29,8 @@ IsYes status told cut value =
 
 -- the text is the line of a yes with this status and this moment, and then lines
 pub record IsRingText (status : ℕ) (told : Told) (cut : Option (List ℕ)) (text : List ℕ) : Type 0 where
-  pub first : Data
-  pub rest : List Data
+  pub first : Json
+  pub rest : List Json
   pub answer : IsYes status told cut first
   pub lines : AreLinesOf (first ∷ rest) text
 

@@ -1,12 +1,12 @@
 -- What the state of a node is as JSON.
 use Rattle.std.specs.Prelude.{ℕ, Option, Some, None, codes, nat_eq, if◌then◌else◌}
-use Rattle.serde_json.specs.Data.{Members, boolean, no_members, object, put}
+use Rattle.json.specs.Json.{Members, boolean, no_members, object}
 use Rattle.ira_event.specs.declared.load.Load.{Load}
 use Rattle.ira_event.specs.declared.load.Load.TheVariants.{Msg as Message, Reset}
 use Rattle.ira_node.specs.declared.node_state.NodeState.{NodeState}
 use Rattle.ira_node.specs.declared.phase.Phase.{Phase}
 use Rattle.ira_node.specs.declared.phase.Phase.TheVariants.{Choosing, Active, Passive, Leader, Yielding}
-use Rattle.ira_view_json.specs.Members.{with_number, with_words}
+use Rattle.ira_view_json.specs.Members.{put, with_number, with_words}
 
 -- members, and what is sent: the fields of a message, or the hop of a reset
 abbrev pub with_load : Load → Members → Members

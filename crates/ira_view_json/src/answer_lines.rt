@@ -1,6 +1,6 @@
 ghost use Rattle.std.specs.Prelude.{◌∷◌, IfOk, map, string_bytes};
 ghost use Rattle.std.specs.List.{enumerate_from};
-ghost use Rattle.serde_json.specs.View.{view};
+ghost use Rattle.ira_view_json.specs.View.{view};
 ghost use Rattle.ira_audit.specs.Findings.{AreReportable};
 ghost use Rattle.ira_audit.specs.Report.{IsReportable};
 ghost use Rattle.ira_view_json.specs.AnswerValue.{answer_value, cases_values};
@@ -13,58 +13,65 @@ use crate::answer_values::{
 };
 use crate::explained::explained_value;
 use crate::line::line_of;
+use crate::value::Value;
 use ira_audit::{Answer, DecidedCases, Findings};
 use ira_elim::Found;
 use ira_event::OutOfMemory;
 use ira_view_page::{AskedCase, Explanation};
-use serde_json::Value;
-use std::alloc::{Allocator, Global};
+use std::alloc::Allocator;
 
 /// The line of an answer, with the status that goes with it. The answer must not say that memory ran out.
-pub fn answer_line(alloc: Global, answer: &Answer, status: u8) -> Result<String, OutOfMemory>
+pub fn answer_line<A: Allocator + Clone>(
+    alloc: A,
+    answer: &Answer,
+    status: u8,
+) -> Result<String<A>, OutOfMemory>
     requires { IsReportable answer.now }
     ensures { IfOk result (λ text. IsLineOf (answer_value status answer.now) (string_bytes text)) }
 {
-    line_of(alloc, &answer_value(alloc, answer, status)?)
+    let value = answer_value(&alloc, answer, status)?;
+    line_of(alloc, &value)
 }
 
 /// The line of an answer with its reason and what it rests on, and the status that goes with it. The answer must not
 /// say that memory ran out.
-pub fn explained_line<A: Allocator>(
-    alloc: Global,
+pub fn explained_line<A: Allocator + Clone, B: Allocator>(
+    alloc: A,
     answer: &Answer,
     status: u8,
-    explanation: &Explanation<A>,
-) -> Result<String, OutOfMemory>
+    explanation: &Explanation<B>,
+) -> Result<String<A>, OutOfMemory>
     requires { IsReportable answer.now }
     ensures { IfOk result (λ text. IsLineOf (explained_value status answer.now explanation.now) (string_bytes text)) }
 {
-    line_of(alloc, &explained_value(alloc, answer, status, explanation)?)
+    let value = explained_value(&alloc, answer, status, explanation)?;
+    line_of(alloc, &value)
 }
 
 /// The line of a case, with what it asks where it is one of those that are explained.
-fn case_line<A: Allocator, B: Allocator>(
-    alloc: Global,
+fn case_line<A: Allocator + Clone, B: Allocator, C: Allocator>(
+    alloc: &A,
     case: u64,
-    found: &Found<B>,
-    explained: &[AskedCase<A>],
-) -> Result<String, OutOfMemory>
+    found: &Found<C>,
+    explained: &[AskedCase<B>],
+) -> Result<String<A>, OutOfMemory>
     ensures { IfOk result (λ text. IsLineOf (explained_case explained.now (case, found.now)) (string_bytes text)) }
 {
-    line_of(alloc, &explained_case(alloc, case, found, explained)?)
+    let value = explained_case(alloc, case, found, explained)?;
+    line_of(alloc.clone()?, &value)
 }
 
 /// The line of a value, and those of cases after it.
-fn explained_cases_lines<A: Allocator, B: Allocator>(
-    alloc: Global,
-    first: &Value,
-    found: &[Found<B>],
-    explained: &[AskedCase<A>],
-) -> Result<String, OutOfMemory>
+fn explained_cases_lines<A: Allocator + Clone, B: Allocator, C: Allocator>(
+    alloc: &A,
+    first: &Value<A>,
+    found: &[Found<C>],
+    explained: &[AskedCase<B>],
+) -> Result<String<A>, OutOfMemory>
     ensures { IfOk result (λ text. AreLinesOf
         (view first.now ∷ map (explained_case explained.now) (enumerate_from 0 found.now)) (string_bytes text)) }
 {
-    let mut text = line_of(alloc, first)?;
+    let mut text = line_of(alloc.clone()?, first)?;
     for (case, found) in found.iter().enumerate() {
         text.push_str(case_line(alloc, case as u64, found, explained)?.as_str())?;
     }
@@ -73,19 +80,20 @@ fn explained_cases_lines<A: Allocator, B: Allocator>(
 
 /// The lines of what is found for the cases of a question, with the status that goes with it: one for all of them, and
 /// one for each.
-pub fn cases_lines<A: Allocator>(
-    alloc: Global,
-    decided: &DecidedCases<A>,
+pub fn cases_lines<A: Allocator + Clone, B: Allocator>(
+    alloc: A,
+    decided: &DecidedCases<B>,
     status: u8,
-) -> Result<String, OutOfMemory>
+) -> Result<String<A>, OutOfMemory>
     ensures { IfOk result (λ text. AreLinesOf
         (cases_values decided.now.nodes status decided.now.cases.items) (string_bytes text)) }
 {
     let cases = decided.cases.as_slice();
-    let first = cases_value(alloc, cases, decided.nodes.get(), status)?;
-    let mut text = line_of(alloc, &first)?;
+    let first = cases_value(&alloc, cases, decided.nodes.get(), status)?;
+    let mut text = line_of(alloc.clone()?, &first)?;
     for (case, decided) in cases.iter().enumerate() {
-        let line = line_of(alloc, &case_value(alloc, case as u64, decided)?)?;
+        let value = case_value(&alloc, case as u64, decided)?;
+        let line = line_of(alloc.clone()?, &value)?;
         text.push_str(line.as_str())?;
     }
     Ok(text)
@@ -94,12 +102,12 @@ pub fn cases_lines<A: Allocator>(
 /// The lines of findings with what they rest on, and the status that goes with them: for a refusal that of its answer
 /// with its reason, else one for the decision, and one for each case, with what it asks where it is explained. The
 /// reason must not say that memory ran out.
-pub fn explained_findings_lines<A: Allocator, B: Allocator>(
-    alloc: Global,
-    findings: &Findings<B>,
+pub fn explained_findings_lines<A: Allocator + Clone, B: Allocator, C: Allocator>(
+    alloc: A,
+    findings: &Findings<C>,
     status: u8,
-    explanation: &Explanation<A>,
-) -> Result<String, OutOfMemory>
+    explanation: &Explanation<B>,
+) -> Result<String<A>, OutOfMemory>
     requires { AreReportable findings.now }
     ensures { IfOk result (λ text. AreLinesOf
         (explained_findings status findings.now explanation.now) (string_bytes text)) }
@@ -109,8 +117,8 @@ pub fn explained_findings_lines<A: Allocator, B: Allocator>(
             explained_line(alloc, &Answer::No(*reason), status, explanation)
         }
         Findings::Cases { found, .. } => {
-            let decision = explained_decision(alloc, found, status, explanation)?;
-            explained_cases_lines(alloc, &decision, found, &explanation.cases)
+            let decision = explained_decision(&alloc, found, status, explanation)?;
+            explained_cases_lines(&alloc, &decision, found, &explanation.cases)
         }
     }
 }

@@ -1,7 +1,8 @@
 ghost use Rattle.std.specs.Prelude.{◌≡◌, IfOk, map, nat_eq, option_map};
 ghost use Rattle.std.specs.List.{find, list_any};
-ghost use Rattle.serde_json.specs.Data.{array, string};
-ghost use Rattle.serde_json.specs.View.{items_of, view};
+ghost use Rattle.json.specs.Json.{array, string};
+ghost use Rattle.json.specs.Value.{items_of};
+ghost use Rattle.ira_view_json.specs.View.{view};
 ghost use Rattle.ira_audit.specs.Findings.{is_present};
 ghost use Rattle.ira_audit.specs.Report.{IsReportable};
 ghost use Rattle.ira_view_json.specs.AnswerValue.{absent_members, answer_members, answer_value, answer_words, case_value, decided_members, decision_value, decision_word, found_members, is_met, present_members, worded_members};
@@ -9,49 +10,53 @@ ghost use Rattle.ira_view_json.specs.ExplainedFindings.{ask_value, explained_cas
 ghost use Rattle.ira_view_json.specs.Object.{Holds, Puts};
 
 use crate::object::Object;
+use crate::value::Value;
 use crate::values::numbers_value;
 use ira_audit::{Answer, write_report};
 use ira_elim::{Decided, Found, StepCount};
 use ira_event::{MemorySink, OutOfMemory};
 use ira_view_page::{AskedCase, AskedNode, Explanation};
-use serde_json::Value;
-use std::alloc::{Allocator, Global};
+use std::alloc::Allocator;
 use std::str;
 
 /// The line of an answer, without its line feed.
-fn answer_words(alloc: Global, answer: &Answer) -> Result<Value, OutOfMemory>
+fn answer_words<A: Allocator + Clone>(alloc: &A, answer: &Answer) -> Result<Value<A>, OutOfMemory>
     requires { IsReportable answer.now }
     ensures { IfOk result (λ value. view value ≡ string (answer_words answer.now)) }
 {
-    let mut line = MemorySink::new(alloc);
+    let mut line = MemorySink::new(alloc.clone()?);
     let Ok(()) = write_report(answer, &mut line) else {
         return Err(OutOfMemory);
     };
     let line = line.bytes();
     match str::from_utf8(&line[..line.len() - 1]) {
-        Ok(words) => Ok(Value::try_from_str(alloc, words)?),
+        Ok(words) => Value::copied(alloc, words),
         Err(_) => unreachable!(),
     }
 }
 
 /// An answer, and the status that goes with it.
-pub(crate) fn answered(alloc: Global, answer: &Answer, status: u8) -> Object
+pub(crate) fn answered<A: Allocator + Clone>(alloc: A, answer: &Answer, status: u8) -> Object<A>
     requires { IsReportable answer.now }
     ensures { Holds (answer_members status answer.now) result }
 {
     let mut object = Object::of(alloc, "answer");
-    object.value("answer", answer_words(alloc, answer));
+    object.value("answer", answer_words(object.alloc(), answer));
     object.number("status", status as u64);
     object.number("version", 1);
     object
 }
 
 /// The value of an answer, with the status that goes with it.
-pub(crate) fn answer_value(alloc: Global, answer: &Answer, status: u8) -> Result<Value, OutOfMemory>
+pub(crate) fn answer_value<A: Allocator + Clone>(
+    alloc: &A,
+    answer: &Answer,
+    status: u8,
+) -> Result<Value<A>, OutOfMemory>
     requires { IsReportable answer.now }
     ensures { IfOk result (λ value. view value ≡ answer_value status answer.now) }
 {
-    answered(alloc, answer, status).finish()
+    answered(alloc.clone()?, answer, status).finish()
 }
 
 /// What is found for all cases, in a word.
@@ -78,7 +83,7 @@ fn has_met<A: Allocator>(cases: &[Decided<StepCount, A>]) -> bool
 }
 
 /// What is found for all cases, and the status that goes with it.
-fn decided(alloc: Global, is_present: bool, status: u8) -> Object
+fn decided<A: Allocator>(alloc: A, is_present: bool, status: u8) -> Object<A>
     ensures { Holds (worded_members (decision_word is_present) status) result }
 {
     let mut object = Object::of(alloc, "answer");
@@ -89,37 +94,37 @@ fn decided(alloc: Global, is_present: bool, status: u8) -> Object
 }
 
 /// What is found for the cases of a question about a ring of so many nodes, and the status that goes with it.
-pub(crate) fn cases_value<A: Allocator>(
-    alloc: Global,
-    cases: &[Decided<StepCount, A>],
+pub(crate) fn cases_value<A: Allocator + Clone, B: Allocator>(
+    alloc: &A,
+    cases: &[Decided<StepCount, B>],
     nodes: u8,
     status: u8,
-) -> Result<Value, OutOfMemory>
+) -> Result<Value<A>, OutOfMemory>
     ensures { IfOk result (λ value.
         view value ≡ decision_value (decision_word (list_any is_met cases.now)) nodes status) }
 {
-    let mut object = decided(alloc, has_met(cases), status);
+    let mut object = decided(alloc.clone()?, has_met(cases), status);
     object.number("nodes", nodes as u64);
     object.finish()
 }
 
 /// What is found for all cases, and what that rests on, with the status that goes with it.
-pub(crate) fn explained_decision<A: Allocator, B: Allocator>(
-    alloc: Global,
-    found: &[Found<B>],
+pub(crate) fn explained_decision<A: Allocator + Clone, B: Allocator, C: Allocator>(
+    alloc: &A,
+    found: &[Found<C>],
     status: u8,
-    explanation: &Explanation<A>,
-) -> Result<Value, OutOfMemory>
+    explanation: &Explanation<B>,
+) -> Result<Value<A>, OutOfMemory>
     ensures { IfOk result (λ value. view value ≡ explained_decision status found.now explanation.now) }
 {
-    let mut object = decided(alloc, has_present(found), status);
+    let mut object = decided(alloc.clone()?, has_present(found), status);
     object.null("reason");
     object.explanation(explanation);
     object.finish()
 }
 
 /// That a case is absent, by a section of so many steps that spends this node.
-fn absent(alloc: Global, case: u64, steps: u64, spent: u8) -> Object
+fn absent<A: Allocator>(alloc: A, case: u64, steps: u64, spent: u8) -> Object<A>
     ensures { Holds (absent_members case steps spent) result }
 {
     let mut object = Object::of(alloc, "case");
@@ -131,18 +136,18 @@ fn absent(alloc: Global, case: u64, steps: u64, spent: u8) -> Object
 }
 
 /// That a case is present, at this cut.
-fn present(alloc: Global, case: u64, cut: &[u32]) -> Object
+fn present<A: Allocator + Clone>(alloc: A, case: u64, cut: &[u32]) -> Object<A>
     ensures { Holds (present_members case cut.now) result }
 {
     let mut object = Object::of(alloc, "case");
     object.number("case", case);
-    object.value("cut", numbers_value(alloc, cut));
+    object.value("cut", numbers_value(object.alloc(), cut));
     object.words("found", "present");
     object
 }
 
 /// What is found for the case of this number.
-fn found_for<A: Allocator>(alloc: Global, case: u64, found: &Found<A>) -> Object
+fn found_for<A: Allocator + Clone, B: Allocator>(alloc: A, case: u64, found: &Found<B>) -> Object<A>
     ensures { Holds (found_members case found.now) result }
 {
     match found {
@@ -152,17 +157,21 @@ fn found_for<A: Allocator>(alloc: Global, case: u64, found: &Found<A>) -> Object
 }
 
 /// What is found for the case of this number, with its steps counted.
-pub(crate) fn case_value<A: Allocator>(
-    alloc: Global,
+pub(crate) fn case_value<A: Allocator + Clone, B: Allocator>(
+    alloc: &A,
     case: u64,
-    decided: &Decided<StepCount, A>,
-) -> Result<Value, OutOfMemory>
+    decided: &Decided<StepCount, B>,
+) -> Result<Value<A>, OutOfMemory>
     ensures { IfOk result (λ value. view value ≡ case_value (case, decided.now)) }
 {
-    decided_for(alloc, case, decided).finish()
+    decided_for(alloc.clone()?, case, decided).finish()
 }
 
-fn decided_for<A: Allocator>(alloc: Global, case: u64, decided: &Decided<StepCount, A>) -> Object
+fn decided_for<A: Allocator + Clone, B: Allocator>(
+    alloc: A,
+    case: u64,
+    decided: &Decided<StepCount, B>,
+) -> Object<A>
     ensures { Holds (decided_members case decided.now) result }
 {
     match decided {
@@ -172,10 +181,13 @@ fn decided_for<A: Allocator>(alloc: Global, case: u64, decided: &Decided<StepCou
 }
 
 /// What a case asks of a node.
-fn ask_value<A: Allocator>(alloc: Global, ask: &AskedNode<A>) -> Result<Value, OutOfMemory>
+fn ask_value<A: Allocator + Clone, B: Allocator>(
+    alloc: &A,
+    ask: &AskedNode<B>,
+) -> Result<Value<A>, OutOfMemory>
     ensures { IfOk result (λ value. view value ≡ ask_value ask.now) }
 {
-    let mut object = Object::new(alloc);
+    let mut object = Object::new(alloc.clone()?);
     object.number("node", ask.node as u64);
     object.string("clause", &ask.clause);
     object.number("line", ask.line as u64);
@@ -183,10 +195,13 @@ fn ask_value<A: Allocator>(alloc: Global, ask: &AskedNode<A>) -> Result<Value, O
 }
 
 /// What a case asks, in a list.
-fn asks_list<A: Allocator>(alloc: Global, asks: &[AskedNode<A>]) -> Result<Value, OutOfMemory>
+fn asks_list<A: Allocator + Clone, B: Allocator>(
+    alloc: &A,
+    asks: &[AskedNode<B>],
+) -> Result<Value<A>, OutOfMemory>
     ensures { IfOk result (λ value. view value ≡ array (items_of (map ask_value asks.now))) }
 {
-    let mut list = Vec::with_capacity(alloc, asks.len())?;
+    let mut list = Vec::with_capacity(alloc.clone()?, asks.len())?;
     for ask in asks {
         list.push(ask_value(alloc, ask)?)?;
     }
@@ -200,9 +215,9 @@ fn asked_case<A: Allocator>(explained: &[AskedCase<A>], number: u64) -> Option<&
     explained.iter().find(|asked| asked.number as u64 == number)
 }
 
-impl Object {
+impl<A: Allocator + Clone> Object<A> {
     /// Puts what a case asks, where it is one that is explained.
-    fn asks<A: Allocator>(&mut self, asked: Option<&AskedCase<A>>)
+    fn asks<B: Allocator>(&mut self, asked: Option<&AskedCase<B>>)
         ensures { Puts (with_asks (option_map (λ asked. asked.now) asked.entry)) self.old self.new }
     {
         if let Some(asked) = asked {
@@ -212,15 +227,15 @@ impl Object {
 }
 
 /// What is found for the case of this number; and what it asks, where it is one of those that are explained.
-pub(crate) fn explained_case<A: Allocator, B: Allocator>(
-    alloc: Global,
+pub(crate) fn explained_case<A: Allocator + Clone, B: Allocator, C: Allocator>(
+    alloc: &A,
     case: u64,
-    found: &Found<B>,
-    explained: &[AskedCase<A>],
-) -> Result<Value, OutOfMemory>
+    found: &Found<C>,
+    explained: &[AskedCase<B>],
+) -> Result<Value<A>, OutOfMemory>
     ensures { IfOk result (λ value. view value ≡ explained_case explained.now (case, found.now)) }
 {
-    let mut object = found_for(alloc, case, found);
+    let mut object = found_for(alloc.clone()?, case, found);
     object.asks(asked_case(explained, case));
     object.finish()
 }

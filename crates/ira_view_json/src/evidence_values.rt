@@ -1,20 +1,21 @@
 ghost use Rattle.std.specs.Prelude.{◌≡◌, IfOk, codes, map, string_bytes};
-ghost use Rattle.serde_json.specs.Data.{array};
-ghost use Rattle.serde_json.specs.View.{items_of, view};
+ghost use Rattle.json.specs.Json.{array, string};
+ghost use Rattle.json.specs.Value.{items_of};
+ghost use Rattle.ira_view_json.specs.View.{view};
 ghost use Rattle.ira_view_json.specs.EvidenceValue.{evidence_value, remark_key, role_of, with_carets, with_first, with_front, with_head, with_line, with_other, with_place, with_record, with_step, with_told};
 ghost use Rattle.ira_view_json.specs.Members.{with_words};
 ghost use Rattle.ira_view_json.specs.Object.{Puts};
 ghost use Rattle.ira_view_page.specs.Words.{event_text};
 
 use crate::object::Object;
+use crate::value::Value;
 use ira_cert_text::CertStep;
 use ira_event::{Event, OutOfMemory};
 use ira_node::{NodeState, StepFault};
 use ira_view_page::{
     Carets, Evidence, Front, HeadRow, Page, QuotedLine, RecordAt, Remark, line_of,
 };
-use serde_json::Value;
-use std::alloc::{Allocator, Global};
+use std::alloc::Allocator;
 
 fn remark_key(remark: Remark) -> &'static str
     ensures { result.now ≡ remark_key remark }
@@ -42,17 +43,15 @@ fn role_of<A: Allocator>(evidence: &Evidence<A>) -> &'static str
     }
 }
 
-impl Object {
+impl<A: Allocator + Clone> Object<A> {
     /// Puts the record of an event, as logs spell it.
     pub(crate) fn event(&mut self, event: Event)
         ensures { Puts (with_words (codes "record") (event_text event)) self.old self.new }
     {
-        let mut record = Page::new(self.alloc());
-        record.event(event);
-        self.text("record", record);
+        self.value("record", record_value(self.alloc(), event));
     }
 
-    fn record<A: Allocator>(&mut self, event: &RecordAt<A>)
+    fn record<B: Allocator>(&mut self, event: &RecordAt<B>)
         ensures { Puts (with_record event.now) self.old self.new }
     {
         self.number("node", event.at.place as u64);
@@ -62,7 +61,7 @@ impl Object {
         self.event(event.event);
     }
 
-    fn carets<A: Allocator>(&mut self, carets: &Option<Carets<A>>)
+    fn carets<B: Allocator>(&mut self, carets: &Option<Carets<B>>)
         ensures { Puts (with_carets carets.now) self.old self.new }
     {
         if let Some(carets) = carets {
@@ -71,7 +70,7 @@ impl Object {
         }
     }
 
-    fn line<A: Allocator>(&mut self, line: &QuotedLine<A>)
+    fn line<B: Allocator>(&mut self, line: &QuotedLine<B>)
         ensures { Puts (with_line line.now) self.old self.new }
     {
         self.string("file", &line.file);
@@ -80,7 +79,7 @@ impl Object {
         self.carets(&line.carets);
     }
 
-    fn head<A: Allocator>(&mut self, row: &HeadRow<A>)
+    fn head<B: Allocator>(&mut self, row: &HeadRow<B>)
         ensures { Puts (with_head row.now) self.old self.new }
     {
         self.number("log", row.log as u64);
@@ -90,7 +89,7 @@ impl Object {
         self.number("version", row.version as u64);
     }
 
-    fn place<A: Allocator>(&mut self, file: &String<A>, line: usize, node: u8)
+    fn place<B: Allocator>(&mut self, file: &String<B>, line: usize, node: u8)
         ensures { Puts (with_place (string_bytes file.now) line node) self.old self.new }
     {
         self.string("file", file);
@@ -123,7 +122,7 @@ impl Object {
         self.first(front.first);
     }
 
-    fn other<A: Allocator>(&mut self, event: &RecordAt<A>, fault: StepFault, happened_before: bool)
+    fn other<B: Allocator>(&mut self, event: &RecordAt<B>, fault: StepFault, happened_before: bool)
         ensures { Puts (with_other event.now fault happened_before) self.old self.new }
     {
         self.record(event);
@@ -132,7 +131,7 @@ impl Object {
     }
 
     /// Puts what is told of a thing that an answer rests on.
-    fn told<A: Allocator>(&mut self, evidence: &Evidence<A>)
+    fn told<B: Allocator>(&mut self, evidence: &Evidence<B>)
         ensures { Puts (with_told evidence.now) self.old self.new }
     {
         match evidence {
@@ -155,24 +154,36 @@ impl Object {
     }
 }
 
+/// The record of an event, as logs spell it.
+fn record_value<A: Allocator + Clone>(alloc: &A, event: Event) -> Result<Value<A>, OutOfMemory>
+    ensures { IfOk result (λ value. view value ≡ string (event_text event)) }
+{
+    let mut record = Page::new(alloc.clone()?);
+    record.event(event);
+    Ok(Value::Text(record.finish()?.into_string()))
+}
+
 /// One thing that an answer rests on.
-fn evidence_value<A: Allocator>(alloc: Global, evidence: &Evidence<A>) -> Result<Value, OutOfMemory>
+fn evidence_value<A: Allocator + Clone, B: Allocator>(
+    alloc: &A,
+    evidence: &Evidence<B>,
+) -> Result<Value<A>, OutOfMemory>
     ensures { IfOk result (λ value. view value ≡ evidence_value evidence.now) }
 {
-    let mut object = Object::new(alloc);
+    let mut object = Object::new(alloc.clone()?);
     object.words("role", role_of(evidence));
     object.told(evidence);
     object.finish()
 }
 
 /// All that an answer rests on, in a list.
-pub(crate) fn evidence_list<A: Allocator>(
-    alloc: Global,
-    evidence: &[Evidence<A>],
-) -> Result<Value, OutOfMemory>
+pub(crate) fn evidence_list<A: Allocator + Clone, B: Allocator>(
+    alloc: &A,
+    evidence: &[Evidence<B>],
+) -> Result<Value<A>, OutOfMemory>
     ensures { IfOk result (λ value. view value ≡ array (items_of (map evidence_value evidence.now))) }
 {
-    let mut list = Vec::with_capacity(alloc, evidence.len())?;
+    let mut list = Vec::with_capacity(alloc.clone()?, evidence.len())?;
     for item in evidence {
         list.push(evidence_value(alloc, item)?)?;
     }

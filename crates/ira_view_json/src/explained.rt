@@ -1,6 +1,7 @@
 ghost use Rattle.std.specs.Prelude.{◌≡◌, IfOk, map};
-ghost use Rattle.serde_json.specs.Data.{array};
-ghost use Rattle.serde_json.specs.View.{items_of, view};
+ghost use Rattle.json.specs.Json.{array};
+ghost use Rattle.json.specs.Value.{items_of};
+ghost use Rattle.ira_view_json.specs.View.{view};
 ghost use Rattle.ira_audit.specs.Report.{IsReportable, IsReportableReason};
 ghost use Rattle.ira_view_json.specs.ExplainedValue.{explained_value, hint_value, with_evidence, with_explanation, with_fault, with_hints, with_match_fault, with_numbered, with_reason, with_reason_of, with_receipt, with_ring, with_said, with_section_fault, with_sections, with_state_before, with_step_fault};
 ghost use Rattle.ira_view_json.specs.Object.{Puts};
@@ -8,18 +9,19 @@ ghost use Rattle.ira_view_json.specs.Object.{Puts};
 use crate::answer_values::answered;
 use crate::evidence_values::evidence_list;
 use crate::object::Object;
+use crate::value::Value;
+use crate::values::state_value;
 use ira_audit::{Answer, Reason};
 use ira_cert::SectionFault;
 use ira_event::{FaultWords, OutOfMemory};
 use ira_node::{NodeState, StepFault};
 use ira_order::MatchFault;
 use ira_view_page::{Evidence, Explanation, RingCounts};
-use serde_json::Value;
-use std::alloc::{Allocator, Global};
+use std::alloc::Allocator;
 
-impl Object {
+impl<A: Allocator + Clone> Object<A> {
     /// Puts of which kind the reason is, and what is wrong.
-    fn fault(&mut self, reason: &str, fault: &str)
+    fn fault(&mut self, reason: &'static str, fault: &'static str)
         ensures { Puts (with_fault reason.now fault.now) self.old self.new }
     {
         self.words("reason", reason);
@@ -27,7 +29,13 @@ impl Object {
     }
 
     /// The same, with a number.
-    fn numbered(&mut self, reason: &str, fault: &str, key: &str, number: u64)
+    fn numbered(
+        &mut self,
+        reason: &'static str,
+        fault: &'static str,
+        key: &'static str,
+        number: u64,
+    )
         ensures { Puts (with_numbered reason.now fault.now key.now number) self.old self.new }
     {
         self.fault(reason, fault);
@@ -35,7 +43,7 @@ impl Object {
     }
 
     /// Puts of which kind the reason is, and what is said of a fault; its number by this key.
-    fn said(&mut self, reason: &str, key: &str, said: FaultWords)
+    fn said(&mut self, reason: &'static str, key: &'static str, said: FaultWords)
         ensures { Puts (with_said reason.now key.now said) self.old self.new }
     {
         match said.number {
@@ -44,7 +52,7 @@ impl Object {
         }
     }
 
-    fn receipt(&mut self, link: u64, k: u64, fault: &str)
+    fn receipt(&mut self, link: u64, k: u64, fault: &'static str)
         ensures { Puts (with_receipt link k fault.now) self.old self.new }
     {
         self.number("link", link);
@@ -141,13 +149,11 @@ impl Object {
         ensures { Puts (with_state_before state) self.old self.new }
     {
         if let Some(state) = state {
-            let mut before = Object::new(self.alloc());
-            before.state(state);
-            self.value("state_before", before.finish());
+            self.value("state_before", state_value(self.alloc(), state));
         }
     }
 
-    fn evidence<A: Allocator>(&mut self, evidence: &[Evidence<A>])
+    fn evidence<B: Allocator>(&mut self, evidence: &[Evidence<B>])
         ensures { Puts (with_evidence evidence.now) self.old self.new }
     {
         if evidence.is_empty() {
@@ -156,14 +162,14 @@ impl Object {
         self.value("evidence", evidence_list(self.alloc(), evidence));
     }
 
-    fn hints<A: Allocator>(&mut self, hints: &[String<A>])
+    fn hints<B: Allocator>(&mut self, hints: &[String<B>])
         ensures { Puts (with_hints hints.now) self.old self.new }
     {
         self.value("hints", hints_list(self.alloc(), hints));
     }
 
     /// Puts what an answer rests on.
-    pub(crate) fn explanation<A: Allocator>(&mut self, explanation: &Explanation<A>)
+    pub(crate) fn explanation<B: Allocator>(&mut self, explanation: &Explanation<B>)
         ensures { Puts (with_explanation explanation.now) self.old self.new }
     {
         self.ring(explanation.ring);
@@ -174,27 +180,30 @@ impl Object {
 }
 
 /// Usual causes, in a list.
-fn hints_list<A: Allocator>(alloc: Global, hints: &[String<A>]) -> Result<Value, OutOfMemory>
+fn hints_list<A: Allocator + Clone, B: Allocator>(
+    alloc: &A,
+    hints: &[String<B>],
+) -> Result<Value<A>, OutOfMemory>
     ensures { IfOk result (λ value. view value ≡ array (items_of (map hint_value hints.now))) }
 {
-    let mut list = Vec::with_capacity(alloc, hints.len())?;
+    let mut list = Vec::with_capacity(alloc.clone()?, hints.len())?;
     for hint in hints {
-        list.push(Value::try_from_str(alloc, hint.as_str())?)?;
+        list.push(Value::copied(alloc, hint.as_str())?)?;
     }
     Ok(Value::Array(list))
 }
 
 /// An answer with its reason and what it rests on, and the status that goes with it.
-pub(crate) fn explained_value<A: Allocator>(
-    alloc: Global,
+pub(crate) fn explained_value<A: Allocator + Clone, B: Allocator>(
+    alloc: &A,
     answer: &Answer,
     status: u8,
-    explanation: &Explanation<A>,
-) -> Result<Value, OutOfMemory>
+    explanation: &Explanation<B>,
+) -> Result<Value<A>, OutOfMemory>
     requires { IsReportable answer.now }
     ensures { IfOk result (λ value. view value ≡ explained_value status answer.now explanation.now) }
 {
-    let mut object = answered(alloc, answer, status);
+    let mut object = answered(alloc.clone()?, answer, status);
     object.reason_of(answer);
     object.explanation(explanation);
     object.finish()

@@ -15,11 +15,11 @@ mod moment_lines;
 mod object;
 mod ring_lines;
 mod shown_answer;
+mod value;
 mod values;
 
 pub use answer_lines::{answer_line, cases_lines, explained_findings_lines, explained_line};
 pub use folder_lines::{folder_answer_line, unread_line};
-pub use line::write_line;
 pub use log_lines::log_line;
 pub use ring_lines::write_ring;
 pub use shown_answer::ShownAnswer;

@@ -1,26 +1,51 @@
 ghost use Rattle.std.specs.Prelude.{IfOk, string_bytes};
-ghost use Rattle.serde_json.specs.View.{view};
+ghost use Rattle.std.specs.Str.{IsUtf8};
 ghost use Rattle.ira_view_json.specs.Line.{IsLineOf, WroteLine};
+ghost use Rattle.ira_view_json.specs.View.{view};
 
+use crate::value::Value;
 use ira_event::{OutOfMemory, Sink, write_bytes};
 use ira_view_page::ShowFault;
-use serde_json::Value;
-use std::alloc::Global;
+use json::Writer;
+use std::alloc::Allocator;
+
+/// Room for most lines.
+const LINE: usize = 256;
+
+/// The line of a value, as bytes.
+pub(crate) fn line_bytes<A: Allocator>(
+    alloc: A,
+    value: &Value<A>,
+) -> Result<Vec<u8, A>, OutOfMemory>
+    ensures line { IfOk result (λ line. IsLineOf (view value.now) line.items) }
+    ensures utf8 { IfOk result (λ line. IsUtf8 line.items) }
+{
+    let mut writer = Writer::new(Vec::with_capacity(alloc, LINE)?);
+    value.write(&mut writer)?;
+    let mut line = writer.into_inner();
+    line.push(b'\n')?;
+    Ok(line)
+}
 
 /// The line of a value.
-pub(crate) fn line_of(alloc: Global, value: &Value) -> Result<String, OutOfMemory>
+pub(crate) fn line_of<A: Allocator>(alloc: A, value: &Value<A>) -> Result<String<A>, OutOfMemory>
     ensures { IfOk result (λ text. IsLineOf (view value.now) (string_bytes text)) }
 {
-    let mut text = value.to_string(alloc)?;
-    text.push_str("\n")?;
-    Ok(text)
+    match String::from_utf8(line_bytes(alloc, value)?) {
+        Ok(line) => Ok(line),
+        Err(_) => unreachable!(),
+    }
 }
 
 /// Writes a value as a line. Where memory runs out nothing was written.
-pub fn write_line<W: Sink>(alloc: Global, value: &Value, sink: &mut W) -> Result<(), ShowFault>
+pub(crate) fn write_line<A: Allocator, W: Sink>(
+    alloc: A,
+    value: &Value<A>,
+    sink: &mut W,
+) -> Result<(), ShowFault>
     ensures { WroteLine result (view value.now) (W.state sink.old) (W.state sink.new) }
 {
-    let text = line_of(alloc, value)?;
-    write_bytes(text.as_bytes(), sink)?;
+    let line = line_bytes(alloc, value)?;
+    write_bytes(&line, sink)?;
     Ok(())
 }

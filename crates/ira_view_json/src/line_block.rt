@@ -1,10 +1,10 @@
 ghost use Rattle.ira_view_json.specs.Line.{WroteLines};
 
-use crate::line::line_of;
+use crate::line::line_bytes;
+use crate::value::Value;
 use ira_event::{Sink, write_bytes};
 use ira_view_page::ShowFault;
-use serde_json::Value;
-use std::alloc::Global;
+use std::alloc::Allocator;
 use std::marker::Model;
 
 /// When so many bytes of lines are put together they are written.
@@ -12,37 +12,35 @@ const BLOCK: usize = 65_536;
 
 /// Lines that are put together before they are written. Contracts see their text.
 #[derive(Drop)]
-pub(crate) struct LineBlock {
-    alloc: Global,
-    text: String,
+pub(crate) struct LineBlock<A: Allocator> {
+    text: Vec<u8, A>,
 }
 
-impl Model for LineBlock {
-    ghost use Rattle.std.specs.Prelude.{ℕ, List, string_bytes};
+impl<A: Allocator> Model for LineBlock<A> {
+    ghost use Rattle.std.specs.Prelude.{ℕ, List};
     ghost use Rattle.ira_view_json.specs.Line.{AreLines};
 
     ghost Value = { List ℕ };
 
-    ghost view = { λ b. string_bytes b.text };
+    ghost view = { λ b. b.text.items };
 
-    ghost invariant = { λ b. AreLines (string_bytes b.text) };
+    ghost invariant = { λ b. AreLines b.text.items };
 }
 
-impl LineBlock {
+impl<A: Allocator + Clone> LineBlock<A> {
     /// No lines.
-    pub(crate) fn new(alloc: Global) -> LineBlock {
+    pub(crate) fn new(alloc: A) -> LineBlock<A> {
         LineBlock {
-            alloc,
-            text: String::new(alloc),
+            text: Vec::new(alloc),
         }
     }
 
     /// Adds the line of a value, and writes all where they are a block.
-    pub(crate) fn add<W: Sink>(&mut self, value: &Value, sink: &mut W) -> Result<(), ShowFault>
+    pub(crate) fn add<W: Sink>(&mut self, value: &Value<A>, sink: &mut W) -> Result<(), ShowFault>
         ensures { WroteLines result (W.state sink.old) (W.state sink.new) }
     {
-        let line = line_of(self.alloc, value)?;
-        self.text.push_str(line.as_str())?;
+        let line = line_bytes(self.text.allocator().clone()?, value)?;
+        self.text.extend_from_slice(&line)?;
         if self.text.len() < BLOCK {
             return Ok(());
         }
@@ -53,7 +51,7 @@ impl LineBlock {
     pub(crate) fn flush<W: Sink>(&mut self, sink: &mut W) -> Result<(), ShowFault>
         ensures { WroteLines result (W.state sink.old) (W.state sink.new) }
     {
-        write_bytes(self.text.as_bytes(), sink)?;
+        write_bytes(&self.text, sink)?;
         self.text.clear();
         Ok(())
     }

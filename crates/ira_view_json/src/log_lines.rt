@@ -1,13 +1,13 @@
 ghost use Rattle.std.specs.Prelude.{◌≡◌, IfOk, string_bytes};
-ghost use Rattle.serde_json.specs.View.{view};
+ghost use Rattle.ira_view_json.specs.View.{view};
 ghost use Rattle.ira_view_json.specs.Line.{IsLineOf};
 ghost use Rattle.ira_view_json.specs.LogValue.{log_value, start_word};
 
 use crate::line::line_of;
 use crate::object::Object;
+use crate::value::Value;
 use ira_event::{NodeLog, OutOfMemory};
-use serde_json::Value;
-use std::alloc::{Allocator, Global};
+use std::alloc::Allocator;
 
 /// How the node of a log starts.
 pub(crate) fn start_of<A: Allocator>(log: &NodeLog<A>) -> &'static str
@@ -21,28 +21,29 @@ pub(crate) fn start_of<A: Allocator>(log: &NodeLog<A>) -> &'static str
 }
 
 /// A log in the file of this name.
-fn log_value<A: Allocator>(
-    alloc: Global,
-    log: &NodeLog<A>,
+fn log_value<A: Allocator + Clone, B: Allocator>(
+    alloc: &A,
+    log: &NodeLog<B>,
     file: &str,
-) -> Result<Value, OutOfMemory>
+) -> Result<Value<A>, OutOfMemory>
     ensures { IfOk result (λ value. view value ≡ log_value file.now log.now.place log.now.initiator) }
 {
-    let mut object = Object::of(alloc, "log");
-    object.words("file", file);
+    let mut object = Object::of(alloc.clone()?, "log");
+    object.text("file", file);
     object.number("node", log.place() as u64);
     object.words("start", start_of(log));
     object.finish()
 }
 
 /// The line of a log in the file of this name: its node, and how it starts.
-pub fn log_line<A: Allocator>(
-    alloc: Global,
-    log: &NodeLog<A>,
+pub fn log_line<A: Allocator + Clone, B: Allocator>(
+    alloc: A,
+    log: &NodeLog<B>,
     file: &str,
-) -> Result<String, OutOfMemory>
+) -> Result<String<A>, OutOfMemory>
     ensures { IfOk result (λ text.
         IsLineOf (log_value file.now log.now.place log.now.initiator) (string_bytes text)) }
 {
-    line_of(alloc, &log_value(alloc, log, file)?)
+    let value = log_value(&alloc, log, file)?;
+    line_of(alloc, &value)
 }

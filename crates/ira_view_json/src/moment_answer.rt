@@ -1,5 +1,5 @@
 ghost use Rattle.std.specs.Prelude.{IfOk};
-ghost use Rattle.serde_json.specs.View.{view};
+ghost use Rattle.ira_view_json.specs.View.{view};
 ghost use Rattle.ira_order.specs.Matching.{Matches};
 ghost use Rattle.ira_order.specs.Run.{AreLocalRuns};
 ghost use Rattle.ira_view_json.specs.Object.{Puts};
@@ -10,16 +10,19 @@ ghost use Rattle.ira_view_moment.specs.Told.{told_of};
 use crate::line::write_line;
 use crate::object::Object;
 use crate::shown_answer::ShownAnswer;
+use crate::value::Value;
 use crate::values::{numbers_value, places_value};
 use ira_event::{Logs, OutOfMemory, Sink};
 use ira_view_moment::{ChosenMoment, Moment};
 use ira_view_page::ShowFault;
-use serde_json::Value;
-use std::alloc::{Allocator, Global};
+use std::alloc::Allocator;
 
 /// The places that lead, in a list.
-fn leaders_value<A: Allocator>(alloc: Global, moment: &Moment<A>) -> Result<Value, OutOfMemory> {
-    let mut leaders = Vec::new(alloc);
+fn leaders_value<A: Allocator + Clone>(
+    alloc: &A,
+    moment: &Moment<A>,
+) -> Result<Value<A>, OutOfMemory> {
+    let mut leaders = Vec::new(alloc.clone()?);
     for place in 0..moment.size() {
         if moment.leads(place) {
             leaders.push(place)?;
@@ -28,9 +31,9 @@ fn leaders_value<A: Allocator>(alloc: Global, moment: &Moment<A>) -> Result<Valu
     places_value(alloc, &leaders)
 }
 
-impl Object {
+impl<A: Allocator + Clone> Object<A> {
     /// Puts what all events of logs come to, at whose end the ring is this.
-    fn totals<A: Allocator>(&mut self, end: &Moment<A>) {
+    fn totals(&mut self, end: &Moment<A>) {
         let mut events = 0u64;
         let mut sent = 0u64;
         let mut received = 0u64;
@@ -48,7 +51,7 @@ impl Object {
     }
 
     /// Puts which moment is told; nothing at the end of the logs.
-    fn moment<A: Allocator>(&mut self, chosen: &ChosenMoment<A>)
+    fn moment(&mut self, chosen: &ChosenMoment<A>)
         ensures { Puts (with_moment (told_of chosen.now) (numbers_of chosen.now)) self.old self.new }
     {
         match chosen {
@@ -64,15 +67,15 @@ impl Object {
 }
 
 /// The answer for logs, at whose end the ring is this.
-fn shown_value<A: Allocator>(
-    alloc: Global,
+fn shown_value<A: Allocator + Clone>(
+    alloc: &A,
     end: &Moment<A>,
     chosen: &ChosenMoment<A>,
     answer: ShownAnswer<'_>,
-) -> Result<Value, OutOfMemory>
+) -> Result<Value<A>, OutOfMemory>
     ensures { IfOk result (λ value. IsYes answer.entry.status (told_of chosen.now) (numbers_of chosen.now) (view value)) }
 {
-    let mut object = Object::of(alloc, "answer");
+    let mut object = Object::of(alloc.clone()?, "answer");
     object.totals(end);
     if let Some(named) = answer.named {
         object.value("named", places_value(alloc, named));
@@ -85,7 +88,6 @@ fn shown_value<A: Allocator>(
 
 /// Writes the answer for good logs: what all their events come to, and which moment of them is told.
 pub(crate) fn write_answer<A: Allocator + Clone, W: Sink>(
-    text: Global,
     alloc: A,
     logs: &Logs<A>,
     chosen: &ChosenMoment<A>,
@@ -97,6 +99,7 @@ pub(crate) fn write_answer<A: Allocator + Clone, W: Sink>(
     ensures { WroteRing answer.entry.status (told_of chosen.now) (cut_of logs.now chosen.now) result
         (W.state sink.old) (W.state sink.new) }
 {
-    let end = Moment::at_end(alloc, logs)?;
-    write_line(text, &shown_value(text, &end, chosen, answer)?, sink)
+    let end = Moment::at_end(alloc.clone()?, logs)?;
+    let value = shown_value(&alloc, &end, chosen, answer)?;
+    write_line(alloc, &value, sink)
 }

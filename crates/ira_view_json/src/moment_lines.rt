@@ -7,16 +7,16 @@ ghost use Rattle.ira_view_json.specs.Line.{WroteLines};
 use crate::line_block::LineBlock;
 use crate::log_lines::start_of;
 use crate::object::Object;
+use crate::value::Value;
 use crate::values::places_value;
 use ira_event::{Event, Logs, NodeLog, OutOfMemory, Sink};
 use ira_view_moment::{Moment, NodeProgress, Round, Rounds};
 use ira_view_page::ShowFault;
-use serde_json::Value;
-use std::alloc::{Allocator, Global};
+use std::alloc::Allocator;
 
 /// What was drawn in a round.
-fn round_value(alloc: Global, round: &Round<Global>) -> Result<Value, OutOfMemory> {
-    let mut object = Object::of(alloc, "round");
+fn round_value<A: Allocator + Clone>(alloc: &A, round: &Round<A>) -> Result<Value<A>, OutOfMemory> {
+    let mut object = Object::of(alloc.clone()?, "round");
     object.number("round", round.number as u64);
     if round.term != 1 {
         object.number("term", round.term as u64);
@@ -28,15 +28,15 @@ fn round_value(alloc: Global, round: &Round<Global>) -> Result<Value, OutOfMemor
 }
 
 /// How far a node has come, whose log stands in this file.
-fn node_value<A: Allocator>(
-    alloc: Global,
+fn node_value<A: Allocator + Clone>(
+    alloc: &A,
     log: &NodeLog<A>,
     file: &str,
     node: NodeProgress,
-) -> Result<Value, OutOfMemory> {
-    let mut object = Object::of(alloc, "node");
+) -> Result<Value<A>, OutOfMemory> {
+    let mut object = Object::of(alloc.clone()?, "node");
     object.number("node", log.place() as u64);
-    object.words("file", file);
+    object.text("file", file);
     object.words("start", start_of(log));
     object.number("events", node.events as u64);
     object.number("of", log.len() as u64);
@@ -49,19 +49,19 @@ fn node_value<A: Allocator>(
 }
 
 /// The last sendings of a node, so many, each with its event.
-fn last_sendings<A: Allocator>(
-    alloc: Global,
+fn last_sendings<A: Allocator + Clone>(
+    alloc: &A,
     log: &NodeLog<A>,
     node: NodeProgress,
     number: usize,
-) -> Result<Value, OutOfMemory> {
+) -> Result<Value<A>, OutOfMemory> {
     let before = (node.sent as usize).saturating_sub(number);
     let mut sendings = 0usize;
-    let mut list = Vec::with_capacity(alloc, number)?;
+    let mut list = Vec::with_capacity(alloc.clone()?, number)?;
     for (i, event) in log.events().take(node.events as usize).enumerate() {
         if let Event::Sent(load) = event {
             if sendings >= before {
-                let mut sending = Object::new(alloc);
+                let mut sending = Object::new(alloc.clone()?);
                 sending.load(load);
                 sending.number("event", (i as u64).saturating_add(1));
                 list.push(sending.finish()?)?;
@@ -73,39 +73,39 @@ fn last_sendings<A: Allocator>(
 }
 
 /// What is on its way on a link: the last sendings of its writer.
-fn link_value(
-    alloc: Global,
+fn link_value<A: Allocator + Clone>(
+    alloc: &A,
     link: u8,
-    way: Result<Value, OutOfMemory>,
-) -> Result<Value, OutOfMemory> {
-    let mut object = Object::of(alloc, "link");
+    way: Result<Value<A>, OutOfMemory>,
+) -> Result<Value<A>, OutOfMemory> {
+    let mut object = Object::of(alloc.clone()?, "link");
     object.number("link", link as u64);
     object.value("on_the_way", way);
     object.finish()
 }
 
 /// Writes a line for each round.
-fn write_rounds<W: Sink>(
-    text: Global,
-    rounds: &[Round<Global>],
-    lines: &mut LineBlock,
+fn write_rounds<A: Allocator + Clone, W: Sink>(
+    alloc: &A,
+    rounds: &[Round<A>],
+    lines: &mut LineBlock<A>,
     sink: &mut W,
 ) -> Result<(), ShowFault>
     ensures { WroteLines result (W.state sink.old) (W.state sink.new) }
 {
     for round in rounds {
-        lines.add(&round_value(text, round)?, sink)?;
+        lines.add(&round_value(alloc, round)?, sink)?;
     }
     Ok(())
 }
 
 /// Writes a line for each node, whose log stands in the file of this name at its place.
-fn write_nodes<A: Allocator, W: Sink>(
-    text: Global,
+fn write_nodes<A: Allocator + Clone, W: Sink>(
+    alloc: &A,
     logs: &Logs<A>,
     files: &[String<A>],
     moment: &Moment<A>,
-    lines: &mut LineBlock,
+    lines: &mut LineBlock<A>,
     sink: &mut W,
 ) -> Result<(), ShowFault>
     requires nodes { length moment.now.nodes ≡ length logs.now }
@@ -114,19 +114,19 @@ fn write_nodes<A: Allocator, W: Sink>(
 {
     for place in 0..moment.size() {
         let file = files[usize::from(place)].as_str();
-        let node = node_value(text, logs.log(place), file, moment.node(place))?;
+        let node = node_value(alloc, logs.log(place), file, moment.node(place))?;
         lines.add(&node, sink)?;
     }
     Ok(())
 }
 
 /// Writes a line for a link, where it holds something.
-fn write_link<A: Allocator, W: Sink>(
-    text: Global,
+fn write_link<A: Allocator + Clone, W: Sink>(
+    alloc: &A,
     log: &NodeLog<A>,
     moment: &Moment<A>,
     link: u8,
-    lines: &mut LineBlock,
+    lines: &mut LineBlock<A>,
     sink: &mut W,
 ) -> Result<(), ShowFault>
     requires nodes { link < length moment.now.nodes }
@@ -137,23 +137,23 @@ fn write_link<A: Allocator, W: Sink>(
     if number == 0 {
         return Ok(());
     }
-    let way = last_sendings(text, log, moment.node(link), number);
-    lines.add(&link_value(text, link, way)?, sink)
+    let way = last_sendings(alloc, log, moment.node(link), number);
+    lines.add(&link_value(alloc, link, way)?, sink)
 }
 
 /// Writes a line for each link that holds something.
-fn write_links<A: Allocator, W: Sink>(
-    text: Global,
+fn write_links<A: Allocator + Clone, W: Sink>(
+    alloc: &A,
     logs: &Logs<A>,
     moment: &Moment<A>,
-    lines: &mut LineBlock,
+    lines: &mut LineBlock<A>,
     sink: &mut W,
 ) -> Result<(), ShowFault>
     requires { length moment.now.nodes ≡ length logs.now }
     ensures { WroteLines result (W.state sink.old) (W.state sink.new) }
 {
     for link in 0..moment.size() {
-        write_link(text, logs.log(link), moment, link, lines, sink)?;
+        write_link(alloc, logs.log(link), moment, link, lines, sink)?;
     }
     Ok(())
 }
@@ -161,7 +161,6 @@ fn write_links<A: Allocator, W: Sink>(
 /// Writes, of the moment of a cut, a line for each round, each node, and each link that holds something. These
 /// are the names of the files of the logs, in their order.
 pub(crate) fn write_moment<A: Allocator + Clone, W: Sink>(
-    text: Global,
     alloc: A,
     logs: &Logs<A>,
     files: &[String<A>],
@@ -174,11 +173,11 @@ pub(crate) fn write_moment<A: Allocator + Clone, W: Sink>(
     requires files { length files.now ≡ length logs.now }
     ensures { WroteLines result (W.state sink.old) (W.state sink.new) }
 {
-    let moment = Moment::at_cut(alloc, logs, cut)?;
-    let rounds = Rounds::of(text, logs, &moment)?;
-    let mut lines = LineBlock::new(text);
-    write_rounds(text, rounds.as_slice(), &mut lines, sink)?;
-    write_nodes(text, logs, files, &moment, &mut lines, sink)?;
-    write_links(text, logs, &moment, &mut lines, sink)?;
+    let moment = Moment::at_cut(alloc.clone()?, logs, cut)?;
+    let rounds = Rounds::of(alloc.clone()?, logs, &moment)?;
+    let mut lines = LineBlock::new(alloc.clone()?);
+    write_rounds(&alloc, rounds.as_slice(), &mut lines, sink)?;
+    write_nodes(&alloc, logs, files, &moment, &mut lines, sink)?;
+    write_links(&alloc, logs, &moment, &mut lines, sink)?;
     lines.flush(sink)
 }

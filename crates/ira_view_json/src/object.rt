@@ -1,54 +1,36 @@
-ghost use Rattle.std.specs.Prelude.{◌≡◌, [], Some, codes, string_bytes};
-ghost use Rattle.serde_json.specs.Data.{boolean, null, put as put_data};
-ghost use Rattle.serde_json.specs.View.{view};
-ghost use Rattle.ira_view_json.specs.Object.{Gives, Puts, PutsOf, PutsText};
-ghost use Rattle.ira_view_json.specs.Members.{with_number, with_words};
+ghost use Rattle.std.specs.Prelude.{◌≡◌, OnOk, codes, string_bytes};
+ghost use Rattle.json.specs.Json.{boolean, no_members, null};
+ghost use Rattle.ira_view_json.specs.Members.{put as put_value, with_number, with_words};
+ghost use Rattle.ira_view_json.specs.Object.{Gives, Holds, Puts, PutsOf};
+ghost use Rattle.ira_view_json.specs.View.{members_view, view};
 
+use crate::value::Value;
 use ira_event::OutOfMemory;
-use ira_view_page::Page;
-use serde_json::{Map, Value, put};
-use std::alloc::{Allocator, Global};
-use std::marker::Model;
+use std::alloc::Allocator;
+use std::cmp::Ordering;
 
 /// An object that is put together member by member. It keeps whether a growth was refused, and takes nothing more after
 /// that. Contracts see its members, while it is whole.
 #[derive(Drop)]
-pub(crate) struct Object {
-    alloc: Global,
-    members: Map<String, Value>,
+pub(crate) struct Object<A: Allocator> {
+    members: Vec<(&'static str, Value<A>), A>,
     is_whole: bool,
 }
 
-impl Model for Object {
-    ghost use Rattle.std.specs.Prelude.{List, Option, String};
-    ghost use Rattle.std.specs.Coded.{codes};
-    ghost use Rattle.std.specs.declared.alloc.Global.{Global};
-    ghost use Rattle.serde_json.specs.contracts.value.Value as json;
-    ghost use Rattle.serde_json.specs.declared.value.Value.{Value as Json};
-    ghost use Rattle.ira_view_page.specs.Page.{kept};
-
-    ghost Value = { Option (List (String Global × Json)) };
-
-    ghost coded = { Prim.hlevel (codes, json.the_row.coded) };
-
-    ghost view = { λ o. kept o.is_whole o.members.entries };
-}
-
-impl Object {
+impl<A: Allocator> Object<A> {
     /// Without members.
-    pub(crate) fn new(alloc: Global) -> Object
-        ensures { result ≡ Some [] }
+    pub(crate) fn new(alloc: A) -> Object<A>
+        ensures { Holds no_members result }
     {
         Object {
-            alloc,
-            members: Map::new(alloc),
+            members: Vec::new(alloc),
             is_whole: true,
         }
     }
 
     /// One of this type.
-    pub(crate) fn of(alloc: Global, kind: &str) -> Object
-        ensures { Puts (with_words (codes "type") kind.now) (Some []) result }
+    pub(crate) fn of(alloc: A, kind: &'static str) -> Object<A>
+        ensures { Holds (with_words (codes "type") kind.now no_members) result }
     {
         let mut object = Object::new(alloc);
         object.words("type", kind);
@@ -56,7 +38,7 @@ impl Object {
     }
 
     /// The value that it is; an error where a growth was refused.
-    pub(crate) fn finish(self) -> Result<Value, OutOfMemory>
+    pub(crate) fn finish(self) -> Result<Value<A>, OutOfMemory>
         ensures { Gives self result }
     {
         if self.is_whole {
@@ -66,12 +48,12 @@ impl Object {
         }
     }
 
-    pub(crate) fn alloc(&self) -> Global {
-        self.alloc
+    pub(crate) fn alloc(&self) -> &A {
+        self.members.allocator()
     }
 
     /// Puts a value. Where that was refused, this object is too.
-    pub(crate) fn value(&mut self, key: &str, value: Result<Value, OutOfMemory>)
+    pub(crate) fn value(&mut self, key: &'static str, value: Result<Value<A>, OutOfMemory>)
         ensures { PutsOf key.now value self.old self.new }
     {
         match value {
@@ -81,58 +63,82 @@ impl Object {
     }
 
     /// Puts a number.
-    pub(crate) fn number(&mut self, key: &str, number: u64)
+    pub(crate) fn number(&mut self, key: &'static str, number: u64)
         ensures { Puts (with_number key.now number) self.old self.new }
     {
-        self.put(key, Value::from(number));
+        self.put(key, Value::Number(number));
     }
 
     /// Puts words.
-    pub(crate) fn words(&mut self, key: &str, words: &str)
+    pub(crate) fn words(&mut self, key: &'static str, words: &'static str)
         ensures { Puts (with_words key.now words.now) self.old self.new }
     {
-        match Value::try_from_str(self.alloc, words) {
-            Ok(words) => self.put(key, words),
-            Err(_) => self.is_whole = false,
-        }
+        self.put(key, Value::Words(words));
     }
 
-    /// Puts a text.
-    pub(crate) fn string<A: Allocator>(&mut self, key: &str, text: &String<A>)
+    /// Puts a copy of a text.
+    pub(crate) fn text(&mut self, key: &'static str, text: &str)
+    where
+        A: Clone,
+        ensures { Puts (with_words key.now text.now) self.old self.new }
+    {
+        self.value(key, Value::copied(self.alloc(), text));
+    }
+
+    /// Puts a copy of a string.
+    pub(crate) fn string<B: Allocator>(&mut self, key: &'static str, text: &String<B>)
+    where
+        A: Clone,
         ensures { Puts (with_words key.now (string_bytes text.now)) self.old self.new }
     {
-        self.words(key, text.as_str());
-    }
-
-    /// Puts what is on a page. Where that was refused, this object is too.
-    pub(crate) fn text<A: Allocator>(&mut self, key: &str, page: Page<A>)
-        ensures { PutsText key.now page self.old self.new }
-    {
-        match page.finish() {
-            Ok(text) => self.words(key, text.as_str()),
-            Err(_) => self.is_whole = false,
-        }
+        self.text(key, text.as_str());
     }
 
     /// Puts whether something is so.
-    pub(crate) fn flag(&mut self, key: &str, is: bool)
-        ensures { Puts (put_data key.now (boolean is)) self.old self.new }
+    pub(crate) fn flag(&mut self, key: &'static str, is: bool)
+        ensures { Puts (put_value key.now (boolean is)) self.old self.new }
     {
-        self.put(key, Value::from(is));
+        self.put(key, Value::Bool(is));
     }
 
     /// Puts that there is nothing.
-    pub(crate) fn null(&mut self, key: &str)
-        ensures { Puts (put_data key.now null) self.old self.new }
+    pub(crate) fn null(&mut self, key: &'static str)
+        ensures { Puts (put_value key.now null) self.old self.new }
     {
         self.put(key, Value::Null);
     }
 
-    fn put(&mut self, key: &str, value: Value)
-        ensures { Puts (put_data key.now (view value)) self.old self.new }
+    fn put(&mut self, key: &'static str, value: Value<A>)
+        ensures { Puts (put_value key.now (view value)) self.old self.new }
     {
         if self.is_whole {
-            self.is_whole = put(&mut self.members, self.alloc, key, value).is_ok();
+            self.is_whole = put(&mut self.members, key, value).is_ok();
         }
     }
+}
+
+/// Puts a value where its key belongs, in the place of the one that has this key already.
+fn put<A: Allocator>(
+    members: &mut Vec<(&'static str, Value<A>), A>,
+    key: &'static str,
+    value: Value<A>,
+) -> Result<(), OutOfMemory>
+    ensures { OnOk result (members_view members.new.items
+        ≡ put_value key.now (view value) (members_view members.old.items)) }
+{
+    for at in 0..members.len() {
+        match key.cmp(members[at].0) {
+            Ordering::Less => {
+                members.insert(at, (key, value))?;
+                return Ok(());
+            }
+            Ordering::Equal => {
+                members[at].1 = value;
+                return Ok(());
+            }
+            Ordering::Greater => {}
+        }
+    }
+    members.push((key, value))?;
+    Ok(())
 }

@@ -14,11 +14,10 @@ use crate::shown_answer::ShownAnswer;
 use ira_event::{Logs, Sink};
 use ira_view_moment::{ChosenMoment, cut_at_end};
 use ira_view_page::ShowFault;
-use std::alloc::{Allocator, Global};
+use std::alloc::Allocator;
 
 /// Writes what there is at a cut: an order of all events through it, or else the rounds, the nodes and the links.
 fn write_cut<A: Allocator + Clone, W: Sink>(
-    text: Global,
     alloc: A,
     logs: &Logs<A>,
     files: &[String<A>],
@@ -33,9 +32,9 @@ fn write_cut<A: Allocator + Clone, W: Sink>(
     ensures { WroteLines result (W.state sink.old) (W.state sink.new) }
 {
     if has_events {
-        write_events(text, alloc, logs, cut, sink)
+        write_events(alloc, logs, cut, sink)
     } else {
-        write_moment(text, alloc, logs, files, cut, sink)
+        write_moment(alloc, logs, files, cut, sink)
     }
 }
 
@@ -44,7 +43,6 @@ fn write_cut<A: Allocator + Clone, W: Sink>(
 /// moment is told the answer is all. These are the names of the files of the logs, in their order. Lines are written block by
 /// block, the answer first.
 pub fn write_ring<A: Allocator + Clone, W: Sink>(
-    text: Global,
     alloc: A,
     logs: &Logs<A>,
     files: &[String<A>],
@@ -60,14 +58,14 @@ pub fn write_ring<A: Allocator + Clone, W: Sink>(
     ensures { WroteRing answer.entry.status (told_of chosen.now) (cut_of logs.now chosen.now) result
         (W.state sink.old) (W.state sink.new) }
 {
-    write_answer(text, alloc.clone()?, logs, chosen, answer, sink)?;
+    write_answer(alloc.clone()?, logs, chosen, answer, sink)?;
     match chosen {
         ChosenMoment::AtEnd => {
             let cut = cut_at_end(alloc.clone()?, logs)?;
-            write_cut(text, alloc, logs, files, &cut, has_events, sink)
+            write_cut(alloc, logs, files, &cut, has_events, sink)
         }
         ChosenMoment::AtCut(cut) | ChosenMoment::OfCase { cut, .. } => {
-            write_cut(text, alloc, logs, files, cut, has_events, sink)
+            write_cut(alloc, logs, files, cut, has_events, sink)
         }
         ChosenMoment::Unmet(_) => Ok(()),
     }

@@ -1,16 +1,17 @@
 ghost use Rattle.std.specs.Prelude.{◌≡◌, IfOk};
-ghost use Rattle.serde_json.specs.View.{view};
+ghost use Rattle.json.specs.Json.{no_members, object};
 ghost use Rattle.ira_view_json.specs.Members.{naturals};
 ghost use Rattle.ira_view_json.specs.Object.{Puts};
 ghost use Rattle.ira_view_json.specs.StateValue.{with_load, with_owed, with_phase, with_state, with_term};
+ghost use Rattle.ira_view_json.specs.View.{view};
 
 use crate::object::Object;
+use crate::value::Value;
 use ira_event::{Load, OutOfMemory};
 use ira_node::{NodeState, Phase};
-use serde_json::Value;
-use std::alloc::Global;
+use std::alloc::Allocator;
 
-impl Object {
+impl<A: Allocator + Clone> Object<A> {
     /// Puts what is told of a load: its fields, or the hop of a reset.
     pub(crate) fn load(&mut self, load: Load)
         ensures { Puts (with_load load) self.old self.new }
@@ -61,9 +62,7 @@ impl Object {
         ensures { Puts (with_owed owed) self.old self.new }
     {
         if let Some(load) = owed {
-            let mut owes = Object::new(self.alloc());
-            owes.load(load);
-            self.value("owes", owes.finish());
+            self.value("owes", load_value(self.alloc(), load));
         }
     }
 
@@ -77,26 +76,49 @@ impl Object {
     }
 }
 
+/// What is told of a load, as an object.
+fn load_value<A: Allocator + Clone>(alloc: &A, load: Load) -> Result<Value<A>, OutOfMemory>
+    ensures { IfOk result (λ value. view value ≡ object (with_load load no_members)) }
+{
+    let mut object = Object::new(alloc.clone()?);
+    object.load(load);
+    object.finish()
+}
+
+/// A state, as an object.
+pub(crate) fn state_value<A: Allocator + Clone>(
+    alloc: &A,
+    state: NodeState,
+) -> Result<Value<A>, OutOfMemory>
+    ensures { IfOk result (λ value. view value ≡ object (with_state state no_members)) }
+{
+    let mut object = Object::new(alloc.clone()?);
+    object.state(state);
+    object.finish()
+}
+
 /// A list of numbers.
-pub(crate) fn numbers_value(alloc: Global, numbers: &[u32]) -> Result<Value, OutOfMemory>
+pub(crate) fn numbers_value<A: Allocator + Clone>(
+    alloc: &A,
+    numbers: &[u32],
+) -> Result<Value<A>, OutOfMemory>
     ensures { IfOk result (λ value. view value ≡ naturals numbers.now) }
 {
-    let mut list = Vec::with_capacity(alloc, numbers.len())?;
+    let mut list = Vec::with_capacity(alloc.clone()?, numbers.len())?;
     for number in numbers {
-        list.push(Value::from(*number))?;
+        list.push(Value::Number(*number as u64))?;
     }
     Ok(Value::Array(list))
 }
 
 /// A list of places.
-pub(crate) fn places_value<T: Copy + Into<u64>>(
-    alloc: Global,
+pub(crate) fn places_value<A: Allocator + Clone, T: Copy + Into<u64>>(
+    alloc: &A,
     places: &[T],
-) -> Result<Value, OutOfMemory> {
-    let mut list = Vec::with_capacity(alloc, places.len())?;
+) -> Result<Value<A>, OutOfMemory> {
+    let mut list = Vec::with_capacity(alloc.clone()?, places.len())?;
     for place in places {
-        let place: u64 = (*place).into();
-        list.push(Value::from(place))?;
+        list.push(Value::Number((*place).into()))?;
     }
     Ok(Value::Array(list))
 }

@@ -17,18 +17,18 @@ returns-in-Ok g c = λ texts good.
     good c.in-Ok.ensures c.ring_text-kept.ensures.drawn c.ring_text-kept.ensures.events c.tell_drawn.ensures
 
 pub report-requires : goal.report-requires
-report-requires g c = rw c.in-Err-No.field-0-is
-    (reportable c.args.logs c.args.draw.now.moment c.args.question.now c.in-Err-No.reason
-    (rw c.in-Err-No.field-0-is at c.in-Err-No.ensures))
+report-requires g c =
+    reportable c.args.logs c.args.draw.now.moment c.args.question.now c.in-Err-No.reason
+    (rw c.in-Err-No.field-0-is at c.in-Err-No.ensures)
 
 pub returns-in-Err-No : goal.returns-in-Err-No
 returns-in-Err-No g c = λ texts good.
     let why = rw c.in-Err-No.field-0-is at c.in-Err-No.ensures in
     let stands = against texts c.args.logs c.args.draw.now.moment c.args.question.now c.in-Err-No.reason good why in
-    inl (no_question c.args.logs c.in-Err-No.reason good stands refl (rw c.in-Err-No.field-0-is at c.report.ensures))
+    inl (no_question c.args.logs c.in-Err-No.reason good stands refl c.report.ensures)
 
 pub returns-in-Err-Cut : goal.returns-in-Err-Cut
 returns-in-Err-Cut g c = λ texts good.
     let why = rw c.in-Err-Cut.field-0-is at c.in-Err-Cut.ensures in
     inl (no_moment c.args.logs c.in-Err-Cut.fault good
-    (no_cut c.args.logs c.args.draw.now.moment c.args.question.now c.in-Err-Cut.fault why) refl refl (rw c.in-Err-Cut.field-0-is refl))
+    (no_cut c.args.logs c.args.draw.now.moment c.args.question.now c.in-Err-Cut.fault why) refl refl refl)

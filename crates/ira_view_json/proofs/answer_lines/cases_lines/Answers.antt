@@ -1,7 +1,7 @@
 use Rattle.std.proofs.Common.{◌≡◌, ◌∙◌, ◌∷◌, ◌++◌, ◌+◌, ap, drop, map, rules, string_bytes, subst, sym}
 use Rattle.std.specs.List.{enumerate_from, list_any}
 use Rattle.std.proofs.lemmas.List.{drop_all}
-use Rattle.serde_json.specs.View.{view}
+use Rattle.ira_view_json.specs.View.{view}
 use Rattle.ira_event.proofs.Rest.{drop-at}
 use Rattle.ira_view_json.specs.AnswerValue.{case_value, cases_values, decision_value, decision_word, is_met}
 use Rattle.ira_view_json.specs.Line.{AreLinesOf, IsLineOf}
@@ -30,7 +30,7 @@ loop-case-preserved g c =
     let more = map case_value (enumerate_from (i + 1) (drop (i + 1) xs)) in
     let parts : left ≡ case_value (i, x) ∷ more =
     ap (λ ys. map case_value (enumerate_from i ys)) (drop-at xs i x x c.loop-case-test.true c.index-cases-case.is) in
-    let is = subst (λ v. IsLineOf v line) c.in_ok-case_value.ensures c.in_ok-line.ensures in
+    let is = subst (λ v. IsLineOf v line) c.in_ok-value.ensures c.in_ok-line.ensures in
     let added : string_bytes c.push_str.new.self ≡ string_bytes c.loop-case.text ++ line = search rules in
     subst (Begins all more) (sym added)
     (begins_more all left more (case_value (i, x)) (string_bytes c.loop-case.text) line parts is c.loop-case.invariant)

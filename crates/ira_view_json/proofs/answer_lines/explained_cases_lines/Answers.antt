@@ -1,7 +1,7 @@
 use Rattle.std.proofs.Common.{◌≡◌, ◌∷◌, ◌++◌, ◌+◌, ap, drop, map, rules, string_bytes, subst, sym}
 use Rattle.std.specs.List.{enumerate_from}
 use Rattle.std.proofs.lemmas.List.{drop_all}
-use Rattle.serde_json.specs.View.{view}
+use Rattle.ira_view_json.specs.View.{view}
 use Rattle.ira_event.proofs.Rest.{drop-at}
 use Rattle.ira_view_json.specs.ExplainedFindings.{explained_case}
 use Rattle.ira_view_json.proofs.LineTexts.{Begins, begins_all, begins_more, line_before}

@@ -1,6 +1,6 @@
 use Rattle.std.proofs.Common.{◌∷◌, drop, map, string_bytes}
 use Rattle.std.specs.List.{enumerate_from}
-use Rattle.serde_json.specs.View.{view}
+use Rattle.ira_view_json.specs.View.{view}
 use Rattle.ira_view_json.specs.ExplainedFindings.{explained_case}
 use Rattle.ira_view_json.proofs.LineTexts.{Begins}
 use Rattle.ira_view_json.proofs.answer_lines.explained_cases_lines.Given as goal

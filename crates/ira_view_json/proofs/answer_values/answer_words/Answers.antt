@@ -1,13 +1,14 @@
-use Rattle.std.proofs.Common.{◌≡◌, ◌∙◌, ◌++◌, ap, subst, sym}
+use Rattle.std.proofs.Common.{◌≡◌, ◌∙◌, ◌++◌, IfOk, ap, subst, sym}
 use Rattle.std.specs.Str.{IsUtf8}
-use Rattle.serde_json.specs.Data.{string}
+use Rattle.json.specs.Json.{string}
 use Rattle.ira_event.specs.Sink.{Memory}
 use Rattle.ira_audit.specs.Report.{report_line}
+use Rattle.ira_view_json.specs.View.{view}
 use Rattle.ira_view_json.proofs.AnswerWords.{words_are_text, words_of}
 use Rattle.ira_view_json.proofs.answer_values.answer_words.Goals as goal
 
 pub unreachable-requires : goal.unreachable-requires
-unreachable-requires c =
+unreachable-requires g c =
     let answer = c.args.answer.now in
     let line : c.bytes-line.result.now ≡ report_line answer =
     c.bytes-line.ensures ∙ c.in-Ok.ensures.took
@@ -15,10 +16,10 @@ unreachable-requires c =
     c.in-Err.ensures.cases.0 (subst IsUtf8 (sym (words_of answer c.bytes-line.result.now line)) (words_are_text answer))
 
 pub returns : goal.returns
-returns c =
+returns g c =
     let answer = c.args.answer.now in
     let line : c.bytes-line.result.now ≡ report_line answer =
     c.bytes-line.ensures ∙ c.in-Ok.ensures.took
     ∙ ap (λ (m : Memory). m.bytes ++ report_line answer) c.new-line.ensures in
-    c.in_ok-try_from_str-in-Ok-from_utf8.ensures
-    ∙ ap string (c.in-Ok-from_utf8.ensures.cases.0 ∙ words_of answer c.bytes-line.result.now line)
+    let words = c.in-Ok-from_utf8.ensures.cases.0 ∙ words_of answer c.bytes-line.result.now line in
+    subst (λ text. IfOk c.copied.result (λ value. view value ≡ string text)) words c.copied.ensures

@@ -6,8 +6,15 @@ use Rattle.ira_view_json.proofs.event_lines.write_events.Goals as goal
 
 pub returns-in_err-trail : goal.returns-in_err-trail
 returns-in_err-trail g c =
-    let is : c.from_residual.result ≡ Err OutOfMemory = search rules in
-    none_wrote c.from_residual.result (g.W.Sink.state c.args.sink.now) is
+    let r = c.from_residual-in_err-trail.result in
+    let is : r ≡ Err OutOfMemory = search rules in
+    none_wrote r (g.W.Sink.state c.args.sink.now) is
+
+pub returns-in_err-clone-2 : goal.returns-in_err-clone-2
+returns-in_err-clone-2 g c =
+    let r = c.from_residual-in_err-clone-2.result in
+    let is : r ≡ Err OutOfMemory = search rules in
+    none_wrote r (g.W.Sink.state c.args.sink.now) is
 
 pub loop-number-init : goal.loop-number-init
 loop-number-init g c = record {

@@ -1,10 +1,7 @@
 use Rattle.std.proofs.Common.{◌∙◌, ap, map}
-use Rattle.std.proofs.lemmas.List.{take_all}
-use Rattle.serde_json.specs.Data.{array}
-use Rattle.serde_json.specs.View.{items_of, view}
-use Rattle.serde_json.proofs.Views.{view-Array}
 use Rattle.ira_view_json.specs.EvidenceValue.{evidence_value}
-use Rattle.ira_view_json.proofs.ExplainedLists.{list_more}
+use Rattle.ira_view_json.specs.View.{view}
+use Rattle.ira_view_json.proofs.ExplainedLists.{list_more, list_whole}
 use Rattle.ira_view_json.proofs.evidence_values.evidence_list.Goals as goal
 
 pub loop-item-preserved : goal.loop-item-preserved
@@ -16,6 +13,5 @@ loop-item-preserved g c =
 
 pub returns : goal.returns
 returns g c =
-    let all = take_all c.loop-item.item-index c.args.evidence.now c.loop-item-test.false in
-    view-Array c.loop-item.list
-    ∙ ap (λ values. array (items_of values)) (c.loop-item.invariant ∙ ap (map evidence_value) all)
+    list_whole evidence_value c.loop-item.list c.args.evidence.now c.loop-item.item-index c.loop-item-test.false
+    c.loop-item.invariant

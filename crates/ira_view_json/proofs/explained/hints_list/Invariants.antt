@@ -1,5 +1,5 @@
 use Rattle.std.proofs.Common.{◌≡◌, map, take}
-use Rattle.serde_json.specs.View.{view}
+use Rattle.ira_view_json.specs.View.{view}
 use Rattle.ira_view_json.specs.ExplainedValue.{hint_value}
 use Rattle.ira_view_json.proofs.explained.hints_list.Given as goal
 

@@ -1,6 +1,13 @@
 use Rattle.std.proofs.Common.{◌≡◌, Err, rules}
-use Rattle.ira_view_json.proofs.LinesWritten.{failed_then, more_taken, wrote_then}
+use Rattle.ira_view_page.specs.declared.show_fault.ShowFault.TheVariants.{OutOfMemory}
+use Rattle.ira_view_json.proofs.LinesWritten.{failed_then, more_taken, none_wrote, wrote_then}
 use Rattle.ira_view_json.proofs.moment_lines.write_moment.Goals as goal
+
+pub returns-in_err-clone-3 : goal.returns-in_err-clone-3
+returns-in_err-clone-3 g c =
+    let r = c.from_residual-in_err-clone-3.result in
+    let is : r ≡ Err OutOfMemory = search rules in
+    none_wrote r (g.W.Sink.state c.args.sink.now) is
 
 pub returns-in_err-write_nodes : goal.returns-in_err-write_nodes
 returns-in_err-write_nodes g c =

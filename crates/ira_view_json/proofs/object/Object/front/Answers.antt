@@ -2,4 +2,4 @@ use Rattle.ira_view_json.proofs.Putting.{◌&◌}
 use Rattle.ira_view_json.proofs.object.Object.front.Goals as goal
 
 pub returns : goal.returns
-returns c = c.number.ensures & c.number-2.ensures & c.first.ensures
+returns g c = c.number.ensures & c.number-2.ensures & c.first.ensures
