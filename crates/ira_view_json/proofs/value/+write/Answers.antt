@@ -1,4 +1,5 @@
-use Rattle.std.proofs.Common.{◌≡◌, ◌∙◌, ◌+◌, ◌<◌, ◌∷◌, [], ◌++◌, OnOk, ap, append_assoc, arith, drop, length, rules, subst, sym}
+use Rattle.std.proofs.Common.{◌≡◌, ◌∙◌, ◌+◌, ◌<◌, ◌∷◌, [], ◌++◌, OnOk, ap, append_assoc, arith, drop, length}
+use Rattle.std.proofs.Common.{rules, subst, sym}
 use Rattle.ira_event.proofs.Rest.{drop-at}
 use Rattle.json.specs.Json.{object}
 use Rattle.json.specs.Token.{key}

@@ -4,4 +4,5 @@ use Rattle.ira_view_json.proofs.Views.{view-Object}
 use Rattle.ira_view_json.proofs.object.Object.finish.Goals as goal
 
 pub returns-then-self : goal.returns-then-self
-returns-then-self g c = (members_view c.args.self.members.items, rw c.if-self.true refl, view-Object c.args.self.members)
+returns-then-self g c =
+    (members_view c.args.self.members.items, rw c.if-self.true refl, view-Object c.args.self.members)
