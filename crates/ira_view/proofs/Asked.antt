@@ -37,7 +37,7 @@ never_met answer texts question certificate (Err f) h = tt
 -- what is found for a question that is asked is explained
 pub findings_explained : {A E : Type 0} (files : AskedFiles) (judged : Judged A) (case : Option ℕ)
     (asked : AskedQuestion) (r : Result (FindingsView A) E) → IsAsked files asked
-    → IfOk r (λ view. AreFindingsExplained files.logs.now asked view.findings case view.explanation)
+    → IfOk r (λ view. AreFindingsExplained files asked view.findings case view.explanation)
     → IfOk r (λ view. IsFindingsExplanation files judged case view.findings view.explanation)
 findings_explained files judged case asked (Ok view) fits explained = of_findings asked fits explained
 findings_explained files judged case asked (Err f) fits explained = tt

@@ -45,7 +45,7 @@ pub data IsFindingsExplanation {A : Type 0} (files : AskedFiles) (judged : Judge
     (findings : Findings A) (explanation : Explanation A) : Type 0 where
   of_asked :
       (asked : AskedQuestion) → IsAsked files asked
-      → AreFindingsExplained files.logs.now asked findings case explanation
+      → AreFindingsExplained files asked findings case explanation
       → IsFindingsExplanation files judged case findings explanation
   not_asked :
       (reason : Reason) → findings ≡ Refused reason → IsRefusal files.logs.now judged explanation

@@ -70,7 +70,7 @@ fn explain_asked<A: Allocator + Clone>(
         AreFindings (texts_of files.entry.logs.now) files.entry.question.now.text.now view.findings) }
     ensures reportable { IfOk result (λ view. AreReportable view.findings) }
     ensures explained { IfOk result (λ view.
-        AreFindingsExplained files.entry.logs.now asked.now view.findings case view.explanation) }
+        AreFindingsExplained files.entry asked.now view.findings case view.explanation) }
 {
     let findings = asked.decide()?;
     let explanation = explain_found(alloc, files, asked, &findings, case)?;

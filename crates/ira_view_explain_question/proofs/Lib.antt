@@ -1,6 +1,10 @@
 mod AskedCases
+mod Candidates
+mod Clauses
 mod Drafts
 mod Explained
+mod ForEach
 mod Numbers
 mod Sections
+mod Stops
 mod Told

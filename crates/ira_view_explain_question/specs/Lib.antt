@@ -1,5 +1,14 @@
+pub mod AskedFinding
+pub mod AskedLines
+pub mod AskedRemark
 pub mod CaseFinding
+pub mod CertificateFinding
 pub mod ChosenCases
 pub mod EliminationLines
 pub mod ExplainedCase
 pub mod Explanation
+pub mod NodeLeft
+pub mod PointedLine
+pub mod QuestionFinding
+pub mod SectionCount
+pub mod SectionFinding

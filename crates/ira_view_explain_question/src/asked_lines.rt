@@ -1,82 +1,54 @@
-ghost use Rattle.ira_view_page.specs.Page.{AddedSome};
+ghost use Rattle.std.specs.Prelude.{◌≡◌, ◌+◌, ◌<◌, ◌≤◌, ◌*◌, MatchOption, Some, length, slice_get};
+ghost use Rattle.ira_cert.specs.Conjuncts.{IsAsked};
+ghost use Rattle.ira_event.specs.Scan.{Gives};
+ghost use Rattle.ira_pred.specs.Case.{Conjunct};
+ghost use Rattle.ira_pred.specs.Limits.{MAX_CASES};
+ghost use Rattle.ira_pred.specs.QuestionScan.{place_at};
+ghost use Rattle.ira_view_explain_question.specs.AskedLines.{IsClauseOf, clause_line};
 
-use crate::text_block::HEAD_LINES;
+use ira_event::{scan_number, skip_word};
 use ira_pred::Case;
-use ira_view_page::{NamedText, Page};
 use std::alloc::Allocator;
 
-/// So many clauses of a case are shown on one line at most.
-const MOST_CLAUSES: usize = 8;
+/// How many lines stand in front of the first case or section of a text.
+pub(crate) const HEAD_LINES: usize = 2;
 
-/// The lines of a question's text that ask a case.
-#[derive(Drop)]
-pub(crate) struct AskedLines<'a> {
-    /// The line of the first clause.
-    first: usize,
-    /// The text from that line on, with the name of the question's file.
-    rest: NamedText<'a>,
+/// The place that a line begins with, and what follows the colon and the space after it.
+pub(crate) fn scan_place(line: &[u8]) -> Option<(u32, &[u8])>
+    ensures { Gives (λ placed. (placed.0, placed.1.now)) result (place_at line.now) }
+{
+    let (place, rest) = scan_number(line)?;
+    Some((place, skip_word(rest, b": ")?))
 }
 
-impl<'a> AskedLines<'a> {
-    /// The lines of the case of a number.
-    pub(crate) fn of<A: Allocator>(
-        question: &NamedText<'a>,
-        cases: &[Case<A>],
-        number: usize,
-    ) -> AskedLines<'a> {
-        let mut first = HEAD_LINES + 2;
-        for case in cases.iter().take(number) {
-            first = first.saturating_add(case.len()).saturating_add(1);
-        }
-        let rest = NamedText {
-            name: question.name,
-            text: question.from_line(first),
-        };
-        AskedLines { first, rest }
+/// The clause that a line of a question's text spells: what stands after its place, or all of it where it has none.
+pub(crate) fn clause_of(line: &[u8]) -> &[u8]
+    ensures { IsClauseOf line.now result.now }
+{
+    match scan_place(line) {
+        Some((_, clause)) => clause,
+        None => line,
     }
+}
 
-    /// The name of the question's file.
-    pub(crate) fn file(&self) -> &'a str {
-        self.rest.name
+/// The line of the first clause of the case of a number, in the text of a question.
+pub(crate) fn first_line<A: Allocator>(cases: &[Case<A>], number: usize) -> usize
+    requires { (number < length cases.now) × (length cases.now ≤ MAX_CASES) }
+    ensures value { result ≡ clause_line cases.now number 0 }
+    ensures small { result ≤ 256 * MAX_CASES + 4 }
+{
+    let mut line = HEAD_LINES + 2;
+    for case in &cases[..number] {
+        line += case.len() + 1;
     }
-
-    /// The line of clause `n`, counted from 0.
-    pub(crate) fn line(&self, n: usize) -> usize {
-        self.first.saturating_add(n)
-    }
-
-    /// The place and the clause, as the line spells them.
-    fn spelling(&self, n: usize) -> &'a [u8] {
-        self.rest.line(n.saturating_add(1))
-    }
-
-    /// The clause as its line spells it.
-    pub(crate) fn clause(&self, n: usize) -> &'a [u8] {
-        let line = self.spelling(n);
-        match line.iter().position(|c| *c == b' ') {
-            Some(space) => &line[space + 1..],
-            None => line,
-        }
-    }
-
-    /// Adds the clauses with their places, of which there are so many, parted by commas.
-    pub(crate) fn add_clauses<P: Allocator>(&self, page: &mut Page<P>, clauses: usize)
-        ensures { AddedSome page.old page.new }
-    {
-        for n in 0..clauses.min(MOST_CLAUSES) {
-            if n > 0 {
-                page.words(", ");
-            }
-            page.quote(self.spelling(n));
-        }
-        if clauses > MOST_CLAUSES {
-            page.words(", ..");
-        }
-    }
+    line
 }
 
 /// The number of the clause that a case asks of a place, counted from 0.
-pub(crate) fn clause_at<A: Allocator>(case: &Case<A>, place: u8) -> Option<usize> {
+pub(crate) fn clause_at<A: Allocator>(case: &Case<A>, place: u8) -> Option<usize>
+    ensures { MatchOption result (¬ (IsAsked case.now place))
+        (λ n. (c : Conjunct) × (slice_get case.now n ≡ Some c) × (c.place ≡ place)) }
+{
     for n in 0..case.len() {
         if case.place(n) == place {
             return Some(n);

@@ -3,14 +3,17 @@ ghost use Rattle.ira_audit.specs.GoodLogs.{AreGood};
 ghost use Rattle.ira_view_page.specs.Page.{Added};
 ghost use Rattle.ira_view_explain_question.specs.ChosenCases.{more_cases_text, no_case_text, rest_text};
 ghost use Rattle.ira_view_explain_question.specs.EliminationLines.{name_of};
+ghost use Rattle.ira_view_explain_question.specs.NodeLeft.{IsStateAfter};
 
 use crate::asked_files::AskedFiles;
-use crate::asked_lines::AskedLines;
+use crate::asked_lines::first_line;
 use crate::chosen_cases::MOST_CASES;
 use crate::explained_case::ExplainedCase;
 use ira_audit::AskedQuestion;
 use ira_event::Logs;
-use ira_view_page::{Emphasis, ExplanationDraft, Page, file_of};
+use ira_node::NodeState;
+use ira_view_evidence::state_after;
+use ira_view_page::{Emphasis, NamedText, Page, file_of};
 use std::alloc::Allocator;
 
 /// A question about the logs of a ring, and the files of both.
@@ -41,16 +44,32 @@ impl<'a, A: Allocator + Clone> AskedRing<'a, A> {
     pub(crate) fn case(&'a self, number: usize) -> ExplainedCase<'a, A>
         requires { number < length self.now.asked.now.question.cases }
         ensures asked { result.ring.now.asked.now ≡ self.now.asked.now }
-        ensures files { result.ring.now.files.logs.now ≡ self.now.files.logs.now }
+        ensures files { result.ring.now.files ≡ self.now.files }
         ensures number { result.number ≡ number }
         ensures case { slice_get self.now.asked.now.question.cases number ≡ Some result.case.now }
     {
-        let cases = self.asked.cases();
+        let (file, cases) = (self.files.question, self.asked.cases());
+        let first = first_line(cases, number);
         ExplainedCase {
             ring: self,
             case: &cases[number],
             number,
-            lines: AskedLines::of(self.files.question, cases, number),
+            first,
+            lines: NamedText {
+                name: file.name,
+                text: file.from_line(first),
+            },
+        }
+    }
+
+    /// The state of a node after so many of its events.
+    pub(crate) fn state_after(&self, node: u8, events: u32) -> NodeState
+        requires { (s : NodeState) × IsStateAfter self.now.asked.now.logs node events s }
+        ensures { IsStateAfter self.now.asked.now.logs node events result }
+    {
+        match state_after(self.logs().log(node), events) {
+            Some(state) => state,
+            None => unreachable!(),
         }
     }
 
@@ -80,45 +99,6 @@ impl<'a, A: Allocator + Clone> AskedRing<'a, A> {
         page.number_of(self.asked.cases().len(), "case");
         page.words(", counted from 0.");
         page.end();
-    }
-
-    /// Adds that a certificate has so many sections, and how many are due.
-    pub(crate) fn count_sections(
-        &self,
-        draft: &mut ExplanationDraft<A>,
-        certificate: &str,
-        found: usize,
-    ) {
-        let (file, cases) = (self.files.question, self.asked.cases());
-        let page = &mut draft.page;
-        page.begin(Emphasis::Plain);
-        page.show(file.name.as_bytes());
-        page.words(": ");
-        page.number_of(cases.len(), "case");
-        page.words(", so as many sections are due, in their order.");
-        page.end();
-        page.begin(Emphasis::Plain);
-        page.show(certificate.as_bytes());
-        page.words(": ");
-        page.number_of(found, "section");
-        match cases.get(found) {
-            Some(case) => {
-                let lines = AskedLines::of(file, cases, found);
-                page.words("; the first case without one is case ");
-                page.number(found as u64);
-                page.words(", ");
-                lines.add_clauses(page, case.len());
-                page.words(" (");
-                page.place(file.name, lines.line(0));
-                page.words(")");
-                page.end();
-                draft.quoted(file, lines.line(0));
-            }
-            None => page.end(),
-        }
-        draft.hint_apart(
-            "the certificate is of another question: `ira decide --out` writes one for this.",
-        );
     }
 }
 

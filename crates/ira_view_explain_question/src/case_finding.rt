@@ -1,8 +1,10 @@
 ghost use Rattle.std.specs.Prelude.{◌≡◌, ℕ, IfOk, List};
+ghost use Rattle.ira_cert.specs.Conjuncts.{IsAsked};
 ghost use Rattle.ira_elim.specs.Found.{IsFound};
+ghost use Rattle.ira_elim.specs.declared.found.Found.{Found};
 ghost use Rattle.ira_view_evidence.specs.Absence.{ShowsAbsence};
-ghost use Rattle.ira_view_page.specs.Page.{Added, AddedSome};
-ghost use Rattle.ira_view_explain_question.specs.CaseFinding.{IsCaseFinding, TellsFinding, eliminates};
+ghost use Rattle.ira_view_page.specs.Page.{Added};
+ghost use Rattle.ira_view_explain_question.specs.CaseFinding.{IsAskedOf, IsCaseFinding, TellsFinding, eliminates};
 ghost use Rattle.ira_view_explain_question.specs.CaseFinding.{eliminations_text, more_eliminations_text, spent_text};
 
 use crate::asked_lines::clause_at;
@@ -33,7 +35,7 @@ impl<A: Allocator + Clone> CaseFinding<A> {
         found: &Found<A>,
     ) -> Result<CaseFinding<A>, OutOfMemory>
         requires { IsFound case.now.ring.now.asked.now.logs case.now.case.now found.now }
-        ensures { IfOk result (IsCaseFinding case.now.ring.now.asked.now.logs case.now.case.now) }
+        ensures { IfOk result (IsCaseFinding case.now.ring.now.asked.now.logs case.now.case.now found.now) }
     {
         let alloc = case.ring.alloc.clone()?;
         match found {
@@ -47,10 +49,10 @@ impl<A: Allocator + Clone> CaseFinding<A> {
 
     /// Adds it to a page.
     pub(crate) fn print(&self, case: &ExplainedCase<'_, A>, page: &mut Page<A>)
-        requires { IsCaseFinding case.now.ring.now.asked.now.logs case.now.case.now self.now }
+        requires { (found : Found A) × IsCaseFinding case.now.ring.now.asked.now.logs case.now.case.now found self.now }
         ensures { (lines : List ℕ)
-            × TellsFinding case.now.ring.now.files.logs.now case.now.ring.now.asked.now.logs self.now lines
-            × Added page.old lines page.new }
+            × TellsFinding case.now.ring.now.files case.now.ring.now.asked.now case.now.number case.now.case.now
+            self.now lines × Added page.old lines page.new }
     {
         match self {
             CaseFinding::Present(moment) => case.print_moment(page, moment),
@@ -72,33 +74,32 @@ fn eliminates(eliminations: &[Elimination], node: u8) -> bool
 impl<A: Allocator + Clone> ExplainedCase<'_, A> {
     /// Adds which node has no state left that it asks for, and whether it ever had one.
     fn print_spent(&self, page: &mut Page<A>, absence: &Absence<A>)
-        ensures { (clause : List ℕ) × Added page.old
+        requires { IsAsked self.now.case.now absence.now.spent }
+        ensures { (clause : List ℕ)
+            × IsAskedOf self.now.ring.now.files.question.now self.now.ring.now.asked.now.question.cases
+            self.now.number self.now.case.now absence.now.spent clause
+            × Added page.old
             (spent_text (eliminates absence.now.eliminations.items absence.now.spent) absence.now.spent clause)
             page.new }
     {
         let spent = absence.spent;
+        let Some(n) = clause_at(self.case, spent) else {
+            unreachable!()
+        };
+        let asked = self.clause(n);
         page.begin(Emphasis::Plain);
         if eliminates(&absence.eliminations, spent) {
             page.numbered("  Each state of node ", spent as u32);
             page.words(" that meets `");
-            self.print_clause(page, spent);
+            page.quote(asked);
             page.words("` is ruled out:");
         } else {
             page.numbered("  Node ", spent as u32);
             page.words(" never met `");
-            self.print_clause(page, spent);
+            page.quote(asked);
             page.words("`.");
         }
         page.end();
-    }
-
-    /// Adds what it asks of a node.
-    fn print_clause(&self, page: &mut Page<A>, place: u8)
-        ensures { AddedSome page.old page.new }
-    {
-        if let Some(n) = clause_at(self.case, place) {
-            page.quote(self.lines.clause(n));
-        }
     }
 
     /// Adds the first eliminations, and how many there are besides.

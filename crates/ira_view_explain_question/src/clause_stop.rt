@@ -1,4 +1,6 @@
+ghost use Rattle.std.specs.Prelude.{◌≡◌};
 ghost use Rattle.ira_view_page.specs.Printable.{IsPrintable};
+ghost use Rattle.ira_view_explain_question.specs.AskedRemark.{due_text};
 
 use ira_event::{MAX_NUMBER, scan_number, skip_word};
 use ira_pred::MAX_DEPTH;
@@ -25,7 +27,8 @@ pub(crate) enum DueInClause {
 impl DueInClause {
     /// In words.
     pub(crate) fn words(self) -> &'static str
-        ensures { IsPrintable result.now }
+        ensures text { result.now ≡ due_text self }
+        ensures printable { IsPrintable result.now }
     {
         match self {
             DueInClause::Clause => {
@@ -53,12 +56,11 @@ pub(crate) struct ClauseStop<'a> {
     pub(crate) due: DueInClause,
 }
 
-/// Where what stands after the place goes on as no clause does; nothing where it is one.
-pub(crate) fn clause_stop(text: &[u8]) -> Option<ClauseStop<'_>> {
+/// Where what stands after the place goes on as no clause does.
+pub(crate) fn clause_stop(text: &[u8]) -> ClauseStop<'_> {
     match after_clause(MAX_DEPTH, text) {
-        Ok([]) => None,
-        Ok(rest) => Some(DueInClause::End.at(rest)),
-        Err(stop) => Some(stop),
+        Ok(rest) => DueInClause::End.at(rest),
+        Err(stop) => stop,
     }
 }
 

@@ -1,24 +1,32 @@
-ghost use Rattle.std.specs.Prelude.{◌≡◌, [], IfOk, Some, length, map};
+ghost use Rattle.std.specs.Prelude.{◌≡◌, ◌≤◌, ℕ, [], IfOk, List, Some, codes, length, map};
 ghost use Rattle.std.specs.List.{AllZip};
 ghost use Rattle.ira_audit.specs.AskedQuestion.{AreFoundOf};
-ghost use Rattle.ira_audit.specs.CheckAnswer.{AreSound};
+ghost use Rattle.ira_audit.specs.CheckAnswer.{AreSound, IsFirstUnsound};
 ghost use Rattle.ira_audit.specs.Judged.{IsJudged};
 ghost use Rattle.ira_audit.specs.QuestionFitsLogs.{QuestionFitsLogs};
 ghost use Rattle.ira_audit.specs.Refusal.{IsCertificateRefusal, IsFindingsReason, IsSectionsRefusal};
 ghost use Rattle.ira_elim.specs.Found.{IsFound};
 ghost use Rattle.ira_view_explain.specs.Counts.{counts, ring_of};
-ghost use Rattle.ira_view_explain_question.specs.Explanation.{AreCasesExplained, AreFindingsExplained, IsRefusalTold};
+ghost use Rattle.ira_view_page.specs.Lines.{IsLine};
+ghost use Rattle.ira_view_page.specs.Page.{Added, AddedSome};
+ghost use Rattle.ira_view_explain_question.specs.Explanation.{AreCasesExplained, AreFindingsExplained};
+ghost use Rattle.ira_view_explain_question.specs.Explanation.{IsCountExplained, IsNoCertificateExplained};
+ghost use Rattle.ira_view_explain_question.specs.Explanation.{IsNotAskedExplained, IsRefusalTold, IsSectionExplained};
+ghost use Rattle.ira_view_explain_question.specs.Explanation.{IsSizeExplained, IsStopExplained};
+ghost use Rattle.ira_view_explain_question.specs.Explanation.{IsUnsoundExplained, line_text};
 
 use crate::asked_files::AskedFiles;
+use crate::asked_finding::AskedFinding;
 use crate::asked_ring::AskedRing;
 use crate::chosen_cases::{MOST_CASES, chosen_cases};
-use crate::text_block::AskedText;
+use crate::pointed_line::quoted_line;
+use crate::section_finding::SectionFinding;
 use ira_audit::{AskedQuestion, Findings, Judged, Reason};
-use ira_cert::Section;
+use ira_cert::{Section, SectionFault};
 use ira_elim::Found;
 use ira_event::{Logs, OutOfMemory};
-use ira_view_explain::{draft_of_ring, draft_run, explain_logs};
-use ira_view_page::{Emphasis, Explanation, ExplanationDraft, NamedText, Page, RingCounts};
+use ira_view_explain::{draft_run, explain_logs};
+use ira_view_page::{Emphasis, Evidence, Explanation, NamedText, Page, RingCounts};
 use std::alloc::Allocator;
 
 /// Why what was found for a question about the logs of a ring is as it is, of one case or of the first ones: an empty
@@ -34,7 +42,7 @@ pub fn explain_found<A: Allocator + Clone>(
     requires asked { QuestionFitsLogs (map (λ log. log.text.now) files.logs.now) files.question.now.text.now
         asked.now.logs asked.now.question }
     requires found { AreFoundOf asked.now findings.now }
-    ensures { IfOk result (AreFindingsExplained files.entry.logs.now asked.now findings.now case) }
+    ensures { IfOk result (AreFindingsExplained files.entry asked.now findings.now case) }
 {
     let ring = AskedRing {
         alloc: &alloc,
@@ -54,7 +62,7 @@ fn explain_cases<A: Allocator + Clone>(
     named: Option<u64>,
 ) -> Result<Explanation<A>, OutOfMemory>
     requires { AllZip (IsFound ring.now.asked.now.logs) ring.now.asked.now.question.cases found.now }
-    ensures { IfOk result (AreCasesExplained ring.now.files.logs.now ring.now.asked.now found.now named) }
+    ensures { IfOk result (AreCasesExplained ring.now.files ring.now.asked.now found.now named) }
 {
     let chosen = chosen_cases(ring.alloc, found, named)?;
     let mut page = Page::new(ring.alloc.clone()?);
@@ -89,16 +97,16 @@ pub fn explain_not_asked<A: Allocator + Clone>(
         files.question.now.text.now reason }
     ensures ring { IfOk result (λ explanation. explanation.ring ≡ ring_of judged.now) }
     ensures told { IfOk result (IsRefusalTold files.entry.logs.now judged.now) }
+    ensures question { IfOk result (IsNotAskedExplained files.entry judged.now reason) }
 {
     let AskedFiles { logs, question } = files;
     match (judged, reason) {
         (Judged::Good(good), Reason::Question(fault)) => {
-            let mut draft = draft_of_ring(alloc.clone()?, good.logs())?;
-            AskedText::new(&alloc, question).explain_question(&mut draft, fault);
-            finish_of_ring(draft, good.logs())
+            let finding = AskedFinding::of_question(question, fault);
+            explain_text(&alloc, question, finding, good.logs())
         }
         (Judged::Good(good), Reason::QuestionSize) => {
-            explain_size(alloc, logs, question, good.logs())
+            explain_size(&alloc, logs, question, good.logs())
         }
         _ => explain_logs(alloc, logs, judged),
     }
@@ -113,16 +121,16 @@ pub fn explain_no_certificate<A: Allocator + Clone>(
     reason: Reason,
 ) -> Result<Explanation<A>, OutOfMemory>
     requires { IsCertificateRefusal certificate.now.text.now (length asked.now.logs) reason }
-    ensures { IfOk result (λ explanation. explanation.ring ≡ Some (counts asked.now.logs)) }
+    ensures ring { IfOk result (λ explanation. explanation.ring ≡ Some (counts asked.now.logs)) }
+    ensures told { IfOk result (IsNoCertificateExplained certificate.now reason) }
 {
     let logs = asked.logs();
     match reason {
         Reason::Certificate(fault) => {
-            let mut draft = draft_of_ring(alloc.clone()?, logs)?;
-            AskedText::new(&alloc, certificate).explain_certificate(&mut draft, fault);
-            finish_of_ring(draft, logs)
+            let finding = AskedFinding::of_certificate(certificate, fault);
+            explain_text(&alloc, certificate, finding, logs)
         }
-        _ => explain_size(alloc, files.logs, certificate, logs),
+        _ => explain_size(&alloc, files.logs, certificate, logs),
     }
 }
 
@@ -137,22 +145,21 @@ pub fn explain_unsound<A: Allocator + Clone>(
     reason: Reason,
 ) -> Result<Explanation<A>, OutOfMemory>
     requires { IsSectionsRefusal asked.now.logs asked.now.question.cases sections.now reason }
-    ensures { IfOk result (λ explanation. explanation.ring ≡ Some (counts asked.now.logs)) }
+    ensures ring { IfOk result (λ explanation. explanation.ring ≡ Some (counts asked.now.logs)) }
+    ensures told { IfOk result
+        (IsUnsoundExplained files.entry asked.now certificate.now.name.now sections.now reason) }
 {
-    let mut draft = draft_of_ring(alloc.clone()?, asked.logs())?;
     let ring = AskedRing {
         alloc: &alloc,
         files,
         asked,
     };
     match reason {
-        Reason::Section { case, .. } => {
-            let case = ring.case(case);
-            case.explain_section(&mut draft, certificate.name, sections)?;
+        Reason::Section { case, fault } => {
+            explain_section(&ring, certificate.name, sections, case, fault)
         }
-        _ => ring.count_sections(&mut draft, certificate.name, sections.len()),
+        _ => explain_count(&ring, certificate.name, sections.len()),
     }
-    finish_of_ring(draft, asked.logs())
 }
 
 /// Of how many cases and steps a yes is, after how the run of the logs stands.
@@ -177,31 +184,141 @@ pub fn explain_sound<A: Allocator + Clone>(
     draft.finish()
 }
 
-/// The explanation that a draft comes to, about the logs of a ring.
-fn finish_of_ring<A: Allocator + Clone>(
-    draft: ExplanationDraft<A>,
+/// A page with the empty line that comes after an answer.
+fn page_after_answer<A: Allocator>(alloc: A) -> Page<A>
+    ensures { Added (Some []) (codes "\n") result }
+{
+    let mut page = Page::new(alloc);
+    page.blank();
+    page
+}
+
+/// What a page explains about the logs of a ring, with what it rests on, and hints that come last on the page.
+fn explanation<A: Allocator + Clone>(
+    alloc: &A,
+    logs: &Logs<A>,
+    page: Page<A>,
+    evidence: Vec<Evidence<A>, A>,
+    hints: Vec<String<A>, A>,
+) -> Result<Explanation<A>, OutOfMemory>
+    ensures ring { IfOk result (λ explanation. explanation.ring ≡ Some (counts logs.now)) }
+    ensures evidence { IfOk result (λ explanation. explanation.evidence.items ≡ evidence.items) }
+    ensures hints { IfOk result (λ explanation. explanation.hints.items ≡ hints.items) }
+    ensures page { IfOk result (λ explanation. AddedSome page (Some explanation.page)) }
+{
+    let mut page = page;
+    for hint in &hints {
+        page.hint(hint);
+    }
+    Ok(Explanation {
+        page: page.finish()?,
+        ring: Some(RingCounts::of(logs)),
+        state_before: None,
+        evidence,
+        hints,
+        cases: Vec::new(alloc.clone()?),
+    })
+}
+
+/// Why a text is no question's or no certificate's.
+fn explain_text<A: Allocator + Clone>(
+    alloc: &A,
+    file: &NamedText<'_>,
+    finding: AskedFinding<'_>,
     logs: &Logs<A>,
 ) -> Result<Explanation<A>, OutOfMemory>
-    ensures { IfOk result (λ explanation. explanation.ring ≡ Some (counts logs.now)) }
+    ensures ring { IfOk result (λ explanation. explanation.ring ≡ Some (counts logs.now)) }
+    ensures told { IfOk result (IsStopExplained file.now finding.entry.stop) }
 {
-    let mut explanation = draft.finish()?;
-    explanation.ring = Some(RingCounts::of(logs));
-    Ok(explanation)
+    let mut evidence = Vec::new(alloc.clone()?);
+    evidence.push(finding.evidence(alloc, file)?)?;
+    let hints = finding.hints(alloc)?;
+    let mut page = page_after_answer(alloc.clone()?);
+    finding.print(file, &mut page);
+    explanation(alloc, logs, page, evidence, hints)
+}
+
+/// Adds `FILE:LINE: TEXT` to a page.
+fn print_line<A: Allocator>(mark: Emphasis, file: &NamedText<'_>, number: usize, page: &mut Page<A>)
+    ensures { (bytes : List ℕ) × (1 ≤ number → IsLine file.now.text.now number bytes)
+        × Added page.old (line_text mark file.now.name.now number bytes) page.new }
+{
+    page.begin(mark);
+    page.place(file.name, number);
+    page.words(": ");
+    page.quote(file.line(number));
+    page.end();
+}
+
+/// Adds the second line of the first of some files, where there is one.
+fn print_first_size<A: Allocator>(files: &[NamedText<'_>], page: &mut Page<A>)
+    ensures { AddedSome page.old page.new }
+{
+    if let Some(first) = files.first() {
+        print_line(Emphasis::Plain, first, 2, page);
+    }
 }
 
 /// By which lines a text and the logs are of rings of different sizes.
 fn explain_size<A: Allocator + Clone>(
-    alloc: A,
+    alloc: &A,
     files: &[NamedText<'_>],
     file: &NamedText<'_>,
     logs: &Logs<A>,
 ) -> Result<Explanation<A>, OutOfMemory>
-    ensures { IfOk result (λ explanation. explanation.ring ≡ Some (counts logs.now)) }
+    ensures ring { IfOk result (λ explanation. explanation.ring ≡ Some (counts logs.now)) }
+    ensures told { IfOk result (IsSizeExplained file.now) }
 {
-    let mut draft = draft_of_ring(alloc, logs)?;
-    draft.quote(Emphasis::Named, file, 2);
+    let mut evidence = Vec::new(alloc.clone()?);
+    evidence.push(Evidence::Line(quoted_line(alloc, file, 2)?))?;
     if let Some(first) = files.first() {
-        draft.quote(Emphasis::Plain, first, 2);
+        evidence.push(Evidence::Line(quoted_line(alloc, first, 2)?))?;
     }
-    finish_of_ring(draft, logs)
+    let hints = Vec::new(alloc.clone()?);
+    let mut page = page_after_answer(alloc.clone()?);
+    print_line(Emphasis::Named, file, 2, &mut page);
+    print_first_size(files, &mut page);
+    explanation(alloc, logs, page, evidence, hints)
+}
+
+/// Why the section of a case isn't sound, which is the first of these that isn't.
+fn explain_section<A: Allocator + Clone>(
+    ring: &AskedRing<'_, A>,
+    certificate: &str,
+    sections: &[Section<A>],
+    case: usize,
+    fault: SectionFault,
+) -> Result<Explanation<A>, OutOfMemory>
+    requires { IsFirstUnsound ring.now.asked.now.logs ring.now.asked.now.question.cases sections.now case fault }
+    ensures ring { IfOk result (λ explanation. explanation.ring ≡ Some (counts ring.now.asked.now.logs)) }
+    ensures told { IfOk result
+        (IsSectionExplained ring.now.files ring.now.asked.now certificate.now sections.now case fault) }
+{
+    let case = ring.case(case);
+    let finding = SectionFinding::find(&case, sections, fault)?;
+    let mut page = page_after_answer(ring.alloc.clone()?);
+    finding.print(&case, certificate, &mut page);
+    let evidence = finding.evidence(ring.alloc, certificate)?;
+    let hints = Vec::new(ring.alloc.clone()?);
+    explanation(ring.alloc, ring.logs(), page, evidence, hints)
+}
+
+/// That a certificate has so many sections, and how many are due.
+fn explain_count<A: Allocator + Clone>(
+    ring: &AskedRing<'_, A>,
+    certificate: &str,
+    sections: usize,
+) -> Result<Explanation<A>, OutOfMemory>
+    ensures ring { IfOk result (λ explanation. explanation.ring ≡ Some (counts ring.now.asked.now.logs)) }
+    ensures told { IfOk result (IsCountExplained ring.now.files ring.now.asked.now certificate.now sections) }
+{
+    let mut page = page_after_answer(ring.alloc.clone()?);
+    ring.print_count(certificate, sections, &mut page);
+    let mut hints = Vec::new(ring.alloc.clone()?);
+    hints.push(String::from_str(
+        ring.alloc.clone()?,
+        "the certificate is of another question: `ira decide --out` writes one for this.",
+    )?)?;
+    let evidence = ring.missing_told(sections)?;
+    explanation(ring.alloc, ring.logs(), page, evidence, hints)
 }

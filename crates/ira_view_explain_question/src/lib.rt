@@ -3,19 +3,26 @@
 #![tactic(auto)]
 
 mod asked_files;
+mod asked_finding;
+mod asked_hint;
 mod asked_lines;
+mod asked_remark;
 mod asked_ring;
 mod case_finding;
-mod certificate_block;
+mod certificate_finding;
 mod chosen_cases;
 mod clause_stop;
 mod elimination_lines;
 mod explain;
 mod explained_case;
 mod moment_lines;
-mod question_block;
-mod step_block;
-mod text_block;
+mod node_left;
+mod pointed_line;
+mod question_finding;
+mod section_count;
+mod section_finding;
+mod section_sentences;
+mod told_text;
 
 pub use asked_files::AskedFiles;
 pub use explain::{

@@ -1,3 +1,4 @@
+ghost use Rattle.std.specs.Prelude.{◌<◌, length};
 ghost use Rattle.ira_view_page.specs.Page.{AddedSome};
 
 use crate::asked_lines::last_place;
@@ -77,7 +78,7 @@ impl<A: Allocator + Clone> ExplainedCase<'_, A> {
         print_loads(page, moment);
         page.begin(Emphasis::Plain);
         page.words("  The way there: ira show --events --question ");
-        page.show(self.lines.file().as_bytes());
+        page.show(self.lines.name.as_bytes());
         page.words(" --case ");
         page.number(self.number as u64);
         page.words(" LOG..");
@@ -113,10 +114,12 @@ impl<A: Allocator + Clone> ExplainedCase<'_, A> {
     }
 
     /// What clause `n` asks.
-    fn asked_cell(&self, n: usize) -> Page<&A> {
+    fn asked_cell(&self, n: usize) -> Page<&A>
+        requires { n < length self.now.case.now }
+    {
         let mut cell = Page::new(self.ring.alloc);
         cell.words("asked ");
-        cell.quote(self.lines.clause(n));
+        cell.quote(self.clause(n));
         cell
     }
 

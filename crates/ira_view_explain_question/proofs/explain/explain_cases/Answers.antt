@@ -10,7 +10,7 @@ use Rattle.ira_view_page.proofs.Adding.{◌&◌, holds, nothing_added}
 use Rattle.ira_view_explain.specs.Counts.{counts}
 use Rattle.ira_view_explain.specs.Refused.{AreParts, none}
 use Rattle.ira_view_explain_question.specs.ChosenCases.{chosen_cases, rest_text}
-use Rattle.ira_view_explain_question.specs.ExplainedCase.{IsCaseOf, TellsCase}
+use Rattle.ira_view_explain_question.specs.ExplainedCase.{IsCaseOf, TellsCaseOf}
 use Rattle.ira_view_explain_question.proofs.Explained.{listed_within, part_next, zipped_next}
 use Rattle.ira_view_explain_question.proofs.Told.{take_first}
 use Rattle.ira_view_explain_question.proofs.explain.explain_cases.Goals as goal
@@ -57,29 +57,36 @@ print-requires g c =
 pub loop-number-preserved : goal.loop-number-preserved
 loop-number-preserved g c =
     let asked = c.args.ring.now.asked.now in
-    let files = c.args.ring.now.files.logs.now in
+    let files = c.args.ring.now.files in
+    let found = c.args.found.now in
     let told = take c.min.result c.deref.result.now in
     let i = c.loop-number.number-index in
     let number = slice_index_or told i 0 in
     let value = c.in_ok-asked_case.field-0 in
     let so_far = c.loop-number.invariant in
+    let here = listed_within c.deref.result.now c.in_ok-chosen.chosen.items c.min.result i (length found)
+    c.deref.ensures.value c.in_ok-chosen.ensures.within c.loop-number-test.true in
+    let at = slice_get-get_or found number _ here ∙ ap Some (sym c.index-found-number.is) in
     let printed = rw (c.case-case.ensures.files, c.case-case.ensures.asked, c.case-case.ensures.number) at
     c.in_ok-print.ensures in
-    let is_case : IsCaseOf asked number value =
-    (c.case-case.result.case.now, c.case-case.ensures.case, rw c.case-case.ensures.number at c.in_ok-asked_case.ensures) in
+    let is_case : IsCaseOf files.question.now asked number value = (
+      c.case-case.result.case.now,
+      c.case-case.ensures.case,
+      rw (c.case-case.ensures.files, c.case-case.ensures.asked, c.case-case.ensures.number) at c.in_ok-asked_case.ensures,
+    ) in
     record {
-      cases = rw c.in_ok-push.ensures.items (zipped_next (IsCaseOf asked) told i value c.loop-number.cases.items
+      cases = rw c.in_ok-push.ensures.items (zipped_next (IsCaseOf files.question.now asked) told i value c.loop-number.cases.items
           c.loop-number-test.true so_far.cases is_case);
       lines = so_far.lines ++ printed.0;
-      told = part_next (TellsCase g.row.A.Denot files asked) told i so_far.lines printed.0 c.loop-number-test.true
-          so_far.told printed.1;
+      told = part_next (TellsCaseOf files asked found) told i so_far.lines printed.0 c.loop-number-test.true
+          so_far.told (c.index-found-number.result, at, printed.1);
       added = so_far.added & printed.2;
     }
 
 pub returns : goal.returns
 returns g c =
     let asked = c.args.ring.now.asked.now in
-    let files = c.args.ring.now.files.logs.now in
+    let files = c.args.ring.now.files in
     let all = chosen_cases c.args.named c.args.found.now in
     let i = c.loop-number.number-index in
     let told = take c.min.result c.deref.result.now in
@@ -97,8 +104,8 @@ returns g c =
       state_before = refl;
       evidence = c.new.ensures.items;
       hints = c.new-2.ensures.items;
-      cases = subst (λ (ns : List ℕ). AllZip (IsCaseOf asked) ns c.loop-number.cases.items) same so_far.cases;
+      cases = subst (λ (ns : List ℕ). AllZip (IsCaseOf files.question.now asked) ns c.loop-number.cases.items) same so_far.cases;
       lines = so_far.lines;
-      told = subst (λ (ns : List ℕ). AreParts (TellsCase g.row.A.Denot files asked) ns so_far.lines) same so_far.told;
+      told = subst (λ (ns : List ℕ). AreParts (TellsCaseOf files asked c.args.found.now) ns so_far.lines) same so_far.told;
       page = page ∙ ap (λ n. so_far.lines ++ rest_text c.args.named n (length asked.question.cases)) count;
     }

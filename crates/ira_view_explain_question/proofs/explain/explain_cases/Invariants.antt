@@ -2,13 +2,13 @@ use Rattle.std.proofs.Common.{ℕ, List, take}
 use Rattle.std.specs.List.{AllZip}
 use Rattle.ira_view_page.specs.Page.{Added}
 use Rattle.ira_view_explain.specs.Refused.{AreParts}
-use Rattle.ira_view_explain_question.specs.ExplainedCase.{IsCaseOf, TellsCase}
+use Rattle.ira_view_explain_question.specs.ExplainedCase.{IsCaseOf, TellsCaseOf}
 use Rattle.ira_view_explain_question.proofs.explain.explain_cases.Given as goal
 
 abbrev pub invariant-loop-number : goal.invariant-loop-number
 invariant-loop-number g l = record {
-  cases : AllZip (IsCaseOf l.ring.asked.now) (take l.number-index l.told) l.cases.items;
+  cases : AllZip (IsCaseOf l.ring.files.question.now l.ring.asked.now) (take l.number-index l.told) l.cases.items;
   lines : List ℕ;
-  told : AreParts (TellsCase g.row.A.Denot l.ring.files.logs.now l.ring.asked.now) (take l.number-index l.told) lines;
+  told : AreParts (TellsCaseOf l.ring.files l.ring.asked.now l.found) (take l.number-index l.told) lines;
   added : Added l.initial.page lines l.page;
 }

@@ -1,0 +1,66 @@
+ghost use Rattle.ira_view_page.specs.Page.{AddedSome};
+
+use ira_view_explain::Slip;
+use ira_view_page::Page;
+use std::alloc::Allocator;
+use std::str;
+
+/// A usual cause why a text is no question's or no certificate's.
+#[derive(Clone, Copy)]
+pub(crate) enum AskedHint<'a> {
+    Slip(Slip),
+    /// A clause of several words has no brackets around it: the line up to it, and the clause.
+    Brackets { place: &'a [u8], clause: &'a [u8] },
+    /// The text goes on as this word begins.
+    Word(&'static str),
+    /// Two clauses of a case are for one node.
+    OneClause,
+    /// A place comes after a greater one.
+    Order,
+    /// The place isn't in the ring of so many nodes.
+    Places { nodes: u32 },
+}
+
+impl AskedHint<'_> {
+    /// Adds its sentence.
+    pub(crate) fn print<P: Allocator>(self, page: &mut Page<P>)
+        ensures { AddedSome page.old page.new }
+    {
+        match self {
+            AskedHint::Slip(slip) => page.words(slip.hint()),
+            AskedHint::Brackets { place, clause } => print_brackets(page, place, clause),
+            AskedHint::Word(word) => {
+                page.words("`");
+                page.show(word.as_bytes());
+                page.words("` has that beginning.");
+            }
+            AskedHint::OneClause => {
+                page.words("two clauses for one node are one clause with `and`.");
+            }
+            AskedHint::Order => page.words("order the lines of a case by place."),
+            AskedHint::Places { nodes } => {
+                page.numbered("places count from 0, and N is ", nodes);
+                page.words(".");
+            }
+        }
+    }
+}
+
+/// Adds how a clause of several words after a place is spelled, with this one where it is a text.
+fn print_brackets<P: Allocator>(page: &mut Page<P>, place: &[u8], clause: &[u8])
+    ensures { AddedSome page.old page.new }
+{
+    if str::from_utf8(clause).is_err() {
+        return page.words("`not`, `and` and `or` stand in brackets.");
+    }
+    if clause.starts_with(b"not ") {
+        page.words("`not` stands");
+    } else {
+        page.words("`and` and `or` stand");
+    }
+    page.words(" in brackets: `");
+    page.show(place);
+    page.words("(");
+    page.show(clause);
+    page.words(")`");
+}

@@ -1,0 +1,162 @@
+ghost use Rattle.std.specs.Prelude.{◌≢◌, ◌<◌, length};
+ghost use Rattle.ira_pred.specs.declared.ask_fault.AskFault.{AskFault};
+ghost use Rattle.ira_view_explain_question.specs.AskedFinding.{IsAt, IsAtLine};
+ghost use Rattle.ira_view_explain_question.specs.QuestionFinding.{IsCasesStop, IsQuestionStop};
+
+use crate::asked_finding::{AskedFinding, AskedStop, nth_line};
+use crate::asked_hint::AskedHint;
+use crate::asked_lines::scan_place;
+use crate::asked_remark::AskedRemark;
+use crate::clause_stop::clause_stop;
+use ira_event::{scan_number, skip_word};
+use ira_pred::{AskFault, MAX_CASES, MAX_DEPTH};
+use ira_view_explain::Slip;
+use ira_view_page::NamedText;
+
+/// The words that a clause without brackets begins with.
+static WORDS: [&str; 10] = [
+    "true", "leader", "active", "passive", "choosing", "yielding", "owes", "round", "id", "term",
+];
+
+/// So many letters tell a word.
+const TELLING: usize = 4;
+
+/// Whether a text without a bracket in front has a word that stands in brackets.
+fn lacks_brackets(clause: &[u8]) -> bool {
+    !clause.starts_with(b"(")
+        && (clause.starts_with(b"not ") || has_word(clause, b" and ") || has_word(clause, b" or "))
+}
+
+/// Whether these bytes stand in the text.
+fn has_word(text: &[u8], word: &[u8]) -> bool
+    requires { 0 < length word.now }
+{
+    text.windows(word.len()).any(|part| part == word)
+}
+
+/// The word of a clause whose first letters the text has.
+fn word_begun(text: &[u8]) -> Option<&'static str> {
+    for word in &WORDS {
+        let letters = word.as_bytes();
+        let telling = &letters[..letters.len().min(TELLING)];
+        if text.starts_with(telling) {
+            return Some(*word);
+        }
+    }
+    None
+}
+
+/// The byte of a line at which one bracket more is open than may be.
+fn deepest(line: &[u8]) -> usize {
+    let mut open = 0usize;
+    for k in 0..line.len() {
+        match line[k] {
+            b'(' => open = open.saturating_add(1),
+            b')' => open = open.saturating_sub(1),
+            _ => {}
+        }
+        if open > MAX_DEPTH {
+            return k;
+        }
+    }
+    line.len()
+}
+
+impl<'a> AskedFinding<'a> {
+    /// Of a text with this fault, which is no question's.
+    pub(crate) fn of_question(file: &NamedText<'a>, fault: AskFault) -> AskedFinding<'a>
+        requires { fault ≢ AskFault.OutOfMemory }
+        ensures { IsQuestionStop fault result.stop }
+    {
+        match fault {
+            AskFault::TooLong => AskedFinding::too_long(),
+            AskFault::Head => { AskedFinding::of_head(file, b"irask 1", AskedRemark::QuestionHead) }
+            AskFault::Line(line) => AskedFinding::of_line(file, line as usize),
+            AskFault::Place(line) => AskedFinding::of_place(file, line as usize),
+            AskFault::Depth(line) => {
+                let byte = deepest(file.line(line as usize));
+                AskedFinding::at(line as usize, byte, byte, AskedRemark::Depth)
+            }
+            AskFault::Empty(line) => {
+                AskedFinding::whole_line(file, line as usize, AskedRemark::NoClause)
+            }
+            AskFault::Cases => AskedFinding::of_cases(file),
+            AskFault::Cut => AskedFinding::of_cut(file),
+            AskFault::Trailing => AskedFinding::of_trailing(file),
+            AskFault::OutOfMemory => unreachable!(),
+        }
+    }
+
+    fn of_line(file: &NamedText<'a>, number: usize) -> AskedFinding<'a>
+        ensures { IsAtLine number result.stop }
+    {
+        let line = file.line(number);
+        match scan_place(line) {
+            Some((_, clause)) if number > 3 => AskedFinding::of_clause(number, line, clause),
+            _ => {
+                let due = if number > 3 {
+                    AskedRemark::CaseLine
+                } else {
+                    AskedRemark::FirstCase
+                };
+                AskedFinding::whole_line(file, number, due).with_slip(line)
+            }
+        }
+    }
+
+    /// Of a line whose clause, after the place, is none.
+    fn of_clause(number: usize, line: &'a [u8], clause: &'a [u8]) -> AskedFinding<'a>
+        ensures { IsAtLine number result.stop }
+    {
+        let stop = clause_stop(clause);
+        let byte = line.len().saturating_sub(stop.rest.len());
+        let finding = AskedFinding::at(number, byte, byte, AskedRemark::InClause(stop.due));
+        if let Some(slip) = Slip::of_format(line) {
+            return finding.hinted(AskedHint::Slip(slip));
+        }
+        if lacks_brackets(clause) {
+            let place = &line[..line.len().saturating_sub(clause.len())];
+            return finding.hinted(AskedHint::Brackets { place, clause });
+        }
+        match word_begun(stop.rest) {
+            Some(word) => finding.hinted(AskedHint::Word(word)),
+            None => finding,
+        }
+    }
+
+    fn of_place(file: &NamedText<'a>, number: usize) -> AskedFinding<'a>
+        ensures { IsAt number AskedRemark.Place result.stop }
+    {
+        let line = file.line(number);
+        let Some((place, rest)) = scan_number(line) else {
+            return AskedFinding::whole_line(file, number, AskedRemark::Place);
+        };
+        let digits = line.len().saturating_sub(rest.len());
+        let finding = AskedFinding::at(number, 0, digits, AskedRemark::Place);
+        match scan_place(file.line(number.saturating_sub(1))) {
+            Some((before, _)) if before == place => finding.hinted(AskedHint::OneClause),
+            Some((before, _)) if before > place => finding.hinted(AskedHint::Order),
+            _ => match number_of_nodes(file) {
+                Some(nodes) => finding.hinted(AskedHint::Places { nodes }),
+                None => finding,
+            },
+        }
+    }
+
+    /// Of a text without a case, or with one more than a question may have.
+    fn of_cases(file: &NamedText<'a>) -> AskedFinding<'a>
+        ensures { IsCasesStop result.stop }
+    {
+        if file.line(3) == b"end".as_slice() {
+            return AskedFinding::whole_line(file, 3, AskedRemark::NoCase);
+        }
+        let number = nth_line(file, b"case", MAX_CASES + 1);
+        AskedFinding::whole_line(file, number, AskedRemark::ManyCases)
+    }
+}
+
+/// The number of nodes that the second line of a text names.
+fn number_of_nodes(file: &NamedText<'_>) -> Option<u32> {
+    let (nodes, _) = scan_number(skip_word(file.line(2), b"nodes ")?)?;
+    Some(nodes)
+}
