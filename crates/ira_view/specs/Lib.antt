@@ -4,6 +4,7 @@ pub mod DrawFaultLine
 pub mod Explained
 pub mod FirstCut
 pub mod MendedLines
+pub mod PosedCheck
 pub mod RunFaultLine
 pub mod ShownRing
 pub mod Texts

@@ -1,4 +1,4 @@
-ghost use Rattle.std.specs.Prelude.{◌≡◌, IfOk, Some};
+ghost use Rattle.std.specs.Prelude.{◌≡◌, IfOk};
 ghost use Rattle.ira_audit.specs.CheckAnswer.{IsCheckAnswer};
 ghost use Rattle.ira_audit.specs.Findings.{AreFindings, AreReportable};
 ghost use Rattle.ira_audit.specs.Judged.{IsJudged};
@@ -6,20 +6,17 @@ ghost use Rattle.ira_audit.specs.Never.{NoCaseIsMet};
 ghost use Rattle.ira_audit.specs.QuestionFitsLogs.{QuestionFitsLogs};
 ghost use Rattle.ira_audit.specs.Report.{IsReportable};
 ghost use Rattle.ira_audit.specs.declared.answer.Answer.TheVariants.{Yes};
-ghost use Rattle.ira_view_explain.specs.Counts.{counts};
 ghost use Rattle.ira_view_explain_question.specs.Explanation.{AreFindingsExplained};
 ghost use Rattle.ira_view.specs.Explained.{IsCheckExplanation, IsFindingsExplanation};
 ghost use Rattle.ira_view.specs.Texts.{texts_of};
 
 use crate::findings_view::FindingsView;
+use crate::posed_check::{PosedCheck, explain_checked, pose_check};
 use crate::view::View;
-use ira_audit::{Answer, AskedQuestion, Findings, Judged, Refusal};
+use ira_audit::{AskedQuestion, Findings, Judged, Refusal};
 use ira_event::OutOfMemory;
 use ira_links::OpenGate;
-use ira_view_explain_question::{
-    AskedFiles, explain_found, explain_no_certificate, explain_not_asked, explain_sound,
-    explain_unsound,
-};
+use ira_view_explain_question::{AskedFiles, explain_found, explain_not_asked};
 use ira_view_page::NamedText;
 use std::alloc::Allocator;
 use std::sync::Wait;
@@ -99,53 +96,11 @@ where
         files.entry.question.now.text.now certificate.now.text.now) }
     ensures explained { IfOk result (λ view. IsCheckExplanation files.entry judged.now view.explanation) }
 {
-    match judged.ask(files.question.text) {
-        Ok(asked) => explain_check(rt, alloc, files, certificate, &asked),
-        Err(Refusal::No(reason)) => Ok(View {
-            answer: Answer::No(reason),
-            explanation: explain_not_asked(alloc, files, judged, reason)?,
-        }),
-        Err(Refusal::OutOfMemory) => Err(OutOfMemory),
-    }
-}
-
-/// Whether a certificate answers a question that is asked of good logs, and why.
-fn explain_check<R, A>(
-    rt: &R,
-    alloc: A,
-    files: AskedFiles<'_>,
-    certificate: &NamedText<'_>,
-    asked: &AskedQuestion<'_, A>,
-) -> Result<View<A>, OutOfMemory>
-where
-    R: Threads + Wait + Clock + Sync,
-    A: Allocator + Clone + Send + Sync,
-    requires { QuestionFitsLogs (texts_of files.logs.now) files.question.now.text.now asked.now.logs
-        asked.now.question }
-    ensures answer { IfOk result (λ view. IsCheckAnswer (texts_of files.entry.logs.now)
-        files.entry.question.now.text.now certificate.now.text.now view.answer) }
-    ensures reportable { IfOk result (λ view. IsReportable view.answer) }
-    ensures ring { IfOk result (λ view. view.explanation.ring ≡ Some (counts asked.now.logs)) }
-{
-    let read = match asked.read_certificate(certificate.text) {
-        Ok(read) => read,
-        Err(Refusal::No(reason)) => {
-            return Ok(View {
-                answer: Answer::No(reason),
-                explanation: explain_no_certificate(alloc, files, asked, certificate, reason)?,
-            });
+    match pose_check(alloc.clone()?, files, certificate, judged)? {
+        PosedCheck::Posed { asked, read } => {
+            let checked = asked.check(rt, &read, DEPTH, &OpenGate);
+            explain_checked(alloc, files, certificate, &asked, &read, checked)
         }
-        Err(Refusal::OutOfMemory) => return Err(OutOfMemory),
-    };
-    match asked.check(rt, &read, DEPTH, &OpenGate) {
-        Ok(()) => Ok(View {
-            answer: Answer::Yes,
-            explanation: explain_sound(alloc, asked, &read.sections)?,
-        }),
-        Err(Refusal::No(reason)) => Ok(View {
-            answer: Answer::No(reason),
-            explanation: explain_unsound(alloc, files, asked, certificate, &read.sections, reason)?,
-        }),
-        Err(Refusal::OutOfMemory) => Err(OutOfMemory),
+        PosedCheck::Refused(view) => Ok(view),
     }
 }

@@ -1,4 +1,4 @@
-use Rattle.std.proofs.Common.{arith, length, rules, subst, take}
+use Rattle.std.proofs.Common.{arith, subst, take}
 use Rattle.std.proofs.lemmas.List.{length-map, take_all}
 use Rattle.ira_audit.specs.RingAudit.{HasTaken}
 use Rattle.ira_view_page.specs.declared.named_text.NamedText.{NamedText}

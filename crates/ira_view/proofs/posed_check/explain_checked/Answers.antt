@@ -1,0 +1,35 @@
+use Rattle.std.proofs.Common.{◌≡◌, Err, Result, refl}
+use Rattle.ira_audit.proofs.RefusedTexts.{sections_judged}
+use Rattle.ira_audit.specs.CheckAnswer.{yes}
+use Rattle.ira_audit.specs.Refusal.{MatchRefusal}
+use Rattle.ira_audit.specs.declared.reason.Reason.{Reason}
+use Rattle.ira_audit.specs.declared.refusal.Refusal.{Refusal}
+use Rattle.ira_audit.specs.declared.refusal.Refusal.TheVariants.{No}
+use Rattle.ira_view.specs.Texts.{texts_of}
+use Rattle.ira_view.proofs.posed_check.explain_checked.Goals as goal
+
+-- the reason of a refusal
+reason_of : {T : Type 0} (P : T → Type 0) (Q : Reason → Type 0) (r : Result T Refusal) (refusal : Refusal) (reason : Reason)
+    → r ≡ Err refusal → refusal ≡ No reason → MatchRefusal r P Q → Q reason
+reason_of P Q r refusal reason is why h = rw (is, why) at h
+
+pub returns-in_ok-explain_sound-in-Ok : goal.returns-in_ok-explain_sound-in-Ok
+returns-in_ok-explain_sound-in-Ok g c =
+    let asked = c.args.asked.now in
+    let read = c.requires.read in
+    record {
+      answer = yes asked.logs asked.question c.args.read.now c.requires.asked read.0 read.1
+          (rw c.in-Ok.is at c.requires.checked) refl;
+      reportable = tt;
+      ring = c.in_ok-explain_sound-in-Ok.ensures.ring;
+    }
+
+pub returns-in_ok-explain_unsound-in-Err-No : goal.returns-in_ok-explain_unsound-in-Err-No
+returns-in_ok-explain_unsound-in-Err-No g c =
+    let asked = c.args.asked.now in
+    let read = c.requires.read in
+    let judged = sections_judged (texts_of c.args.files.logs.now) c.args.files.question.now.text.now
+    c.args.certificate.now.text.now asked.logs asked.question c.requires.asked c.args.read.now read.0 read.1
+    (Err (No c.in-Err-No.reason)) (reason_of _ _ c.args.checked c.in-Err-No.field-0 c.in-Err-No.reason c.in-Err-No.is
+    (rw c.in-Err-No.is at c.in-Err-No.field-0-is) c.requires.checked) in
+    record { answer = judged.0; reportable = judged.1; ring = c.in_ok-explain_unsound-in-Err-No.ensures }
