@@ -21,9 +21,9 @@ from pictures import HERE
 
 EXAMPLES = os.path.realpath(os.path.join(HERE, '..', 'examples'))
 COMMANDS = ('the log of a node', 'logs', 'explain of a log', 'explain', 'explain --question', 'explain --cert', 'show',
-            'show --events', 'draw', 'decide', 'check', 'pairs', 'run', 'upgrade', 'mend')
-LOG, LOGS, EXPLAIN_LOG, EXPLAIN, EXPLAIN_QUESTION, EXPLAIN_CERT, SHOW, EVENTS, DRAW, DECIDE, CHECK, PAIRS, RUN, UPGRADE, \
-    MEND = range(15)
+            'show --events', 'draw', 'decide', 'check', 'pairs', 'upgrade', 'mend', 'run')
+LOG, LOGS, EXPLAIN_LOG, EXPLAIN, EXPLAIN_QUESTION, EXPLAIN_CERT, SHOW, EVENTS, DRAW, DECIDE, CHECK, PAIRS, UPGRADE, MEND, \
+    RUN = range(15)
 ALL = (0, 2 ** 64 - 1)
 TOLD = '''
 const piece = it => ['h2', '.command', 'pre'].map(part => it.querySelector(part)?.textContent);

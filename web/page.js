@@ -56,8 +56,8 @@ function send(message) {
   return new Promise((resolve, reject) => asked.set(id, {resolve, reject}));
 }
 
-const [LOG, LOGS, EXPLAIN_LOG, EXPLAIN, EXPLAIN_QUESTION, EXPLAIN_CERT, SHOW, EVENTS, DRAW, DECIDE, CHECK, PAIRS, RUN,
-  UPGRADE, MEND] = Array(15).keys();
+const [LOG, LOGS, EXPLAIN_LOG, EXPLAIN, EXPLAIN_QUESTION, EXPLAIN_CERT, SHOW, EVENTS, DRAW, DECIDE, CHECK, PAIRS, UPGRADE,
+  MEND, RUN] = Array(15).keys();
 
 // The status of a command, and what it prints and writes; nothing of one that the module doesn't have.
 async function ask(command, values, files) {

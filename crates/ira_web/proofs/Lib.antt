@@ -1,4 +1,4 @@
 pub mod Deciding
 pub mod Served
-pub mod Texts
+pub mod Shown
 pub mod Written

@@ -5,21 +5,22 @@ use Rattle.ira_audit.specs.Never.{NoCaseIsMet}
 use Rattle.ira_audit.specs.declared.answer.Answer.{Answer}
 use Rattle.ira_audit.specs.declared.answer.Answer.TheVariants.{Yes}
 use Rattle.ira_view_page.specs.declared.named_text.NamedText.{NamedText}
-use Rattle.ira_web.specs.Files.{texts_of}
-use Rattle.ira_web.specs.Reply.{Reply, Reports}
+use Rattle.ira_view.specs.Texts.{texts_of}
+use Rattle.ira_web.specs.Reply.{Reply, Telling}
 
--- the line of the answer of the texts of a question, of a certificate and of a ring's logs; after a yes no case of the
--- question is met
-pub record ChecksTexts (question certificate : List ℕ) (texts : List (List ℕ)) (reply : Reply) : Type 0 where
+-- the answer of the texts of a question, of a certificate and of a ring's logs is told; after a yes no case of the question
+-- is met
+pub record ChecksTexts (Tells : Telling) (question certificate : List ℕ) (texts : List (List ℕ)) (reply : Reply)
+    : Type 0 where
   pub answer : Answer
   pub judged : IsCheckAnswer texts question certificate answer
   pub never : answer ≡ Yes → NoCaseIsMet texts question certificate
-  pub told : Reports answer reply
+  pub told : Tells answer reply
 
 -- the first file is that of the question, the next that of the certificate, and the others are those of the logs
-pub record ChecksFiles (files : List NamedText) (reply : Reply) : Type 0 where
+pub record ChecksFiles (Tells : Telling) (files : List NamedText) (reply : Reply) : Type 0 where
   pub question : List ℕ
   pub certificate : List ℕ
   pub texts : List (List ℕ)
   pub given : texts_of files ≡ question ∷ certificate ∷ texts
-  pub told : ChecksTexts question certificate texts reply
+  pub told : ChecksTexts Tells question certificate texts reply

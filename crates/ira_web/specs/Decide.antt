@@ -6,7 +6,7 @@ use Rattle.ira_audit.specs.Findings.{AreFindings, IsCertificateOf, MakeNoCertifi
 use Rattle.ira_audit.specs.FindingsText.{findings_text}
 use Rattle.ira_audit.specs.declared.findings.Findings.{Findings}
 use Rattle.ira_view_page.specs.declared.named_text.NamedText.{NamedText}
-use Rattle.ira_web.specs.Files.{texts_of}
+use Rattle.ira_view.specs.Texts.{texts_of}
 use Rattle.ira_web.specs.Reply.{Reply, printed, with_file}
 use Rattle.ira_web.specs.declared.status.Status.TheVariants.{No, Refused, Yes}
 

@@ -1,5 +1,5 @@
 -- Files whose names and texts stand one after another.
-use Rattle.std.specs.Prelude.{◌≡◌, ℕ, List, [], ◌++◌, ◌∷◌, length, map}
+use Rattle.std.specs.Prelude.{◌≡◌, ℕ, List, [], ◌++◌, ◌∷◌, length}
 use Rattle.std.specs.List.{flat_map}
 use Rattle.ira_view_page.specs.declared.named_text.NamedText.{NamedText}
 
@@ -14,7 +14,3 @@ bytes_of file = file.name.now ++ file.text.now
 -- the lengths and the bytes are those of the files, one after another
 abbrev pub AreFiles : List ℕ → List ℕ → List NamedText → Type 0
 AreFiles lengths bytes files = (flat_map lengths_of files ≡ lengths) × (flat_map bytes_of files ≡ bytes)
-
--- the texts, without the names
-abbrev pub texts_of : List NamedText → List (List ℕ)
-texts_of files = map (λ file. file.text.now) files

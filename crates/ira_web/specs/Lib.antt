@@ -1,8 +1,15 @@
+pub mod AskedMoment
+pub mod AskedRun
 pub mod Check
 pub mod Decide
+pub mod ExplainQuestion
 pub mod Files
+pub mod Mend
 pub mod Pairs
 pub mod Reply
 pub mod Request
+pub mod Run
 pub mod Serves
+pub mod Show
 pub mod Status
+pub mod Upgrade

@@ -3,6 +3,7 @@ use Rattle.std.specs.Prelude.{◌≡◌, ℕ, List, [], ◌++◌, ◌∷◌, len
 use Rattle.std.specs.List.{flat_map}
 use Rattle.ira_audit.specs.Report.{report_line}
 use Rattle.ira_audit.specs.declared.answer.Answer.{Answer}
+use Rattle.ira_view_page.specs.Printable.{IsPrintable}
 use Rattle.ira_web.specs.Status.{answer_status}
 use Rattle.ira_web.specs.declared.status.Status.{Status}
 use Rattle.ira_web.specs.declared.status.Status.TheVariants.{Refused}
@@ -24,9 +25,22 @@ refused line = record { status = Refused; parts = [] ∷ line ∷ [] }
 abbrev pub with_file : Reply → List ℕ → Reply
 with_file reply file = record { status = reply.status; parts = reply.parts ++ file ∷ [] }
 
--- the line of an answer is printed, with its status
-abbrev pub Reports : Answer → Reply → Type 0
+-- besides, these files are written
+abbrev pub with_files : Reply → List (List ℕ) → Reply
+with_files reply files = record { status = reply.status; parts = reply.parts ++ files }
+
+-- what a reply tells of an answer
+abbrev pub Telling : Type 1
+Telling = Answer → Reply → Type 0
+
+-- its line is printed, with its status
+abbrev pub Reports : Telling
 Reports answer reply = reply ≡ printed (answer_status answer) (report_line answer)
+
+-- its line is printed and a page of printable text after it, with its status
+abbrev pub Explains : Telling
+Explains answer reply =
+    (page : List ℕ) × IsPrintable page × (reply ≡ printed (answer_status answer) (report_line answer ++ page))
 
 -- a list begins with these
 abbrev pub Begins : List ℕ → List ℕ → Type 0

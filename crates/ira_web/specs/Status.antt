@@ -1,7 +1,11 @@
 -- What the program ends with, where memory doesn't run out.
-use Rattle.std.specs.Prelude.{ℕ}
+use Rattle.std.specs.Prelude.{◌≡◌, ◌⊎◌, ℕ, List}
+use Rattle.ira_audit.specs.Findings.{MakeNoCertificate}
 use Rattle.ira_audit.specs.declared.answer.Answer.{Answer}
 use Rattle.ira_audit.specs.declared.answer.Answer.TheVariants as answer
+use Rattle.ira_audit.specs.declared.findings.Findings.{Findings}
+use Rattle.ira_ring.specs.SeededRing.{HasLeader}
+use Rattle.ira_ring_setup.specs.declared.node_end.NodeEnd.{NodeEnd}
 use Rattle.ira_web.specs.declared.status.Status.{Status}
 use Rattle.ira_web.specs.declared.status.Status.TheVariants.{Yes, No, Refused}
 
@@ -15,3 +19,12 @@ status_number Refused = 2
 abbrev pub answer_status : Answer → Status
 answer_status answer.Yes = Yes
 answer_status (answer.No reason) = No
+
+-- the status of findings: no where they make no certificate, else yes
+abbrev pub IsFindingsStatus : {A : Type 0} → Findings A → Status → Type 0
+IsFindingsStatus findings status =
+    (MakeNoCertificate findings × (status ≡ No)) ⊎ (¬ (MakeNoCertificate findings) × (status ≡ Yes))
+
+-- the status of a run: yes where a node leads, else no
+abbrev pub IsElectionStatus : List NodeEnd → Status → Type 0
+IsElectionStatus ends status = (HasLeader ends × (status ≡ Yes)) ⊎ (¬ (HasLeader ends) × (status ≡ No))

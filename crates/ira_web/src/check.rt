@@ -4,7 +4,8 @@ ghost use Rattle.ira_audit.specs.Judged.{IsJudged};
 ghost use Rattle.ira_audit.specs.Refusal.{IsSectionsRefusal, MatchRefusal, answered};
 ghost use Rattle.ira_audit.specs.Report.{IsReportable};
 ghost use Rattle.ira_web.specs.Check.{ChecksFiles, ChecksTexts};
-ghost use Rattle.ira_web.specs.Files.{texts_of};
+ghost use Rattle.ira_web.specs.Reply.{Reports};
+ghost use Rattle.ira_view.specs.Texts.{texts_of};
 
 use crate::judged::judge;
 use crate::reply::Reply;
@@ -15,7 +16,7 @@ use ira_view_page::NamedText;
 use std::alloc::Allocator;
 
 /// Whether there is a section for each case of the question that is sound for it. They are judged one by one.
-fn check_sections<A: Allocator + Clone>(
+pub(crate) fn check_sections<A: Allocator + Clone>(
     alloc: A,
     asked: &AskedQuestion<'_, A>,
     sections: &[Section<A>],
@@ -66,7 +67,7 @@ fn check_logs<A: Allocator + Clone>(
     certificate: &[u8],
     logs: &[NamedText<'_>],
 ) -> Result<Reply<A>, OutOfMemory>
-    ensures { IfOk result (ChecksTexts question.now certificate.now (texts_of logs.now)) }
+    ensures { IfOk result (ChecksTexts Reports question.now certificate.now (texts_of logs.now)) }
 {
     let judged = judge(alloc.clone()?, logs)?;
     match certify(alloc.clone()?, &judged, question, certificate) {
@@ -81,7 +82,7 @@ pub(crate) fn check_files<A: Allocator + Clone>(
     alloc: A,
     files: &[NamedText<'_>],
 ) -> Result<Option<Reply<A>>, OutOfMemory>
-    ensures { IfOk result (λ served. IfSome served (ChecksFiles files.now)) }
+    ensures { IfOk result (λ served. IfSome served (ChecksFiles Reports files.now)) }
 {
     let [question, certificate, logs @ ..] = files else {
         return Ok(None);

@@ -1,7 +1,7 @@
 ghost use Rattle.std.specs.Prelude.{IfOk, IfSome, true};
 ghost use Rattle.ira_audit.specs.DecidedCases.{AreDecided};
 ghost use Rattle.ira_audit.specs.declared.findings.Findings.{Findings as FindingsValue};
-ghost use Rattle.ira_web.specs.Files.{texts_of};
+ghost use Rattle.ira_view.specs.Texts.{texts_of};
 ghost use Rattle.ira_web.specs.Decide.{DecidesFiles, DecidesTexts, PrintsDecided};
 
 use crate::judged::judge;

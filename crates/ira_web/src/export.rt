@@ -82,5 +82,5 @@ fn answer<'a>(
     let Some(files) = read_files(lent, lengths, bytes)? else {
         return Ok(None);
     };
-    serve(lent, request, &files)
+    serve(lent, &request, &files)
 }

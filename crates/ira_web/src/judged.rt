@@ -1,9 +1,10 @@
 ghost use Rattle.std.specs.Prelude.{IfOk};
 ghost use Rattle.ira_audit.specs.Judged.{IsJudged};
-ghost use Rattle.ira_web.specs.Files.{texts_of};
+ghost use Rattle.ira_view.specs.Texts.{texts_of};
 
-use ira_audit::{Judged, RingAudit};
+use ira_audit::Judged;
 use ira_event::OutOfMemory;
+use ira_view::take_texts;
 use ira_view_page::NamedText;
 use std::alloc::Allocator;
 
@@ -14,9 +15,5 @@ pub(crate) fn judge<A: Allocator + Clone>(
 ) -> Result<Judged<A>, OutOfMemory>
     ensures { IfOk result (IsJudged (texts_of logs.now)) }
 {
-    let mut audit = RingAudit::new(alloc);
-    for log in logs {
-        audit.take(log.text)?;
-    }
-    audit.judge()
+    take_texts(alloc, logs)?.judge()
 }

@@ -1,6 +1,7 @@
 ghost use Rattle.std.specs.Prelude.{IfOk};
+ghost use Rattle.ira_web.specs.Reply.{Reports};
 ghost use Rattle.ira_web.specs.Serves.{JudgesLog, JudgesLogs};
-ghost use Rattle.ira_web.specs.Files.{texts_of};
+ghost use Rattle.ira_view.specs.Texts.{texts_of};
 
 use crate::judged::judge;
 use crate::reply::Reply;
@@ -14,7 +15,7 @@ pub(crate) fn judge_log<A: Allocator + Clone>(
     alloc: A,
     log: &NamedText<'_>,
 ) -> Result<Reply<A>, OutOfMemory>
-    ensures { IfOk result (JudgesLog log.now.text.now) }
+    ensures { IfOk result (JudgesLog Reports log.now.text.now) }
 {
     Reply::of_answer(alloc, &LogAudit::new().finish(log.text))
 }
@@ -24,7 +25,7 @@ pub(crate) fn judge_logs<A: Allocator + Clone>(
     alloc: A,
     logs: &[NamedText<'_>],
 ) -> Result<Reply<A>, OutOfMemory>
-    ensures { IfOk result (JudgesLogs (texts_of logs.now)) }
+    ensures { IfOk result (JudgesLogs Reports (texts_of logs.now)) }
 {
     let judged = judge(alloc.clone()?, logs)?;
     Reply::of_answer(alloc, &judged.answer())

@@ -1,20 +1,12 @@
-ghost use Rattle.std.specs.Prelude.{◌≡◌, ◌↔◌, IfOk, IfSome, IsSome};
-ghost use Rattle.ira_event.specs.RingSize.{IsRingSize};
+ghost use Rattle.std.specs.Prelude.{IfOk};
 ghost use Rattle.ira_web.specs.Pairs.{AsksPairs};
 
 use crate::reply::{Reply, kept};
 use crate::status::Status;
-use ira_event::{MemorySink, OutOfMemory, RingSize};
+use ira_event::{MemorySink, OutOfMemory};
 use ira_pred::{pairs_question, write_question};
+use ira_ring::ring_size;
 use std::alloc::Allocator;
-
-/// The size of a ring of so many nodes, where a ring has so many.
-fn ring_size(nodes: u64) -> Option<RingSize>
-    ensures some { IsSome result ↔ IsRingSize nodes }
-    ensures value { IfSome result (λ size. size ≡ nodes) }
-{
-    RingSize::new(u8::try_from(nodes).ok()?)
-}
 
 /// The question whether two nodes of a ring of so many ever lead at once.
 pub(crate) fn ask_pairs<A: Allocator + Clone>(alloc: A, nodes: u64) -> Result<Reply<A>, OutOfMemory>

@@ -1,12 +1,14 @@
 ghost use Rattle.std.specs.Prelude.{◌≡◌, ◌≤◌, ◌+◌, ◌++◌, ◌∷◌, [], IfOk, IsTrue, length, map, take};
 ghost use Rattle.ira_audit.specs.Report.{IsReportable, report_line};
 ghost use Rattle.std.specs.List.{flat_map};
-ghost use Rattle.ira_web.specs.Reply.{Begins, IsTold, Reports, printed, refused, with_file};
+ghost use Rattle.ira_event.specs.LogText.{log_text};
+ghost use Rattle.ira_web.specs.Reply.{Begins, IsTold, Reports, printed, refused, with_file, with_files};
 ghost use Rattle.ira_web.specs.Status.{answer_status};
 
 use crate::status::Status;
 use ira_audit::{Answer, write_report};
-use ira_event::{MemorySink, OutOfMemory, WriteFault, write_bytes};
+use ira_event::{Logs, MemorySink, OutOfMemory, WriteFault, write_bytes, write_log};
+use ira_view::write_view;
 use std::alloc::{AllocError, Allocator};
 use std::marker::Model;
 
@@ -91,6 +93,19 @@ impl<A: Allocator + Clone> Reply<A> {
         Ok(Reply::printed(alloc, Status::of_answer(answer), line)?)
     }
 
+    /// The line of an answer, and a page after it.
+    pub(crate) fn of_page(alloc: A, answer: &Answer, page: &[u8]) -> Result<Reply<A>, OutOfMemory>
+        requires { IsReportable answer.now }
+        ensures { IfOk result (λ reply.
+            reply ≡ printed (answer_status answer.now) (report_line answer.now ++ page.now)) }
+    {
+        let mut text = MemorySink::new(alloc.clone()?);
+        let Ok(()) = write_view(answer, page, &mut text) else {
+            return Err(OutOfMemory);
+        };
+        Ok(Reply::printed(alloc, Status::of_answer(answer), text)?)
+    }
+
     /// What is printed on standard output, and what on standard error.
     pub(crate) fn of_texts(
         alloc: A,
@@ -132,6 +147,25 @@ impl<A: Allocator + Clone> Reply<A> {
     {
         let Reply { status, mut parts } = self;
         parts.push(file)?;
+        Ok(Reply { status, parts })
+    }
+
+    /// The same with the text of each log as a file, in the order of the ring's places.
+    pub(crate) fn with_logs<B: Allocator>(
+        self,
+        alloc: A,
+        logs: &Logs<B>,
+    ) -> Result<Reply<A>, OutOfMemory>
+        ensures { IfOk result (λ reply. reply ≡ with_files self (map log_text logs.now)) }
+    {
+        let Reply { status, mut parts } = self;
+        for place in 0..logs.size().get() {
+            let mut text = MemorySink::new(alloc.clone()?);
+            let Ok(()) = write_log(logs.log(place), &mut text) else {
+                return Err(OutOfMemory);
+            };
+            parts.push(text)?;
+        }
         Ok(Reply { status, parts })
     }
 

@@ -1,33 +1,80 @@
-ghost use Rattle.std.specs.Prelude.{◌≡◌, IfSome};
-ghost use Rattle.ira_web.specs.Request.{values_of};
+ghost use Rattle.std.specs.Prelude.{◌≡◌, ◌++◌, IfSome};
+ghost use Rattle.ira_web.specs.Request.{form_values, values_of};
+
+use crate::asked_moment::AskedMoment;
+use crate::asked_run::AskedRun;
+use crate::ring_form::RingForm;
 
 /// What a page asks for.
 #[derive(Clone, Copy)]
-pub(crate) enum Request {
+pub(crate) enum Request<'v> {
     /// The answer of one log alone.
     OneLog,
     /// The answer of the logs of a ring.
     Logs,
+    /// The answer of one log alone, and why it is so.
+    ExplainLog,
+    /// The answer of the logs of a ring, and why it is so.
+    Explain,
+    /// What is found for a question about logs, and why it is so: of the case of a number, counted from 0, or of the first
+    /// ones.
+    ExplainQuestion(Option<u64>),
+    /// The answer of logs, of a question and of a certificate, and why it is so.
+    ExplainCertificate,
+    /// A ring at a moment.
+    Show(RingForm, AskedMoment<'v>),
     /// What is found for a question about logs, and its certificate.
     Decide,
     /// The answer of logs, of a question and of a certificate.
     Check,
     /// The question whether two nodes of a ring of so many ever lead at once.
     Pairs(u64),
+    /// The logs of a ring in version 2.
+    Upgrade,
+    /// Of what is left of the logs of a ring the longest beginnings such that all are consistent; whether a node of which
+    /// not even a whole head is left is taken for an initiator.
+    Mend(bool),
+    /// A run of a ring on one thread.
+    Run(AskedRun),
 }
 
-impl Request {
+impl<'v> Request<'v> {
     /// The request of these values, if they are those of one.
-    pub(crate) fn of_values(values: &[u64]) -> Option<Request>
+    pub(crate) fn of_values(values: &'v [u64]) -> Option<Request<'v>>
         ensures { IfSome result (λ request. values_of request ≡ values.now) }
     {
         match values {
             [0] => Some(Request::OneLog),
             [1] => Some(Request::Logs),
+            [2] => Some(Request::ExplainLog),
+            [3] => Some(Request::Explain),
+            [4] => Some(Request::ExplainQuestion(None)),
+            [4, case] => Some(Request::ExplainQuestion(Some(*case))),
+            [5] => Some(Request::ExplainCertificate),
+            [6, moment @ ..] => Request::show(RingForm::Page, moment),
+            [7, moment @ ..] => Request::show(RingForm::Events, moment),
+            [8, from, to, moment @ ..] => {
+                let form = RingForm::Picture {
+                    from: *from,
+                    to: *to,
+                };
+                Request::show(form, moment)
+            }
             [9] => Some(Request::Decide),
             [10] => Some(Request::Check),
             [11, nodes] => Some(Request::Pairs(*nodes)),
+            [12] => Some(Request::Upgrade),
+            [13, 0] => Some(Request::Mend(false)),
+            [13, 1] => Some(Request::Mend(true)),
+            [14, run @ ..] => Some(Request::Run(AskedRun::of_values(run)?)),
             _ => None,
         }
+    }
+
+    /// A ring in this form at the moment of these values, if they are those of one.
+    fn show(form: RingForm, moment: &'v [u64]) -> Option<Request<'v>>
+        ensures { IfSome result (λ request. values_of request ≡ form_values form ++ moment.now) }
+    {
+        Some(Request::Show(form, AskedMoment::of_values(moment)?))
     }
 }

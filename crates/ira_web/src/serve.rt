@@ -3,10 +3,17 @@ ghost use Rattle.ira_web.specs.Serves.{Serves};
 
 use crate::check::check_files;
 use crate::decide::decide_files;
+use crate::explain::{explain_log, explain_logs};
+use crate::explain_check::explain_check_files;
+use crate::explain_question::explain_question;
 use crate::logs::{judge_log, judge_logs};
+use crate::mend::mend_logs;
 use crate::pairs::ask_pairs;
 use crate::reply::Reply;
 use crate::request::Request;
+use crate::run::run_ring;
+use crate::show::show_files;
+use crate::upgrade::upgrade_logs;
 use ira_event::OutOfMemory;
 use ira_view_page::NamedText;
 use std::alloc::Allocator;
@@ -14,10 +21,10 @@ use std::alloc::Allocator;
 /// What comes of a request with these files; nothing where they aren't as many as it needs.
 pub(crate) fn serve<A: Allocator + Clone>(
     alloc: A,
-    request: Request,
+    request: &Request<'_>,
     files: &[NamedText<'_>],
 ) -> Result<Option<Reply<A>>, OutOfMemory>
-    ensures { IfOk result (λ served. IfSome served (Serves A request files.now)) }
+    ensures { IfOk result (λ served. IfSome served (Serves A request.now files.now)) }
 {
     match request {
         Request::OneLog => {
@@ -27,13 +34,31 @@ pub(crate) fn serve<A: Allocator + Clone>(
             Ok(Some(judge_log(alloc, log)?))
         }
         Request::Logs => Ok(Some(judge_logs(alloc, files)?)),
+        Request::ExplainLog => {
+            let [log] = files else {
+                return Ok(None);
+            };
+            Ok(Some(explain_log(alloc, log)?))
+        }
+        Request::Explain => Ok(Some(explain_logs(alloc, files)?)),
+        Request::ExplainQuestion(case) => explain_question(alloc, *case, files),
+        Request::ExplainCertificate => explain_check_files(alloc, files),
+        Request::Show(form, moment) => show_files(alloc, *form, moment, files),
         Request::Decide => decide_files(alloc, files),
         Request::Check => check_files(alloc, files),
         Request::Pairs(nodes) => {
             let [] = files else {
                 return Ok(None);
             };
-            Ok(Some(ask_pairs(alloc, nodes)?))
+            Ok(Some(ask_pairs(alloc, *nodes)?))
+        }
+        Request::Upgrade => Ok(Some(upgrade_logs(alloc, files)?)),
+        Request::Mend(is_initiator) => Ok(Some(mend_logs(alloc, *is_initiator, files)?)),
+        Request::Run(asked) => {
+            let [] = files else {
+                return Ok(None);
+            };
+            Ok(Some(run_ring(alloc, asked)?))
         }
     }
 }

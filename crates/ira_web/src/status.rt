@@ -1,7 +1,9 @@
 ghost use Rattle.std.specs.Prelude.{◌≡◌};
-ghost use Rattle.ira_web.specs.Status.{answer_status, status_number};
+ghost use Rattle.ira_web.specs.Status.{IsElectionStatus, IsFindingsStatus, answer_status, status_number};
 
-use ira_audit::Answer;
+use ira_audit::{Answer, Findings};
+use ira_ring::{NodeEnd, has_leader};
+use std::alloc::Allocator;
 
 /// What the program would end with.
 #[derive(Clone, Copy)]
@@ -19,6 +21,28 @@ impl Status {
         match answer {
             Answer::Yes => Status::Yes,
             Answer::No(_) => Status::No,
+        }
+    }
+
+    /// Whether each case is absent.
+    pub(crate) fn of_findings<A: Allocator + Clone>(findings: &Findings<A>) -> Status
+        ensures { IsFindingsStatus findings.now result }
+    {
+        if findings.are_absent() {
+            Status::Yes
+        } else {
+            Status::No
+        }
+    }
+
+    /// Whether a node leads.
+    pub(crate) fn of_ends(ends: &[NodeEnd]) -> Status
+        ensures { IsElectionStatus ends.now result }
+    {
+        if has_leader(ends) {
+            Status::Yes
+        } else {
+            Status::No
         }
     }
 

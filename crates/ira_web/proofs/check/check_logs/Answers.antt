@@ -1,7 +1,7 @@
 use Rattle.ira_audit.proofs.NeverMet.{no_case}
 use Rattle.ira_audit.specs.declared.answer.Answer.TheVariants.{No, Yes}
 use Rattle.ira_web.proofs.Served.{if_ok}
-use Rattle.ira_web.specs.Files.{texts_of}
+use Rattle.ira_view.specs.Texts.{texts_of}
 use Rattle.ira_web.proofs.check.check_logs.Goals as goal
 
 pub of_answer-requires-in-Err-No : goal.of_answer-requires-in-Err-No

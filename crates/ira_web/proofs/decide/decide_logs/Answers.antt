@@ -2,7 +2,7 @@ use Rattle.ira_audit.proofs.Deciding.{found_asked}
 use Rattle.ira_audit.specs.declared.findings.Findings.TheVariants.{Refused}
 use Rattle.ira_web.proofs.Served.{if_ok}
 use Rattle.ira_web.specs.Decide.PrintsDecided.{no_certificate}
-use Rattle.ira_web.specs.Files.{texts_of}
+use Rattle.ira_view.specs.Texts.{texts_of}
 use Rattle.ira_web.proofs.decide.decide_logs.Goals as goal
 
 pub of_answer-requires : goal.of_answer-requires

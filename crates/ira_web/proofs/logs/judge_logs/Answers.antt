@@ -1,6 +1,6 @@
 use Rattle.std.proofs.Common.{refl}
 use Rattle.ira_web.proofs.Served.{if_ok}
-use Rattle.ira_web.specs.Files.{texts_of}
+use Rattle.ira_view.specs.Texts.{texts_of}
 use Rattle.ira_web.proofs.logs.judge_logs.Goals as goal
 
 pub of_answer-requires : goal.of_answer-requires

@@ -10,3 +10,7 @@ none (file ∷ files) short = absurd (omega (arith, short))
 pub returns-in_ok-ask_pairs-in-Pairs : goal.returns-in_ok-ask_pairs-in-Pairs
 returns-in_ok-ask_pairs-in-Pairs g c =
     rw c.in-Pairs.is (none c.args.files.now c.in-empty.len_below, c.in_ok-ask_pairs-in-Pairs.ensures)
+
+pub returns-in_ok-run_ring-in-Run : goal.returns-in_ok-run_ring-in-Run
+returns-in_ok-run_ring-in-Run g c =
+    rw c.in-Run.is (none c.args.files.now c.in-empty-files.len_below, c.in_ok-run_ring-in-Run.ensures)

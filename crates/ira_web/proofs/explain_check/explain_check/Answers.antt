@@ -1,0 +1,21 @@
+use Rattle.ira_audit.proofs.NeverMet.{no_case}
+use Rattle.std.proofs.Common.{subst}
+use Rattle.ira_audit.specs.CheckAnswer.{IsCheckAnswer}
+use Rattle.ira_audit.specs.declared.answer.Answer.{Answer}
+use Rattle.ira_view.specs.Texts.{texts_of}
+use Rattle.ira_web.proofs.Served.{if_ok}
+use Rattle.ira_web.proofs.explain_check.explain_check.Goals as goal
+
+pub returns : goal.returns
+returns g c =
+    let texts = texts_of c.args.logs.now in
+    let question = c.args.question.now.text.now in
+    let certificate = c.args.certificate.now.text.now in
+    let judged = c.in_ok-view.ensures.answer in
+    if_ok c.tell_view.result (λ reply told. record {
+      answer = c.in_ok-view.view.answer;
+      judged = judged;
+      never = λ e. no_case texts question certificate
+          (subst (λ (a : Answer). IsCheckAnswer texts question certificate a) e judged);
+      told = told;
+    }) c.tell_view.ensures

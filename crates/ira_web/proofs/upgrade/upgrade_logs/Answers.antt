@@ -1,0 +1,18 @@
+use Rattle.ira_web.proofs.Served.{if_ok}
+use Rattle.ira_view.specs.Texts.{texts_of}
+use Rattle.ira_web.specs.Upgrade.UpgradesTexts.{no_ring, of_ring}
+use Rattle.ira_web.proofs.upgrade.upgrade_logs.Goals as goal
+
+pub returns-in-Ok : goal.returns-in-Ok
+returns-in-Ok g c =
+    let ring = c.in-Ok.ensures (texts_of c.args.logs.now) c.in_ok-audit.ensures in
+    if_ok c.tell_upgraded.result (λ reply told. of_ring c.in-Ok.logs ring.0 ring.1 told) c.tell_upgraded.ensures
+
+pub of_answer-requires : goal.of_answer-requires
+of_answer-requires g c =
+    (rw c.in-Err-No.field-0-is at (c.in-Err-No.ensures (texts_of c.args.logs.now) c.in_ok-audit.ensures)).2
+
+pub returns-in-Err-No : goal.returns-in-Err-No
+returns-in-Err-No g c =
+    let why = rw c.in-Err-No.field-0-is at (c.in-Err-No.ensures (texts_of c.args.logs.now) c.in_ok-audit.ensures) in
+    if_ok c.of_answer.result (λ reply told. no_ring c.in-Err-No.reason why told) c.of_answer.ensures

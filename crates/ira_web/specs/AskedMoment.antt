@@ -1,0 +1,40 @@
+-- Moments of a ring that are asked for.
+use Rattle.std.specs.Prelude.{◌≡◌, ℕ, List, [], ◌∷◌, Option, None, Some}
+use Rattle.ira_event.specs.Log.{Log}
+use Rattle.ira_view_moment.specs.Moment.{whole_cut}
+use Rattle.ira_view.specs.ShownRing.{IsAtCut, IsNoCut, IsNoQuestion, IsOfQuestion, ShownRing}
+use Rattle.ira_view.specs.declared.ring_fault.RingFault.{RingFault}
+use Rattle.ira_view_moment.specs.Told.{at_end}
+use Rattle.ira_web.specs.declared.asked_moment.AskedMoment.{AskedMoment}
+use Rattle.ira_web.specs.declared.asked_moment.AskedMoment.TheVariants.{AtCut, AtEnd, OfQuestion}
+
+-- the number of a case, if one is asked for
+abbrev pub case_values : Option ℕ → List ℕ
+case_values None = []
+case_values (Some case) = case ∷ []
+
+-- how a moment is spelled
+abbrev pub moment_values : AskedMoment → List ℕ
+moment_values AtEnd = []
+moment_values (AtCut events) = 1 ∷ events.now
+moment_values (OfQuestion case) = 2 ∷ case_values case
+
+-- the texts that tell of the moment: that of a question, if it is the first that meets one
+abbrev pub moment_texts : AskedMoment → List ℕ → List (List ℕ)
+moment_texts (OfQuestion case) question = question ∷ []
+moment_texts AtEnd question = []
+moment_texts (AtCut events) question = []
+
+-- the ring of these logs at the moment: their end; when each node has made so many events, which are a consistent cut; or
+-- the first that meets a case of the question of this text, of the case of a number or of any
+abbrev pub IsAskedRing : List Log → AskedMoment → List ℕ → ShownRing → Type 0
+IsAskedRing logs AtEnd question ring =
+    ring ≡ record { logs = logs; cut = Some (whole_cut logs); told = at_end }
+IsAskedRing logs (AtCut events) question ring = IsAtCut logs events.now ring
+IsAskedRing logs (OfQuestion case) question ring = IsOfQuestion logs question case ring
+
+-- why there is none: the numbers are no such cut, or the question isn't one of their ring, or memory ran out
+abbrev pub IsNoAskedRing : List Log → AskedMoment → List ℕ → RingFault → Type 0
+IsNoAskedRing logs AtEnd question f = ⊥
+IsNoAskedRing logs (AtCut events) question f = IsNoCut logs events.now f
+IsNoAskedRing logs (OfQuestion case) question f = IsNoQuestion logs question f

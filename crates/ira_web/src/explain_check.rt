@@ -1,0 +1,67 @@
+ghost use Rattle.std.specs.Prelude.{IfOk, IfSome};
+ghost use Rattle.ira_audit.specs.CheckAnswer.{IsCheckAnswer};
+ghost use Rattle.ira_audit.specs.Judged.{IsJudged};
+ghost use Rattle.ira_audit.specs.Report.{IsReportable};
+ghost use Rattle.ira_view.specs.Texts.{texts_of};
+ghost use Rattle.ira_web.specs.Check.{ChecksFiles, ChecksTexts};
+ghost use Rattle.ira_web.specs.Reply.{Explains};
+
+use crate::check::check_sections;
+use crate::explain::tell_view;
+use crate::judged::judge;
+use crate::reply::Reply;
+use ira_audit::Judged;
+use ira_event::OutOfMemory;
+use ira_view::{AskedFiles, PosedCheck, View, explain_checked, pose_check};
+use ira_view_page::NamedText;
+use std::alloc::Allocator;
+
+/// The answer of logs that were judged, of a question and of a certificate, and why it is so.
+fn explain_judged<A: Allocator + Clone>(
+    alloc: A,
+    files: AskedFiles<'_>,
+    certificate: &NamedText<'_>,
+    judged: &Judged<A>,
+) -> Result<View<A>, OutOfMemory>
+    requires { IsJudged (texts_of files.logs.now) judged.now }
+    ensures answer { IfOk result (λ view. IsCheckAnswer (texts_of files.entry.logs.now)
+        files.entry.question.now.text.now certificate.now.text.now view.answer) }
+    ensures reportable { IfOk result (λ view. IsReportable view.answer) }
+{
+    match pose_check(alloc.clone()?, files, certificate, judged)? {
+        PosedCheck::Posed { asked, read } => {
+            let checked = check_sections(alloc.clone()?, &asked, &read.sections);
+            explain_checked(alloc, files, certificate, &asked, &read, checked)
+        }
+        PosedCheck::Refused(view) => Ok(view),
+    }
+}
+
+/// The answer of the texts of logs, of a question and of a certificate, and why it is so.
+fn explain_check<A: Allocator + Clone>(
+    alloc: A,
+    question: &NamedText<'_>,
+    certificate: &NamedText<'_>,
+    logs: &[NamedText<'_>],
+) -> Result<Reply<A>, OutOfMemory>
+    ensures { IfOk result (ChecksTexts Explains question.now.text.now certificate.now.text.now (texts_of logs.now)) }
+{
+    let judged = judge(alloc.clone()?, logs)?;
+    let files = AskedFiles { logs, question };
+    let view = explain_judged(alloc.clone()?, files, certificate, &judged)?;
+    tell_view(alloc, &view)
+}
+
+/// The answer of the logs of these files, which come after a question and a certificate, and why it is so; nothing where
+/// these are missing.
+pub(crate) fn explain_check_files<A: Allocator + Clone>(
+    alloc: A,
+    files: &[NamedText<'_>],
+) -> Result<Option<Reply<A>>, OutOfMemory>
+    ensures { IfOk result (λ served. IfSome served (ChecksFiles Explains files.now)) }
+{
+    let [question, certificate, logs @ ..] = files else {
+        return Ok(None);
+    };
+    Ok(Some(explain_check(alloc, question, certificate, logs)?))
+}
