@@ -32,4 +32,4 @@ returns-in_ok-explain_unsound-in-Err-No g c =
     c.args.certificate.now.text.now asked.logs asked.question c.requires.asked c.args.read.now read.0 read.1
     (Err (No c.in-Err-No.reason)) (reason_of _ _ c.args.checked c.in-Err-No.field-0 c.in-Err-No.reason c.in-Err-No.is
     (rw c.in-Err-No.is at c.in-Err-No.field-0-is) c.requires.checked) in
-    record { answer = judged.0; reportable = judged.1; ring = c.in_ok-explain_unsound-in-Err-No.ensures }
+    record { answer = judged.0; reportable = judged.1; ring = c.in_ok-explain_unsound-in-Err-No.ensures.ring }

@@ -32,4 +32,4 @@ returns-in-Err-No-read_certificate g c =
     let why = certificate_reason (texts_of c.args.files.logs.now) c.args.files.question.now.text.now
     c.args.certificate.now.text.now posed.logs posed.question fits c.in-Err-No-read_certificate.reason
     (rw c.in-Err-No-read_certificate.field-0-is at c.in-Err-No-read_certificate.ensures) in
-    (why.0, why.1, of_asked posed fits c.in_ok-explain_no_certificate-in-Err-No-read_certificate.ensures)
+    (why.0, why.1, of_asked posed fits c.in_ok-explain_no_certificate-in-Err-No-read_certificate.ensures.ring)
