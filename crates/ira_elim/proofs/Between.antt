@@ -18,6 +18,10 @@ use Rattle.ira_order.proofs.WayBack.{distance_back, distance_next, distance_some
 pub distance_tells : (n i k j : ℕ) → i < n → k < n → distance n i j ≡ distance n k j → i ≡ k
 distance_tells n i k j li lk e = grind (arith, nat_tests)
 
+-- a place is as far from itself as the ring has links, and no other is as far
+pub farthest_tells : (n i j : ℕ) → i < n → j < n → distance n j j ≤ distance n i j → i ≡ j
+farthest_tells n i j li lj le = grind (arith, nat_tests)
+
 -- what a node knows at an event it knows at a later one
 pub known_on : (logs : List Log) (i a j q r : ℕ) → Before logs i a j q → q ≤ r → r ≤ length (log_of logs j)
     → Before logs i a j r

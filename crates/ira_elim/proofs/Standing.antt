@@ -152,7 +152,7 @@ module _ (logs : List Log) (queues : List (Option (List ℕ))) (stands : List Ca
 
 -- the nearest asked node is asked, where it is another one
 pub near_asked : (n : ℕ) (asked : List ℕ) (j near : ℕ) → IsNearest n asked j near → near ≢ j → Contains asked near
-near_asked n asked j near is ne = elim is [ inl same ↦ absurd (ne same) | inr nearest ↦ nearest.0 ]
+near_asked n asked j near is ne = elim is [ inl same ↦ absurd (ne same.0) | inr nearest ↦ nearest.0 ]
 
 -- one node has moved on
 module _ (stands new : List CandidateClock) (node : ℕ) (t : CandidateClock) (within : node < length stands)

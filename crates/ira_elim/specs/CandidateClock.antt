@@ -79,7 +79,8 @@ AreInLogs logs stands places =
 
 -- of the other places, `near` is the next one back round a ring of n from j; j itself where there is no other
 abbrev pub IsNearest : ℕ → List ℕ → ℕ → ℕ → Type 0
-IsNearest n places j near = (near ≡ j) ⊎ (Contains places near
+IsNearest n places j near = ((near ≡ j) × ((i : ℕ) → Contains places i → i ≡ j))
+    ⊎ (Contains places near × (near ≢ j)
     × ((i : ℕ) → Contains places i → i ≢ j → i ≢ near → distance n near j < distance n i j))
 
 -- that of each place

@@ -1,6 +1,7 @@
 use Rattle.std.proofs.Common.{◌≡◌, ◌≢◌, ◌<◌, ◌≤◌, ℕ, List, inl, inr, Contains, below_more, get_or, subst, sym, arith}
+use Rattle.std.proofs.lemmas.Bool.{cases_eq}
 use Rattle.ira_order.specs.DirectDependencies.{distance}
-use Rattle.ira_elim.proofs.Between.{distance_tells}
+use Rattle.ira_elim.proofs.Between.{distance_tells, farthest_tells}
 use Rattle.ira_elim.proofs.Places.{at_place}
 use Rattle.ira_elim.proofs.Standing.{each_asked}
 use Rattle.ira_elim.proofs.elimination.nearest_place.Goals as goal
@@ -40,17 +41,26 @@ loop-other-preserved c =
     ]
 
 pub returns : goal.returns
-returns c = elim c.loop-other.invariant.one [
-  | inl none ↦ inl none
-  | inr member ↦ inr (
-    member,
-    λ i asked ne apart.
-        let n : ℕ = c.args.nodes in let j : ℕ = c.args.place in let near : ℕ = c.loop-other.nearest in
-        let le : distance n near j ≤ distance n i j =
-        each_asked c.args.asked.now (λ (k : ℕ). distance n near j ≤ distance n k j)
-        (λ k l. c.loop-other.invariant.least k (omega arith)) i asked in
-        let differ : distance n i j ≢ distance n near j = λ e. apart
-        (distance_tells n i near j (c.requires.places i asked) (c.requires.places near member) e) in
-        omega (arith, le, differ),
-  )
-]
+returns c =
+    let n : ℕ = c.args.nodes in let j : ℕ = c.args.place in let near : ℕ = c.loop-other.nearest in
+    let least : (i : ℕ) → Contains c.args.asked.now i → distance n near j ≤ distance n i j =
+    each_asked c.args.asked.now (λ (k : ℕ). distance n near j ≤ distance n k j)
+    (λ k l. c.loop-other.invariant.least k (omega arith)) in
+    elim (cases_eq near j) [
+      | inl same ↦ inl (
+        same,
+        λ i asked. farthest_tells n i j (c.requires.places i asked) c.requires.place
+            (subst (λ (k : ℕ). distance n k j ≤ distance n i j) same (least i asked)),
+      )
+      | inr other ↦ elim c.loop-other.invariant.one [
+        | inl none ↦ absurd (other none)
+        | inr member ↦ inr (
+          member,
+          other,
+          λ i asked ne apart.
+              let differ : distance n i j ≢ distance n near j = λ e. apart
+              (distance_tells n i near j (c.requires.places i asked) (c.requires.places near member) e) in
+              omega (arith, least i asked, differ),
+        )
+      ]
+    ]
