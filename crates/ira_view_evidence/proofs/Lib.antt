@@ -11,4 +11,3 @@ pub mod RingOrders
 pub mod Sides
 pub mod StatesAfter
 pub mod StuckNodes
-pub mod Unspents

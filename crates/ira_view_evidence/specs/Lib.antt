@@ -10,6 +10,5 @@ pub mod LoadDifference
 pub mod LogBetween
 pub mod NodeEvidence
 pub mod RingOrder
-pub mod SectionEvidence
 pub mod LinkSide
 pub mod StuckNodes

@@ -1,4 +1,5 @@
-//! What a no rests on: of logs that were refused, the events that a reader has to look at.
+//! What an answer rests on: of logs that were refused the events that a reader has to look at; of an absent case what
+//! eliminates its states.
 #![tactic(auto)]
 
 mod absence;
@@ -15,7 +16,6 @@ mod node_evidence;
 mod origin;
 mod reached_state;
 mod ring_order;
-mod section_evidence;
 mod stuck_at;
 
 pub use absence::Absence;
@@ -32,5 +32,4 @@ pub use node_evidence::NodeEvidence;
 pub use origin::{Origin, origins};
 pub use reached_state::state_after;
 pub use ring_order::{find_ring_order, takes_from};
-pub use section_evidence::{SectionEvidence, UnsoundStep, Unspent};
 pub use stuck_at::StuckAt;
