@@ -1,5 +1,5 @@
 mod Findings
-mod ForEach
+pub mod ForEach
 mod LogFiles
 mod Parts
 mod Told

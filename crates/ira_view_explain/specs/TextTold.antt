@@ -1,63 +1,117 @@
 -- What is told of a text that is no log's.
-use Rattle.std.specs.Prelude.{◌≡◌, ℕ, ◌+◌, ◌≤◌, List, [], ◌∷◌, None, Some, ⊤, String, string_bytes}
+use Rattle.std.specs.Prelude.{◌≡◌, ◌≢◌, ◌⊎◌, ℕ, ◌+◌, ◌-◌, ◌≤◌, List, [], ◌∷◌, ◌++◌, None, Some, ⊤, String}
+use Rattle.std.specs.Prelude.{codes, length, string_bytes}
 use Rattle.ira_event.specs.Limits.{MAX_RECORDS}
+use Rattle.ira_event.specs.LogTextFault.{BeginsWithHead, BeginsWithRecords, RestFault}
+use Rattle.ira_event.specs.declared.event.Event.{Event}
 use Rattle.ira_event.specs.declared.log_fault.LogFault.{LogFault}
 use Rattle.ira_event.specs.declared.log_fault.LogFault.TheVariants as fault
-use Rattle.ira_view_page.specs.Lines.{IsLine}
-use Rattle.ira_view_page.specs.Quoted.{quoted_text}
+use Rattle.ira_event.specs.declared.log_head.LogHead.{LogHead}
+use Rattle.ira_view_page.specs.Lines.{IsLine, whole_lines}
+use Rattle.ira_view_page.specs.Numbers.{number_of_text}
+use Rattle.ira_view_page.specs.Printable.{shown}
 use Rattle.ira_view_page.specs.declared.evidence.Evidence.{Evidence}
 use Rattle.ira_view_page.specs.declared.evidence.Evidence.TheVariants as evidence
 use Rattle.ira_view_page.specs.declared.named_text.NamedText.{NamedText}
 use Rattle.ira_view_page.specs.declared.quoted_line.QuotedLine.{QuotedLine}
+use Rattle.ira_view_explain.specs.declared.line_remark.LineRemark.{LineRemark}
+use Rattle.ira_view_explain.specs.declared.line_remark.LineRemark.TheVariants.{AfterEnd, End, Last, LineFeed, TooMany}
+use Rattle.ira_view_explain.specs.declared.pointed_line.PointedLine.{PointedLine}
 use Rattle.ira_view_explain.specs.declared.text_finding.TextStop.{TextStop}
-use Rattle.ira_view_explain.specs.declared.text_finding.TextStop.TheVariants.{TooLong, ShortHead, Line}
+use Rattle.ira_view_explain.specs.declared.text_finding.TextStop.TheVariants as stop
+use Rattle.ira_view_explain.specs.declared.text_finding.TextStop.TheVariants.{ShortHead, Line}
+use Rattle.ira_view_explain.specs.LineRemark.{kind_of}
+use Rattle.ira_view_explain.specs.PointedLine.{IsPointed}
+
+-- the text shows it in this line, with carets below its bytes from one up to another, and this beside them
+abbrev pub IsAt : ℕ → ℕ → ℕ → LineRemark → TextStop → Type 0
+IsAt number from to remark (Line line r) =
+    (line ≡ record { number = number; from = from; to = to; remark = kind_of remark }) × (r ≡ remark)
+IsAt number from to remark _ = ⊥
 
 -- the text shows it in this line
 abbrev pub IsAtLine : ℕ → TextStop → Type 0
-IsAtLine number (Line line) = line.number ≡ number
-IsAtLine number _ = ⊥
+IsAtLine number stop = (from to : ℕ) × (remark : LineRemark) × IsAt number from to remark stop
+
+-- the text shows it in all of this line, counted from 1
+abbrev pub IsWholeLine : List ℕ → ℕ → LineRemark → TextStop → Type 0
+IsWholeLine text number remark stop =
+    (line : List ℕ) × (1 ≤ number → IsLine text number line) × IsAt number 0 (length line) remark stop
 
 -- the text shows it in one of its first four lines, or by having no more
 abbrev pub IsInHead : TextStop → Type 0
-IsInHead (Line line) = line.number ≤ 4
+IsInHead (Line line remark) = line.number ≤ 4
 IsInHead (ShortHead whole None) = ⊤
 IsInHead (ShortHead whole (Some piece)) = piece.number ≤ 4
-IsInHead TooLong = ⊥
+IsInHead stop.TooLong = ⊥
 
--- where a text with this fault shows it: in the line that the fault names
-abbrev pub IsTextStop : LogFault → TextStop → Type 0
-IsTextStop fault.TooLong stop = stop ≡ TooLong
-IsTextStop fault.Head stop = IsInHead stop
-IsTextStop (fault.Line number) stop = IsAtLine number stop
-IsTextStop (fault.Range number) stop = IsAtLine number stop
-IsTextStop fault.TooMany stop = IsAtLine (MAX_RECORDS + 5) stop
-IsTextStop _ stop = (number : ℕ) × IsAtLine number stop
+-- a text that ends too early shows it in a piece after its last whole line, or in that line where there is no piece
+abbrev pub IsCutStop : List ℕ → TextStop → Type 0
+IsCutStop text stop =
+    (IsLine text (whole_lines text + 1) [] × IsWholeLine text (whole_lines text) (Last (whole_lines text - 4)) stop)
+    ⊎ ((piece : List ℕ) × (piece ≢ []) × IsLine text (whole_lines text + 1) piece
+    × IsAt (whole_lines text + 1) (length piece) (length piece) LineFeed stop)
+
+-- what stands after the text's head and so many records has this fault
+pub record IsFaultAfter (text : List ℕ) (count : ℕ) (f : LogFault) : Type 0 where
+  pub head : LogHead
+  pub body : List ℕ
+  pub begins : BeginsWithHead text head body
+  pub events : List Event
+  pub rest : List ℕ
+  pub records : BeginsWithRecords head.version body events rest
+  pub count_is : length events ≡ count
+  pub fault : RestFault head.version count rest f
+
+-- an end line of another number shows it after its word
+abbrev pub IsCountStop : List ℕ → TextStop → Type 0
+IsCountStop text stop =
+    (count : ℕ) × IsFaultAfter text count fault.Count × (line : List ℕ) × IsLine text (count + 5) line
+    × IsAt (count + 5) 4 (length line) (End count) stop
+
+-- a text that goes on shows it in the line after its end line
+abbrev pub IsTrailingStop : List ℕ → TextStop → Type 0
+IsTrailingStop text stop =
+    (count : ℕ) × IsFaultAfter text count fault.Trailing × IsWholeLine text (count + 6) (AfterEnd (count + 5)) stop
+
+-- where a text with this fault shows it: in the line that the fault names, or is about
+abbrev pub IsTextStop : List ℕ → LogFault → TextStop → Type 0
+IsTextStop text fault.TooLong stop = stop ≡ stop.TooLong
+IsTextStop text fault.Head stop = IsInHead stop
+IsTextStop text (fault.Line number) stop = IsAtLine number stop
+IsTextStop text (fault.Range number) stop = IsAtLine number stop
+IsTextStop text fault.TooMany stop = IsWholeLine text (MAX_RECORDS + 5) TooMany stop
+IsTextStop text fault.Cut stop = IsCutStop text stop
+IsTextStop text fault.Count stop = IsCountStop text stop
+IsTextStop text fault.Trailing stop = IsTrailingStop text stop
+IsTextStop text fault.OutOfMemory stop = ⊥
 
 -- it is the text of the file as a whole
 abbrev pub IsWholeTold : {A : Type 0} → NamedText → Evidence A → Type 0
 IsWholeTold {A} file told = (name : String A) × (told ≡ evidence.Text name) × (string_bytes name ≡ file.name.now)
 
--- it is this line of the file, counted from 1, as pages quote it
-pub record IsLineTold {A : Type 0} (file : NamedText) (number : ℕ) (told : Evidence A) : Type 0 where
-  pub line : QuotedLine A
-  pub is_line : told ≡ evidence.Line line
-  pub file_is : string_bytes line.file ≡ file.name.now
-  pub number_is : line.number ≡ number
-  pub bytes : List ℕ
-  pub bytes_are : 1 ≤ number → IsLine file.text.now number bytes
-  pub text_is : string_bytes line.text ≡ quoted_text bytes
+-- it is this line of the file, as pages quote it, with words beside its carets
+abbrev pub IsLineTold : {A : Type 0} → NamedText → PointedLine → Evidence A → Type 0
+IsLineTold {A} file pointed told =
+    (line : QuotedLine A) × (told ≡ evidence.Line line) × (words : List ℕ) × IsPointed file pointed words line
 
 -- what is told of a text that shows it there: that line, or the text as a whole
 abbrev pub IsStopTold : {A : Type 0} → NamedText → TextStop → Evidence A → Type 0
-IsStopTold file (Line line) told = IsLineTold file line.number told
-IsStopTold file (ShortHead whole (Some piece)) told = IsLineTold file piece.number told
+IsStopTold file (Line line remark) told = IsLineTold file line told
+IsStopTold file (ShortHead whole (Some piece)) told = IsLineTold file piece told
 IsStopTold file (ShortHead whole None) told = IsWholeTold file told
-IsStopTold file TooLong told = IsWholeTold file told
+IsStopTold file stop.TooLong told = IsWholeTold file told
 
 -- what is told of the text of a file with this fault: where it shows it
 pub record IsTextTold {A : Type 0} (file : NamedText) (fault : LogFault) (told : List (Evidence A)) : Type 0 where
   pub stop : TextStop
-  pub is_stop : IsTextStop fault stop
+  pub is_stop : IsTextStop file.text.now fault stop
   pub one : Evidence A
   pub told_is : told ≡ one ∷ []
   pub one_is : IsStopTold file stop one
+
+-- that a text in a file of this name has so many whole lines, and its head as many as this word says
+abbrev pub short_head_text : List ℕ → ℕ → List ℕ → List ℕ
+short_head_text file whole due =
+    codes "  " ++ shown file ++ codes ": " ++ number_of_text whole (codes "whole line") ++ codes "; the head has "
+    ++ due ++ codes "." ++ codes "\n"

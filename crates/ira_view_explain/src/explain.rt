@@ -11,10 +11,9 @@ ghost use Rattle.ira_view_explain.specs.HeadsTold.{AreHeadsTold, AreLogFiles};
 ghost use Rattle.ira_view_explain.specs.LogTold.{IsLogTold, IsStoppedTold};
 ghost use Rattle.ira_view_explain.specs.Refused.{IsNoRingTold, IsRefusedTold, IsTold};
 ghost use Rattle.ira_view_explain.specs.TextTold.{IsTextTold};
-ghost use Rattle.ira_view_page.specs.Page.{Added};
-ghost use Rattle.ira_view_page.specs.Told.{evidence_of};
+ghost use Rattle.ira_view_page.specs.Page.{Added, AddedSome};
 
-use crate::good_block::{explain_end_alone, explain_run};
+use crate::good_block::{print_end_alone, print_run};
 use crate::heads_finding::HeadsFinding;
 use crate::refused_finding::RefusedFinding;
 use crate::ring_files::RingFiles;
@@ -25,57 +24,31 @@ use ira_event::{HeadFault, LogFault, Logs, NodeLog, OutOfMemory, read_log};
 use ira_node::NodeState;
 use ira_order::EventAt;
 use ira_replay::{ReplayFault, replay};
-use ira_view_page::{
-    Evidence, Explanation, ExplanationDraft, NamedText, Page, RecordAt, RingCounts,
-};
+use ira_view_page::{Evidence, Explanation, NamedText, Page, RecordAt, RingCounts};
 use std::alloc::Allocator;
 
-/// What follows an answer about these logs of a ring.
-pub fn draft_of_ring<A: Allocator + Clone>(
-    alloc: A,
-    logs: &Logs<A>,
-) -> Result<ExplanationDraft<A>, OutOfMemory>
-    ensures ring { IfOk result (λ draft. draft.ring ≡ Some (counts logs.now)) }
-    ensures page { IfOk result (λ draft. Added (Some []) (codes "\n") draft.page) }
-    ensures state { IfOk result (λ draft. draft.state_before ≡ None) }
-    ensures evidence { IfOk result (λ draft. evidence_of draft ≡ Some []) }
-{
-    let mut draft = ExplanationDraft::after_answer(alloc)?;
-    draft.ring = Some(RingCounts::of(logs));
-    Ok(draft)
-}
-
-/// How the run of logs stands against which there is no reason.
-pub fn draft_run<A: Allocator + Clone>(
-    alloc: A,
-    logs: &Logs<A>,
-) -> Result<ExplanationDraft<A>, OutOfMemory>
-    ensures ring { IfOk result (λ draft. draft.ring ≡ Some (counts logs.now)) }
-    ensures state { IfOk result (λ draft. draft.state_before ≡ None) }
-    ensures evidence { IfOk result (λ draft. evidence_of draft ≡ Some []) }
-{
-    let mut draft = draft_of_ring(alloc.clone()?, logs)?;
-    explain_run(&alloc, &mut draft.page, logs);
-    Ok(draft)
-}
-
 /// A page with the empty line that comes after an answer.
-fn page_after_answer<A: Allocator>(alloc: A) -> Page<A> {
+pub fn page_after_answer<A: Allocator>(alloc: A) -> Page<A>
+    ensures { Added (Some []) (codes "\n") result }
+{
     let mut page = Page::new(alloc);
     page.blank();
     page
 }
 
 /// What a page explains, with what it rests on, and hints that come last on the page.
-fn explanation<A: Allocator + Clone>(
+pub fn explanation<A: Allocator + Clone>(
     alloc: &A,
+    ring: Option<RingCounts>,
     page: Page<A>,
     evidence: Vec<Evidence<A>, A>,
     hints: Vec<String<A>, A>,
 ) -> Result<Explanation<A>, OutOfMemory>
-    ensures ring { IfOk result (λ explanation. explanation.ring ≡ None) }
+    ensures ring { IfOk result (λ explanation. explanation.ring ≡ ring) }
     ensures state { IfOk result (λ explanation. explanation.state_before ≡ None) }
     ensures evidence { IfOk result (λ explanation. explanation.evidence.items ≡ evidence.items) }
+    ensures hints { IfOk result (λ explanation. explanation.hints.items ≡ hints.items) }
+    ensures page { IfOk result (λ explanation. AddedSome page (Some explanation.page)) }
 {
     let mut page = page;
     for hint in &hints {
@@ -83,12 +56,27 @@ fn explanation<A: Allocator + Clone>(
     }
     Ok(Explanation {
         page: page.finish()?,
-        ring: None,
+        ring,
         state_before: None,
         evidence,
         hints,
         cases: Vec::new(alloc.clone()?),
     })
+}
+
+/// How the run of logs stands against which there is no reason.
+fn explain_good<A: Allocator + Clone>(
+    alloc: &A,
+    logs: &Logs<A>,
+) -> Result<Explanation<A>, OutOfMemory>
+    ensures ring { IfOk result (λ explanation. explanation.ring ≡ Some (counts logs.now)) }
+    ensures state { IfOk result (λ explanation. explanation.state_before ≡ None) }
+    ensures evidence { IfOk result (λ explanation. explanation.evidence.items ≡ []) }
+{
+    let mut page = page_after_answer(alloc.clone()?);
+    print_run(alloc, logs, &mut page);
+    let (evidence, hints) = (Vec::new(alloc.clone()?), Vec::new(alloc.clone()?));
+    explanation(alloc, Some(RingCounts::of(logs)), page, evidence, hints)
 }
 
 /// What stands against the logs of a ring.
@@ -98,7 +86,8 @@ fn explain_refused<A: Allocator + Clone>(
     refused: &RefusedLogs<A>,
 ) -> Result<Explanation<A>, OutOfMemory>
     requires { AreRefused refused.now }
-    ensures { IfOk result (λ explanation.
+    ensures ring { IfOk result (λ explanation. explanation.ring ≡ Some (counts refused.now.logs)) }
+    ensures told { IfOk result (λ explanation.
         IsRefusedTold files.now refused.now explanation.state_before explanation.evidence.items) }
 {
     let ring = RingFiles {
@@ -111,6 +100,7 @@ fn explain_refused<A: Allocator + Clone>(
     finding.print(&ring, &mut page);
     let mut explanation = explanation(
         alloc,
+        Some(RingCounts::of(refused.logs())),
         page,
         finding.evidence(&ring)?,
         finding.hints(&ring)?,
@@ -135,7 +125,7 @@ fn explain_text<A: Allocator + Clone>(
     finding.print(file, &mut page);
     let mut evidence = Vec::new(alloc.clone()?);
     evidence.push(finding.evidence(alloc, file)?)?;
-    explanation(alloc, page, evidence, finding.hints(alloc)?)
+    explanation(alloc, None, page, evidence, finding.hints(alloc)?)
 }
 
 /// Why logs aren't those of one ring.
@@ -145,6 +135,7 @@ fn explain_heads<A: Allocator + Clone>(
     fault: HeadFault,
 ) -> Result<Explanation<A>, OutOfMemory>
     requires { AreLogFiles files.now }
+    ensures ring { IfOk result (λ explanation. explanation.ring ≡ None) }
     ensures state { IfOk result (λ explanation. explanation.state_before ≡ None) }
     ensures told { IfOk result (λ explanation. AreHeadsTold files.now explanation.evidence.items) }
 {
@@ -153,6 +144,7 @@ fn explain_heads<A: Allocator + Clone>(
     finding.print(files, &mut page);
     explanation(
         alloc,
+        None,
         page,
         finding.evidence(alloc, files)?,
         finding.hints(alloc)?,
@@ -166,6 +158,7 @@ fn explain_no_ring<A: Allocator + Clone>(
     reason: Reason,
 ) -> Result<Explanation<A>, OutOfMemory>
     requires { IsRingReason (map (λ file. file.text.now) files.now) reason }
+    ensures ring { IfOk result (λ explanation. explanation.ring ≡ None) }
     ensures state { IfOk result (λ explanation. explanation.state_before ≡ None) }
     ensures told { IfOk result (λ explanation. IsNoRingTold files.now reason explanation.evidence.items) }
 {
@@ -176,17 +169,6 @@ fn explain_no_ring<A: Allocator + Clone>(
         },
         Reason::Heads(fault) => explain_heads(alloc, files, fault),
         _ => unreachable!(),
-    }
-}
-
-/// How many nodes and events there are, where the texts are those of a ring's logs.
-fn ring_of<A: Allocator + Clone>(judged: &Judged<A>) -> Option<RingCounts>
-    ensures { result ≡ ring_of judged.now }
-{
-    match judged {
-        Judged::Good(logs) => Some(RingCounts::of(logs.logs())),
-        Judged::Refused(refused) => Some(RingCounts::of(refused.logs())),
-        Judged::NoRing(_) => None,
     }
 }
 
@@ -202,13 +184,11 @@ pub fn explain_logs<A: Allocator + Clone>(
     ensures told { IfOk result
         (λ explanation. IsTold files.now judged.now explanation.state_before explanation.evidence.items) }
 {
-    let mut explanation = match judged {
-        Judged::Good(logs) => draft_run(alloc, logs.logs())?.finish()?,
-        Judged::Refused(refused) => explain_refused(&alloc, files, refused)?,
-        Judged::NoRing(reason) => explain_no_ring(&alloc, files, *reason)?,
-    };
-    explanation.ring = ring_of(judged);
-    Ok(explanation)
+    match judged {
+        Judged::Good(logs) => explain_good(&alloc, logs.logs()),
+        Judged::Refused(refused) => explain_refused(&alloc, files, refused),
+        Judged::NoRing(reason) => explain_no_ring(&alloc, files, *reason),
+    }
 }
 
 /// Why an event of a log that is judged alone has no step.
@@ -237,7 +217,7 @@ fn explain_stopped<A: Allocator + Clone>(
     let event = RecordAt::new(alloc.clone()?, file, at, found.stopped.event)?;
     let mut evidence = Vec::new(alloc.clone()?);
     evidence.push(Evidence::Faulty(event))?;
-    let mut explanation = explanation(alloc, page, evidence, found.hints()?)?;
+    let mut explanation = explanation(alloc, None, page, evidence, found.hints()?)?;
     explanation.state_before = Some(found.stopped.state);
     Ok(explanation)
 }
@@ -253,9 +233,9 @@ fn explain_end<A: Allocator + Clone>(
     ensures evidence { IfOk result (λ explanation. explanation.evidence.items ≡ []) }
 {
     let mut page = page_after_answer(alloc.clone()?);
-    explain_end_alone(alloc, &mut page, log, end);
+    print_end_alone(alloc, log, end, &mut page);
     let (evidence, hints) = (Vec::new(alloc.clone()?), Vec::new(alloc.clone()?));
-    explanation(alloc, page, evidence, hints)
+    explanation(alloc, None, page, evidence, hints)
 }
 
 /// Judges the text of one log alone, and says why the answer is as it is.

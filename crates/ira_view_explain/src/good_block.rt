@@ -1,3 +1,5 @@
+ghost use Rattle.ira_view_page.specs.Page.{AddedSome};
+
 use crate::numbered::numbered_page;
 use ira_event::{Event, Load, Logs, NodeLog};
 use ira_node::{NodeState, Phase};
@@ -61,18 +63,20 @@ fn leader_of<A: Allocator>(logs: &Logs<A>) -> Option<Leads> {
 }
 
 /// Adds how a run that has nothing against it stands.
-pub(crate) fn explain_run<A: Allocator>(alloc: &A, page: &mut Page<A>, logs: &Logs<A>) {
+pub fn print_run<A: Allocator>(alloc: &A, logs: &Logs<A>, page: &mut Page<A>)
+    ensures { AddedSome page.old page.new }
+{
     let mut text = Page::new(alloc);
     text.summary(leader_of(logs), totals_of(logs));
     page.paragraph_of(&text);
 }
 
 /// Adds how a log that is judged alone ends, in this state.
-pub(crate) fn explain_end_alone<A: Allocator>(
+pub(crate) fn print_end_alone<A: Allocator>(
     alloc: &A,
-    page: &mut Page<A>,
     log: &NodeLog<A>,
     end: NodeState,
+    page: &mut Page<A>,
 ) {
     let mut text = numbered_page(alloc, "The log of place ", u32::from(log.place()));
     text.numbered(" of ", u32::from(log.nodes().get()));

@@ -35,6 +35,10 @@ mod stopped;
 mod stopped_log;
 mod text_finding;
 mod text_hint;
+mod told_text;
 
-pub use explain::{draft_of_ring, draft_run, explain_log, explain_logs};
+pub use explain::{explain_log, explain_logs, explanation, page_after_answer};
+pub use good_block::print_run;
+pub use pointed_line::{PointedLine, quoted_line};
 pub use slip::Slip;
+pub use told_text::{print_short_head, print_too_long, whole_text};

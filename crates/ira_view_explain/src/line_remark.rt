@@ -1,3 +1,6 @@
+ghost use Rattle.std.specs.Prelude.{◌≡◌};
+ghost use Rattle.ira_view_explain.specs.LineRemark.{kind_of};
+
 use crate::field::Field;
 use crate::head_line::HeadLine;
 use crate::line_stop::DueInLine;
@@ -26,7 +29,9 @@ pub(crate) enum LineRemark {
 }
 
 impl LineRemark {
-    pub(crate) fn kind(self) -> Remark {
+    pub(crate) fn kind(self) -> Remark
+        ensures { result ≡ kind_of self }
+    {
         match self {
             LineRemark::Head(_) | LineRemark::Line { .. } | LineRemark::LineFeed => Remark::Due,
             LineRemark::Range(_)

@@ -1,73 +1,93 @@
-ghost use Rattle.std.specs.Prelude.{IfOk};
-ghost use Rattle.ira_view_explain.specs.TextTold.{IsLineTold};
+ghost use Rattle.std.specs.Prelude.{◌≡◌, ℕ, IfOk, List, None, Some};
+ghost use Rattle.ira_view_explain.specs.PointedLine.{IsPointed, IsPointedFront, IsQuoted, pointed_end};
+ghost use Rattle.ira_view_page.specs.Page.{Added};
 
-use crate::line_remark::LineRemark;
 use ira_event::OutOfMemory;
-use ira_view_page::{Carets, Emphasis, Evidence, NamedText, Page, QuotedLine, Remark, shown_width};
+use ira_view_page::{Carets, Emphasis, NamedText, Page, QuotedLine, Remark, quoted_column};
 use std::alloc::Allocator;
 
-/// A line of a text, carets below some of its bytes, one at least, and a remark beside them.
+/// A line of a text, and carets below some of its bytes, one at least.
 #[derive(Clone, Copy)]
-pub(crate) struct PointedLine {
+pub struct PointedLine {
     /// Counted from 1.
-    pub(crate) number: usize,
+    pub number: usize,
     /// The byte above the first caret, counted from 0.
-    pub(crate) from: usize,
+    pub from: usize,
     /// The byte after the carets.
-    pub(crate) to: usize,
-    pub(crate) remark: LineRemark,
+    pub to: usize,
+    /// Of what kind the words beside the carets are.
+    pub remark: Remark,
 }
 
-/// At which column of its quote a byte of a line stands; one after the line stands at its end.
-fn quoted_column(line: &[u8], byte: usize) -> usize {
-    shown_width(&line[..byte.min(line.len())]).min(80)
+/// A line of a file, without carets.
+pub fn quoted_line<A: Allocator + Clone>(
+    alloc: &A,
+    file: &NamedText<'_>,
+    number: usize,
+) -> Result<QuotedLine<A>, OutOfMemory>
+    ensures quoted { IfOk result (IsQuoted file.now number) }
+    ensures carets { IfOk result (λ line. line.carets ≡ None) }
+{
+    let mut text = Page::new(alloc.clone()?);
+    text.quote(file.line(number));
+    Ok(QuotedLine {
+        file: String::from_str(alloc.clone()?, file.name)?,
+        number,
+        text: text.finish()?.into_string(),
+        carets: None,
+    })
 }
 
 impl PointedLine {
-    /// Adds the line of this file, and below it the carets with the remark.
-    pub(crate) fn print<A: Allocator>(&self, file: &NamedText<'_>, page: &mut Page<A>) {
+    /// Adds the line of this file, and the carets below it; the words beside them are due then, and `print_end`.
+    pub fn print<A: Allocator>(&self, file: &NamedText<'_>, page: &mut Page<A>)
+        ensures { (front : List ℕ) × IsPointedFront file.now self.now front × Added page.old front page.new }
+    {
         let line = file.line(self.number);
+        let start = page.len();
         page.begin(Emphasis::Named);
         page.place(file.name, self.number);
         page.words(":");
-        let column = page.column().saturating_add(1);
+        let column = page.len().saturating_sub(start);
         if !line.is_empty() {
             page.words(" ");
             page.quote(line);
         }
         page.end();
         let first = quoted_column(line, self.from);
-        page.pad_to(column.saturating_add(first));
+        page.spaces(column);
+        page.words(" ");
+        page.spaces(first);
         page.carets(quoted_column(line, self.to).saturating_sub(first));
         page.words(" ");
-        self.remark.print(page);
-        if self.remark.kind() == Remark::Due {
-            page.words(" is due here");
-        }
-        page.end();
     }
 
-    /// The same as evidence.
-    pub(crate) fn evidence<A: Allocator + Clone>(
+    /// Adds what follows the words beside the carets.
+    pub fn print_end<A: Allocator>(&self, page: &mut Page<A>)
+        ensures { Added page.old (pointed_end self.now.remark) page.new }
+    {
+        match self.remark {
+            Remark::Due => page.words(" is due here\n"),
+            Remark::Note => page.end(),
+        }
+    }
+
+    /// The line of this file with the carets, and these words beside them.
+    pub fn quoted<A: Allocator + Clone>(
         &self,
         alloc: &A,
         file: &NamedText<'_>,
-    ) -> Result<Evidence<A>, OutOfMemory>
-        ensures { IfOk result (IsLineTold file.now self.now.number) }
+        words: Page<A>,
+    ) -> Result<QuotedLine<A>, OutOfMemory>
+        ensures { IfOk result (λ line. (text : List ℕ) × (words ≡ Some text)
+            × IsPointed file.now self.now text line) }
     {
-        let mut text = Page::new(alloc.clone()?);
-        text.quote(file.line(self.number));
-        let mut words = Page::new(alloc.clone()?);
-        self.remark.print(&mut words);
-        Ok(Evidence::Line(QuotedLine {
-            file: String::from_str(alloc.clone()?, file.name)?,
-            number: self.number,
-            text: text.finish()?.into_string(),
-            carets: Some(Carets {
-                byte: self.from.saturating_add(1),
-                remark: self.remark.kind(),
-                words: words.finish()?.into_string(),
-            }),
-        }))
+        let mut line = quoted_line(alloc, file, self.number)?;
+        line.carets = Some(Carets {
+            byte: self.from.saturating_add(1),
+            remark: self.remark,
+            words: words.finish()?.into_string(),
+        });
+        Ok(line)
     }
 }

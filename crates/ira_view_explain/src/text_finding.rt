@@ -1,6 +1,9 @@
-ghost use Rattle.std.specs.Prelude.{◌≡◌, ◌≢◌, ◌≤◌, IfOk};
+ghost use Rattle.std.specs.Prelude.{◌≡◌, ◌≢◌, ◌≤◌, IfOk, length};
 ghost use Rattle.ira_event.specs.Limits.{MAX_RECORDS};
-ghost use Rattle.ira_view_explain.specs.TextTold.{IsAtLine, IsStopTold, IsTextStop, IsWholeTold};
+ghost use Rattle.ira_event.specs.LogTextFault.{LogTextFault, OpeningFault};
+ghost use Rattle.ira_event.specs.declared.log_fault.LogFault.{LogFault};
+ghost use Rattle.ira_view_explain.specs.TextTold.{IsAt, IsAtLine, IsCutStop, IsFaultAfter, IsInHead, IsLineTold};
+ghost use Rattle.ira_view_explain.specs.TextTold.{IsStopTold, IsTextStop, IsWholeLine};
 ghost use Rattle.ira_view_page.specs.Printable.{IsPrintable};
 
 use crate::head_line::{HeadLine, number_of};
@@ -9,11 +12,12 @@ use crate::line_stop::LineStop;
 use crate::pointed_line::PointedLine;
 use crate::slip::Slip;
 use crate::text_hint::TextHint;
+use crate::told_text::{print_short_head, print_too_long, whole_text};
 use ira_event::{
-    LogFault, MAX_NODES, MAX_RECORDS, MAX_TEXT, MAX_VERSION_1_NODES, OutOfMemory, open_log,
-    scan_number, skip_word,
+    LogFault, MAX_NODES, MAX_RECORDS, MAX_VERSION_1_NODES, OutOfMemory, open_log, scan_number,
+    skip_word,
 };
-use ira_view_page::{Emphasis, Evidence, NamedText, Page};
+use ira_view_page::{Evidence, NamedText, Page, Remark};
 use std::alloc::Allocator;
 
 /// What a text shows that is no log's.
@@ -25,7 +29,10 @@ pub(crate) enum TextStop {
         whole: usize,
         piece: Option<PointedLine>,
     },
-    Line(PointedLine),
+    Line {
+        line: PointedLine,
+        remark: LineRemark,
+    },
 }
 
 /// Why a text is no log's.
@@ -57,15 +64,13 @@ fn line_forms(version: u8) -> &'static str
 
 /// How many records stand in front of the first line that is none.
 fn count_records(file: &NamedText<'_>) -> usize
-    ensures { result ≤ MAX_RECORDS }
+    ensures fault { (f : LogFault) → LogTextFault file.now.text.now f → ¬ (OpeningFault file.now.text.now f)
+        → IsFaultAfter file.now.text.now result f }
+    ensures few { result ≤ MAX_RECORDS }
 {
     match open_log(file.text) {
         Ok((_, mut records)) => {
-            for _ in 0..MAX_RECORDS {
-                if !matches!(records.next_event(), Ok(Some(_))) {
-                    break;
-                }
-            }
+            while let Ok(Some(_)) = records.next_event() {}
             records.count()
         }
         Err(_) => 0,
@@ -102,8 +107,8 @@ fn head_hint(due: HeadLine, line: &[u8]) -> Option<TextHint> {
 impl TextFinding {
     /// Of a text with this fault.
     pub(crate) fn find(file: &NamedText<'_>, fault: LogFault) -> TextFinding
-        requires { fault ≢ LogFault.OutOfMemory }
-        ensures { IsTextStop fault result.stop }
+        requires { LogTextFault file.now.text.now fault }
+        ensures { IsTextStop file.now.text.now fault result.stop }
     {
         match fault {
             LogFault::TooLong => TextFinding {
@@ -115,10 +120,8 @@ impl TextFinding {
                 TextFinding::of_line(file, number as usize)
             }
             LogFault::TooMany => {
-                let number = MAX_RECORDS + 5;
-                let end = file.line(number).len();
                 let hint = Some(TextHint::TooMany);
-                TextFinding::at(number, 0, end, LineRemark::TooMany, hint)
+                TextFinding::whole_line(file, MAX_RECORDS + 5, LineRemark::TooMany, hint)
             }
             LogFault::Cut => TextFinding::of_cut(file),
             LogFault::Count => TextFinding::of_count(file),
@@ -135,22 +138,34 @@ impl TextFinding {
         remark: LineRemark,
         hint: Option<TextHint>,
     ) -> TextFinding
-        ensures { IsAtLine number result.stop }
+        ensures { IsAt number from to remark result.stop }
     {
         let line = PointedLine {
             number,
             from,
             to,
-            remark,
+            remark: remark.kind(),
         };
         TextFinding {
-            stop: TextStop::Line(line),
+            stop: TextStop::Line { line, remark },
             hint,
         }
     }
 
+    /// All of a line of this number.
+    fn whole_line(
+        file: &NamedText<'_>,
+        number: usize,
+        remark: LineRemark,
+        hint: Option<TextHint>,
+    ) -> TextFinding
+        ensures { IsWholeLine file.now.text.now number remark result.stop }
+    {
+        TextFinding::at(number, 0, file.line(number).len(), remark, hint)
+    }
+
     fn of_head(file: &NamedText<'_>) -> TextFinding
-        ensures { IsTextStop LogFault.Head result.stop }
+        ensures { IsInHead result.stop }
     {
         let whole = file.whole_lines();
         let due = HeadLine::first_stop(file);
@@ -166,7 +181,7 @@ impl TextFinding {
                 head_hint(due, line),
             );
         }
-        let (end, remark) = (line.len(), LineRemark::LineFeed);
+        let end = line.len();
         TextFinding {
             stop: TextStop::ShortHead {
                 whole,
@@ -177,7 +192,7 @@ impl TextFinding {
                         number,
                         from: end,
                         to: end,
-                        remark,
+                        remark: Remark::Due,
                     })
                 },
             },
@@ -216,7 +231,7 @@ impl TextFinding {
     }
 
     fn of_cut(file: &NamedText<'_>) -> TextFinding
-        ensures { IsTextStop LogFault.Cut result.stop }
+        ensures { IsCutStop file.now.text.now result.stop }
     {
         let whole = file.whole_lines();
         let records = whole.saturating_sub(4);
@@ -229,15 +244,15 @@ impl TextFinding {
             TextHint::Crash
         });
         if piece.is_empty() {
-            let end = file.line(whole).len();
-            TextFinding::at(whole, 0, end, LineRemark::Last { records }, hint)
+            TextFinding::whole_line(file, whole, LineRemark::Last { records }, hint)
         } else {
             TextFinding::at(next, piece.len(), piece.len(), LineRemark::LineFeed, hint)
         }
     }
 
     fn of_count(file: &NamedText<'_>) -> TextFinding
-        ensures { IsTextStop LogFault.Count result.stop }
+        requires { LogTextFault file.now.text.now LogFault.Count }
+        ensures { IsTextStop file.now.text.now LogFault.Count result.stop }
     {
         let records = count_records(file);
         let number = records + 5;
@@ -253,7 +268,8 @@ impl TextFinding {
     }
 
     fn of_trailing(file: &NamedText<'_>) -> TextFinding
-        ensures { IsTextStop LogFault.Trailing result.stop }
+        requires { LogTextFault file.now.text.now LogFault.Trailing }
+        ensures { IsTextStop file.now.text.now LogFault.Trailing result.stop }
     {
         let end = count_records(file) + 5;
         let number = end + 1;
@@ -265,36 +281,22 @@ impl TextFinding {
         } else {
             None
         };
-        TextFinding::at(number, 0, line.len(), LineRemark::AfterEnd { end }, hint)
+        TextFinding::whole_line(file, number, LineRemark::AfterEnd { end }, hint)
     }
 
     /// Adds what shows it in this file.
     pub(crate) fn print<A: Allocator>(&self, file: &NamedText<'_>, page: &mut Page<A>) {
         match self.stop {
-            TextStop::TooLong => {
-                page.begin(Emphasis::Plain);
-                page.show(file.name.as_bytes());
-                page.words(": ");
-                page.grouped(file.text.len() as u64);
-                page.words(" bytes; a text has at most ");
-                page.grouped(MAX_TEXT as u64);
-                page.words(".");
-                page.end();
-            }
+            TextStop::TooLong => print_too_long(file, page),
             TextStop::ShortHead { whole, piece } => {
-                page.begin(Emphasis::Plain);
-                page.show(file.name.as_bytes());
-                page.words(": ");
-                page.number_of(whole, "whole line");
-                page.words("; the head has four.");
-                page.end();
+                print_short_head(file, whole, "four", page);
                 if let Some(piece) = piece {
-                    piece.print(file, page);
+                    print_pointed(file, &piece, LineRemark::LineFeed, page);
                 }
             }
-            TextStop::Line(line) => {
-                line.print(file, page);
-                if let LineRemark::Line { version, .. } = line.remark {
+            TextStop::Line { line, remark } => {
+                print_pointed(file, &line, remark, page);
+                if let LineRemark::Line { version, .. } = remark {
                     page.blank();
                     page.paragraph(line_forms(version));
                     return;
@@ -315,11 +317,11 @@ impl TextFinding {
         ensures { IfOk result (IsStopTold file.now self.now.stop) }
     {
         match self.stop {
-            TextStop::Line(line) => line.evidence(alloc, file),
+            TextStop::Line { line, remark } => pointed_told(alloc, file, &line, remark),
             TextStop::ShortHead {
                 piece: Some(piece),
                 ..
-            } => piece.evidence(alloc, file),
+            } => pointed_told(alloc, file, &piece, LineRemark::LineFeed),
             TextStop::ShortHead { piece: None, .. } => whole_text(alloc, file),
             TextStop::TooLong => whole_text(alloc, file),
         }
@@ -340,12 +342,28 @@ impl TextFinding {
     }
 }
 
-/// The text of a file as a whole.
-fn whole_text<A: Allocator + Clone>(
+/// Adds a line of a file, with this beside its carets.
+fn print_pointed<A: Allocator>(
+    file: &NamedText<'_>,
+    line: &PointedLine,
+    remark: LineRemark,
+    page: &mut Page<A>,
+) {
+    line.print(file, page);
+    remark.print(page);
+    line.print_end(page);
+}
+
+/// The same as evidence.
+fn pointed_told<A: Allocator + Clone>(
     alloc: &A,
     file: &NamedText<'_>,
+    line: &PointedLine,
+    remark: LineRemark,
 ) -> Result<Evidence<A>, OutOfMemory>
-    ensures { IfOk result (IsWholeTold file.now) }
+    ensures { IfOk result (IsLineTold file.now line.now) }
 {
-    Ok(Evidence::Text(String::from_str(alloc.clone()?, file.name)?))
+    let mut words = Page::new(alloc.clone()?);
+    remark.print(&mut words);
+    Ok(Evidence::Line(line.quoted(alloc, file, words)?))
 }

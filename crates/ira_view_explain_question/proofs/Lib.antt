@@ -1,9 +1,7 @@
 mod AskedCases
 mod Candidates
 mod Clauses
-mod Drafts
 mod Explained
-mod ForEach
 mod Numbers
 mod Sections
 mod Stops

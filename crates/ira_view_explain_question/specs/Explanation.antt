@@ -1,5 +1,5 @@
 -- What is explained of a question.
-use Rattle.std.specs.Prelude.{◌≡◌, ℕ, List, [], ◌∷◌, ◌++◌, Option, None, Some, codes, length, slice_get, take, ⊤}
+use Rattle.std.specs.Prelude.{◌≡◌, ℕ, List, [], ◌∷◌, ◌++◌, Option, None, Some, codes, length, slice_get, take}
 use Rattle.std.specs.List.{AllZip}
 use Rattle.ira_pred.specs.Case.{Conjunct}
 use Rattle.ira_cert_text.specs.Certificate.{Section}
@@ -25,6 +25,7 @@ use Rattle.ira_view_page.specs.Page.{mark_text}
 use Rattle.ira_view_page.specs.Places.{place_text}
 use Rattle.ira_view_page.specs.Quoted.{quoted_text}
 use Rattle.ira_view_explain.specs.Counts.{counts}
+use Rattle.ira_view_explain.specs.PointedLine.{IsQuoted}
 use Rattle.ira_view_explain.specs.Refused.{AreParts, IsTold}
 use Rattle.ira_view_explain_question.specs.declared.asked_files.AskedFiles.{AskedFiles}
 use Rattle.ira_view_explain_question.specs.declared.asked_finding.AskedStop.{AskedStop}
@@ -36,7 +37,7 @@ use Rattle.ira_view_explain_question.specs.ExplainedCase.{IsCaseOf, TellsCaseOf}
 use Rattle.ira_view_explain_question.specs.QuestionFinding.{IsQuestionStop}
 use Rattle.ira_view_explain_question.specs.SectionCount.{IsMissingTold, TellsCount}
 use Rattle.ira_view_explain_question.specs.SectionFinding.{IsSectionFinding, IsSectionTold, TellsSection}
-use Rattle.ira_view_explain_question.specs.PointedLine.{IsQuoted}
+use Rattle.ira_view_explain.specs.PointedLine.{IsQuoted}
 
 -- the first eight chosen cases are explained, in their order, on the page and as values, and nothing else is
 pub record AreCasesExplained {A : Type 0} (files : AskedFiles) (asked : AskedQuestion) (found : List (Found A))
@@ -57,11 +58,6 @@ abbrev pub AreFindingsExplained : {A : Type 0} → AskedFiles → AskedQuestion 
 AreFindingsExplained files asked (Cases nodes found) case explanation =
     AreCasesExplained files asked found.items case explanation
 AreFindingsExplained files asked (Refused reason) case explanation = ⊥
-
--- what is told of logs against which there is a reason; of good ones nothing is said here
-abbrev pub IsRefusalTold : {A : Type 0} → List NamedText → Judged A → Explanation A → Type 0
-IsRefusalTold files (Good logs) explanation = ⊤
-IsRefusalTold files judged explanation = IsTold files judged explanation.state_before explanation.evidence.items
 
 -- a line of a file on a page, counted from 1
 abbrev pub line_text : Emphasis → List ℕ → ℕ → List ℕ → List ℕ
@@ -91,18 +87,20 @@ pub record IsSizeExplained {A : Type 0} (file : NamedText) (explanation : Explan
   pub more : List ℕ
   pub page : explanation.page ≡ codes "\n" ++ line_text Named file.name.now 2 bytes ++ more
 
--- it is explained why a question isn't asked of the ring of good logs
+-- it is explained why a question isn't asked of the ring of these logs: by its own text, or else by theirs
 abbrev pub IsNotAskedExplained : {A : Type 0} → AskedFiles → Judged A → Reason → Explanation A → Type 0
 IsNotAskedExplained files (Good logs) (Question fault) explanation =
-    (stop : AskedStop) × IsQuestionStop fault stop × IsStopExplained files.question.now stop explanation
+    (stop : AskedStop) × IsQuestionStop files.question.now.text.now fault stop
+    × IsStopExplained files.question.now stop explanation
 IsNotAskedExplained files (Good logs) QuestionSize explanation =
     IsSizeExplained files.question.now explanation
-IsNotAskedExplained files judged reason explanation = ⊤
+IsNotAskedExplained files judged reason explanation =
+    IsTold files.logs.now judged explanation.state_before explanation.evidence.items
 
 -- it is explained why a file has no certificate for the ring of a question
 abbrev pub IsNoCertificateExplained : {A : Type 0} → NamedText → Reason → Explanation A → Type 0
 IsNoCertificateExplained file (Certificate fault) explanation =
-    (stop : AskedStop) × IsCertificateStop fault stop × IsStopExplained file stop explanation
+    (stop : AskedStop) × IsCertificateStop file.text.now fault stop × IsStopExplained file stop explanation
 IsNoCertificateExplained file reason explanation = IsSizeExplained file explanation
 
 -- it is explained why the section of a case isn't sound

@@ -8,7 +8,7 @@ pub mod EliminationLines
 pub mod ExplainedCase
 pub mod Explanation
 pub mod NodeLeft
-pub mod PointedLine
 pub mod QuestionFinding
+pub mod SaidLines
 pub mod SectionCount
 pub mod SectionFinding

@@ -1,15 +1,15 @@
-ghost use Rattle.std.specs.Prelude.{◌≡◌, ℕ, IfOk, List};
+ghost use Rattle.std.specs.Prelude.{◌≡◌, ◌<◌, ◌≤◌, ◌+◌, ℕ, IfOk, List};
+ghost use Rattle.ira_view_page.specs.Lines.{whole_lines};
 ghost use Rattle.ira_view_page.specs.Page.{Added, AddedSome};
 ghost use Rattle.ira_view_explain_question.specs.AskedFinding.{IsAt, IsCutStop, IsHeadStop, IsInHead, IsStopTold};
-ghost use Rattle.ira_view_explain_question.specs.AskedFinding.{IsTrailingStop, TellsStop};
+ghost use Rattle.ira_view_explain_question.specs.AskedFinding.{IsTrailingStop, IsWholeLine, TellsStop};
+ghost use Rattle.ira_view_explain_question.specs.SaidLines.{IsNthLine};
 
 use crate::asked_hint::AskedHint;
 use crate::asked_lines::HEAD_LINES;
 use crate::asked_remark::AskedRemark;
-use crate::pointed_line::PointedLine;
-use crate::told_text::{print_short_head, print_too_long, whole_text};
 use ira_event::OutOfMemory;
-use ira_view_explain::Slip;
+use ira_view_explain::{PointedLine, Slip, print_short_head, print_too_long, whole_text};
 use ira_view_page::{Emphasis, Evidence, NamedText, Page, split_line};
 use std::alloc::Allocator;
 
@@ -34,7 +34,7 @@ impl AskedStop {
     {
         match self {
             AskedStop::TooLong => print_too_long(file, page),
-            AskedStop::ShortHead { whole } => print_short_head(file, whole, page),
+            AskedStop::ShortHead { whole } => print_short_head(file, whole, "two", page),
             AskedStop::Line { line, remark } => {
                 line.print(file, page);
                 remark.print(page);
@@ -59,7 +59,11 @@ pub(crate) struct AskedFinding<'a> {
 
 /// The number of the line, after the head, which is the `k`-th that is this word; of the line after all whole ones,
 /// where fewer are.
-pub(crate) fn nth_line(file: &NamedText<'_>, word: &[u8], k: usize) -> usize {
+pub(crate) fn nth_line(file: &NamedText<'_>, word: &[u8], k: usize) -> usize
+    requires { 0 < k }
+    ensures nth { IsNthLine file.now.text.now word.now k result }
+    ensures within { result ≤ whole_lines file.now.text.now + 3 }
+{
     let mut rest = file.from_line(HEAD_LINES + 1);
     let mut found = 0usize;
     let mut number = HEAD_LINES + 1;
@@ -92,7 +96,7 @@ impl<'a> AskedFinding<'a> {
 
     /// A line of this number, with these bytes.
     pub(crate) fn at(number: usize, from: usize, to: usize, remark: AskedRemark) -> AskedFinding<'a>
-        ensures { IsAt number remark result.stop }
+        ensures { IsAt number from to remark result.stop }
     {
         let line = PointedLine {
             number,
@@ -112,7 +116,7 @@ impl<'a> AskedFinding<'a> {
         number: usize,
         remark: AskedRemark,
     ) -> AskedFinding<'a>
-        ensures { IsAt number remark result.stop }
+        ensures { IsWholeLine file.now.text.now number remark result.stop }
     {
         AskedFinding::at(number, 0, file.line(number).len(), remark)
     }
@@ -143,7 +147,7 @@ impl<'a> AskedFinding<'a> {
         first: &[u8],
         remark: AskedRemark,
     ) -> AskedFinding<'a>
-        ensures { IsHeadStop remark result.stop }
+        ensures { IsHeadStop file.now.text.now first.now remark result.stop }
     {
         if file.line(1) == first {
             AskedFinding::of_head_line(file, 2, AskedRemark::Nodes)
@@ -154,7 +158,7 @@ impl<'a> AskedFinding<'a> {
 
     /// Of a text whose line of this number isn't as the head's is, or isn't there.
     fn of_head_line(file: &NamedText<'a>, number: usize, remark: AskedRemark) -> AskedFinding<'a>
-        ensures { IsInHead number remark result.stop }
+        ensures { IsInHead file.now.text.now number remark result.stop }
     {
         let whole = file.whole_lines();
         if number > whole {
@@ -168,7 +172,7 @@ impl<'a> AskedFinding<'a> {
 
     /// Of a text that ends before a whole end line.
     pub(crate) fn of_cut(file: &NamedText<'a>) -> AskedFinding<'a>
-        ensures { IsCutStop result.stop }
+        ensures { IsCutStop file.now.text.now result.stop }
     {
         let whole = file.whole_lines();
         let next = whole.saturating_add(1);
@@ -182,7 +186,7 @@ impl<'a> AskedFinding<'a> {
 
     /// Of a text that goes on after the end line, which is the first that says `end`.
     pub(crate) fn of_trailing(file: &NamedText<'a>) -> AskedFinding<'a>
-        ensures { IsTrailingStop result.stop }
+        ensures { IsTrailingStop file.now.text.now result.stop }
     {
         let end = nth_line(file, b"end", 1);
         AskedFinding::whole_line(file, end.saturating_add(1), AskedRemark::AfterEnd { end })

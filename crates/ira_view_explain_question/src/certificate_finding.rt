@@ -1,6 +1,6 @@
 ghost use Rattle.std.specs.Prelude.{◌≢◌};
 ghost use Rattle.ira_cert_text.specs.declared.cert_fault.CertFault.{CertFault};
-ghost use Rattle.ira_view_explain_question.specs.CertificateFinding.{IsCertificateStop};
+ghost use Rattle.ira_view_explain_question.specs.CertificateFinding.{IsCertificateStop, IsPastLimits};
 
 use crate::asked_finding::AskedFinding;
 use crate::asked_lines::HEAD_LINES;
@@ -10,7 +10,9 @@ use ira_view_page::{NamedText, split_line};
 
 /// The number of the line with which a certificate has more sections, or a section more steps, than it may; of the line
 /// after all whole ones, where none is.
-fn first_past_limits(file: &NamedText<'_>) -> usize {
+fn first_past_limits(file: &NamedText<'_>) -> usize
+    ensures { IsPastLimits file.now.text.now result }
+{
     let mut rest = file.from_line(HEAD_LINES + 1);
     let mut sections = 0usize;
     let mut steps = 0usize;
@@ -38,7 +40,7 @@ impl<'a> AskedFinding<'a> {
     /// Of a text with this fault, which is no certificate's.
     pub(crate) fn of_certificate(file: &NamedText<'a>, fault: CertFault) -> AskedFinding<'a>
         requires { fault ≢ CertFault.OutOfMemory }
-        ensures { IsCertificateStop fault result.stop }
+        ensures { IsCertificateStop file.now.text.now fault result.stop }
     {
         match fault {
             CertFault::TooLong => AskedFinding::too_long(),

@@ -1,4 +1,4 @@
-ghost use Rattle.std.specs.Prelude.{◌≡◌, ◌≤◌, ℕ, [], IfOk, List, Some, codes, length, map};
+ghost use Rattle.std.specs.Prelude.{◌≡◌, ◌≤◌, ℕ, [], IfOk, List, None, Some, length, map};
 ghost use Rattle.std.specs.List.{AllZip};
 ghost use Rattle.ira_audit.specs.AskedQuestion.{AreFoundOf};
 ghost use Rattle.ira_audit.specs.CheckAnswer.{AreSound, IsFirstUnsound};
@@ -11,7 +11,7 @@ ghost use Rattle.ira_view_page.specs.Lines.{IsLine};
 ghost use Rattle.ira_view_page.specs.Page.{Added, AddedSome};
 ghost use Rattle.ira_view_explain_question.specs.Explanation.{AreCasesExplained, AreFindingsExplained};
 ghost use Rattle.ira_view_explain_question.specs.Explanation.{IsCountExplained, IsNoCertificateExplained};
-ghost use Rattle.ira_view_explain_question.specs.Explanation.{IsNotAskedExplained, IsRefusalTold, IsSectionExplained};
+ghost use Rattle.ira_view_explain_question.specs.Explanation.{IsNotAskedExplained, IsSectionExplained};
 ghost use Rattle.ira_view_explain_question.specs.Explanation.{IsSizeExplained, IsStopExplained};
 ghost use Rattle.ira_view_explain_question.specs.Explanation.{IsUnsoundExplained, line_text};
 
@@ -19,13 +19,12 @@ use crate::asked_files::AskedFiles;
 use crate::asked_finding::AskedFinding;
 use crate::asked_ring::AskedRing;
 use crate::chosen_cases::{MOST_CASES, chosen_cases};
-use crate::pointed_line::quoted_line;
 use crate::section_finding::SectionFinding;
 use ira_audit::{AskedQuestion, Findings, Judged, Reason};
 use ira_cert::{Section, SectionFault};
 use ira_elim::Found;
 use ira_event::{Logs, OutOfMemory};
-use ira_view_explain::{draft_run, explain_logs};
+use ira_view_explain::{explain_logs, explanation, page_after_answer, print_run, quoted_line};
 use ira_view_page::{Emphasis, Evidence, Explanation, NamedText, Page, RingCounts};
 use std::alloc::Allocator;
 
@@ -96,8 +95,7 @@ pub fn explain_not_asked<A: Allocator + Clone>(
     requires reason { IsFindingsReason (map (λ log. log.text.now) files.logs.now)
         files.question.now.text.now reason }
     ensures ring { IfOk result (λ explanation. explanation.ring ≡ ring_of judged.now) }
-    ensures told { IfOk result (IsRefusalTold files.entry.logs.now judged.now) }
-    ensures question { IfOk result (IsNotAskedExplained files.entry judged.now reason) }
+    ensures why { IfOk result (IsNotAskedExplained files.entry judged.now reason) }
 {
     let AskedFiles { logs, question } = files;
     match (judged, reason) {
@@ -170,9 +168,9 @@ pub fn explain_sound<A: Allocator + Clone>(
 ) -> Result<Explanation<A>, OutOfMemory>
     requires { AreSound asked.now.logs asked.now.question.cases sections.now }
     ensures ring { IfOk result (λ explanation. explanation.ring ≡ Some (counts asked.now.logs)) }
+    ensures state { IfOk result (λ explanation. explanation.state_before ≡ None) }
     ensures evidence { IfOk result (λ explanation. explanation.evidence.items ≡ []) }
 {
-    let mut draft = draft_run(alloc.clone()?, asked.logs())?;
     let add = |steps: usize, section: &Section<A>| steps.saturating_add(section.steps.len());
     let steps = sections.iter().fold(0, add);
     let mut text = Page::new(&alloc);
@@ -180,44 +178,17 @@ pub fn explain_sound<A: Allocator + Clone>(
     text.words(", ");
     text.number_of(steps, "step");
     text.words(": no moment of any order of these events met any case.");
-    draft.page.paragraph_of(&text);
-    draft.finish()
-}
-
-/// A page with the empty line that comes after an answer.
-fn page_after_answer<A: Allocator>(alloc: A) -> Page<A>
-    ensures { Added (Some []) (codes "\n") result }
-{
-    let mut page = Page::new(alloc);
-    page.blank();
-    page
-}
-
-/// What a page explains about the logs of a ring, with what it rests on, and hints that come last on the page.
-fn explanation<A: Allocator + Clone>(
-    alloc: &A,
-    logs: &Logs<A>,
-    page: Page<A>,
-    evidence: Vec<Evidence<A>, A>,
-    hints: Vec<String<A>, A>,
-) -> Result<Explanation<A>, OutOfMemory>
-    ensures ring { IfOk result (λ explanation. explanation.ring ≡ Some (counts logs.now)) }
-    ensures evidence { IfOk result (λ explanation. explanation.evidence.items ≡ evidence.items) }
-    ensures hints { IfOk result (λ explanation. explanation.hints.items ≡ hints.items) }
-    ensures page { IfOk result (λ explanation. AddedSome page (Some explanation.page)) }
-{
-    let mut page = page;
-    for hint in &hints {
-        page.hint(hint);
-    }
-    Ok(Explanation {
-        page: page.finish()?,
-        ring: Some(RingCounts::of(logs)),
-        state_before: None,
+    let mut page = page_after_answer(alloc.clone()?);
+    print_run(&alloc, asked.logs(), &mut page);
+    page.paragraph_of(&text);
+    let (evidence, hints) = (Vec::new(alloc.clone()?), Vec::new(alloc.clone()?));
+    explanation(
+        &alloc,
+        Some(RingCounts::of(asked.logs())),
+        page,
         evidence,
         hints,
-        cases: Vec::new(alloc.clone()?),
-    })
+    )
 }
 
 /// Why a text is no question's or no certificate's.
@@ -235,7 +206,7 @@ fn explain_text<A: Allocator + Clone>(
     let hints = finding.hints(alloc)?;
     let mut page = page_after_answer(alloc.clone()?);
     finding.print(file, &mut page);
-    explanation(alloc, logs, page, evidence, hints)
+    explanation(alloc, Some(RingCounts::of(logs)), page, evidence, hints)
 }
 
 /// Adds `FILE:LINE: TEXT` to a page.
@@ -278,7 +249,7 @@ fn explain_size<A: Allocator + Clone>(
     let mut page = page_after_answer(alloc.clone()?);
     print_line(Emphasis::Named, file, 2, &mut page);
     print_first_size(files, &mut page);
-    explanation(alloc, logs, page, evidence, hints)
+    explanation(alloc, Some(RingCounts::of(logs)), page, evidence, hints)
 }
 
 /// Why the section of a case isn't sound, which is the first of these that isn't.
@@ -300,7 +271,13 @@ fn explain_section<A: Allocator + Clone>(
     finding.print(&case, certificate, &mut page);
     let evidence = finding.evidence(ring.alloc, certificate)?;
     let hints = Vec::new(ring.alloc.clone()?);
-    explanation(ring.alloc, ring.logs(), page, evidence, hints)
+    explanation(
+        ring.alloc,
+        Some(RingCounts::of(ring.logs())),
+        page,
+        evidence,
+        hints,
+    )
 }
 
 /// That a certificate has so many sections, and how many are due.
@@ -320,5 +297,11 @@ fn explain_count<A: Allocator + Clone>(
         "the certificate is of another question: `ira decide --out` writes one for this.",
     )?)?;
     let evidence = ring.missing_told(sections)?;
-    explanation(ring.alloc, ring.logs(), page, evidence, hints)
+    explanation(
+        ring.alloc,
+        Some(RingCounts::of(ring.logs())),
+        page,
+        evidence,
+        hints,
+    )
 }

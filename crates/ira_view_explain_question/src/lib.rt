@@ -17,12 +17,10 @@ mod explain;
 mod explained_case;
 mod moment_lines;
 mod node_left;
-mod pointed_line;
 mod question_finding;
 mod section_count;
 mod section_finding;
 mod section_sentences;
-mod told_text;
 
 pub use asked_files::AskedFiles;
 pub use explain::{

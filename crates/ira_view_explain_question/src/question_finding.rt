@@ -1,7 +1,7 @@
 ghost use Rattle.std.specs.Prelude.{◌≢◌, ◌<◌, length};
 ghost use Rattle.ira_pred.specs.declared.ask_fault.AskFault.{AskFault};
-ghost use Rattle.ira_view_explain_question.specs.AskedFinding.{IsAt, IsAtLine};
-ghost use Rattle.ira_view_explain_question.specs.QuestionFinding.{IsCasesStop, IsQuestionStop};
+ghost use Rattle.ira_view_explain_question.specs.QuestionFinding.{IsCasesStop, IsClauseStop, IsLineStop, IsPlaceStop};
+ghost use Rattle.ira_view_explain_question.specs.QuestionFinding.{IsQuestionStop};
 
 use crate::asked_finding::{AskedFinding, AskedStop, nth_line};
 use crate::asked_hint::AskedHint;
@@ -66,7 +66,7 @@ impl<'a> AskedFinding<'a> {
     /// Of a text with this fault, which is no question's.
     pub(crate) fn of_question(file: &NamedText<'a>, fault: AskFault) -> AskedFinding<'a>
         requires { fault ≢ AskFault.OutOfMemory }
-        ensures { IsQuestionStop fault result.stop }
+        ensures { IsQuestionStop file.now.text.now fault result.stop }
     {
         match fault {
             AskFault::TooLong => AskedFinding::too_long(),
@@ -88,7 +88,7 @@ impl<'a> AskedFinding<'a> {
     }
 
     fn of_line(file: &NamedText<'a>, number: usize) -> AskedFinding<'a>
-        ensures { IsAtLine number result.stop }
+        ensures { IsLineStop file.now.text.now number result.stop }
     {
         let line = file.line(number);
         match scan_place(line) {
@@ -106,7 +106,7 @@ impl<'a> AskedFinding<'a> {
 
     /// Of a line whose clause, after the place, is none.
     fn of_clause(number: usize, line: &'a [u8], clause: &'a [u8]) -> AskedFinding<'a>
-        ensures { IsAtLine number result.stop }
+        ensures { IsClauseStop number result.stop }
     {
         let stop = clause_stop(clause);
         let byte = line.len().saturating_sub(stop.rest.len());
@@ -125,7 +125,7 @@ impl<'a> AskedFinding<'a> {
     }
 
     fn of_place(file: &NamedText<'a>, number: usize) -> AskedFinding<'a>
-        ensures { IsAt number AskedRemark.Place result.stop }
+        ensures { IsPlaceStop file.now.text.now number result.stop }
     {
         let line = file.line(number);
         let Some((place, rest)) = scan_number(line) else {
@@ -145,7 +145,7 @@ impl<'a> AskedFinding<'a> {
 
     /// Of a text without a case, or with one more than a question may have.
     fn of_cases(file: &NamedText<'a>) -> AskedFinding<'a>
-        ensures { IsCasesStop result.stop }
+        ensures { IsCasesStop file.now.text.now result.stop }
     {
         if file.line(3) == b"end".as_slice() {
             return AskedFinding::whole_line(file, 3, AskedRemark::NoCase);

@@ -3,8 +3,8 @@ ghost use Rattle.ira_view_page.specs.Page.{Added};
 ghost use Rattle.ira_view_explain_question.specs.SectionCount.{IsMissingTold, TellsCount, TellsMissing};
 
 use crate::asked_ring::AskedRing;
-use crate::pointed_line::quoted_line;
 use ira_event::OutOfMemory;
+use ira_view_explain::quoted_line;
 use ira_view_page::{Emphasis, Evidence, Page};
 use std::alloc::Allocator;
 

@@ -4,4 +4,3 @@ pub mod FirstLines
 pub mod Printables
 pub mod Quotes
 pub mod Tables
-pub mod Telling

@@ -6,5 +6,4 @@ pub mod Printable
 pub mod Quoted
 pub mod Summary
 pub mod Table
-pub mod Told
 pub mod Words

@@ -1,5 +1,5 @@
 -- The lines of a text, counted from 1.
-use Rattle.std.specs.Prelude.{◌≡◌, ℕ, ◌+◌, ◌⊎◌, List, [], ◌++◌, codes}
+use Rattle.std.specs.Prelude.{◌≡◌, ◌==◌, ℕ, ◌+◌, ◌⊎◌, List, [], ◌++◌, codes, count_by}
 use Rattle.ira_event.specs.NextLine.{HasNoLineFeed}
 
 -- the text from a line on; after its end it is empty
@@ -23,3 +23,7 @@ pub record IsLine (text : List ℕ) (number : ℕ) (line : List ℕ) : Type 0 wh
   pub rest : List ℕ
   pub from : IsFromLine text number rest
   pub is_first : IsFirstLine rest line
+
+-- how many lines of the text end in a line feed
+abbrev pub whole_lines : List ℕ → ℕ
+whole_lines text = count_by (λ c. c == 10) text

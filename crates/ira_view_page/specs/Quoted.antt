@@ -1,5 +1,5 @@
 -- How a line is quoted.
-use Rattle.std.specs.Prelude.{ℕ, suc, ◌-◌, List, [], ◌∷◌, ◌++◌, codes, if◌then◌else◌, length, nat_le, take}
+use Rattle.std.specs.Prelude.{ℕ, suc, ◌-◌, List, [], ◌∷◌, ◌++◌, codes, if◌then◌else◌, length, min, nat_le, take}
 use Rattle.ira_view_page.specs.Printable.{shown, shown_byte}
 
 -- how many first bytes of a line so many characters show
@@ -12,3 +12,7 @@ fitting room (c ∷ line) =
 abbrev pub quoted_text : List ℕ → List ℕ
 quoted_text line =
     if nat_le (length (shown line)) 80 then shown line else shown (take (fitting 78 line) line) ++ codes ".."
+
+-- at which column of its quote a byte of a line stands, both counted from 0; one after the line stands at its end
+abbrev pub quoted_column : List ℕ → ℕ → ℕ
+quoted_column line byte = min (length (shown (take byte line))) 80

@@ -37,16 +37,6 @@ impl<A: Allocator> Page<A> {
         self.end();
     }
 
-    /// Adds the usual cause on another page, filled to the width. Where that was refused, this one is too.
-    pub fn hint_of<P: Allocator>(&mut self, text: &Page<P>)
-        ensures { AddedSome self.old self.new }
-    {
-        match text.whole() {
-            Some(words) => self.hint(words),
-            None => self.refuse(),
-        }
-    }
-
     /// Adds words from this column on, filled to the width: further lines begin there.
     fn fill(&mut self, column: usize, words: &str)
         ensures { AddedSome self.old self.new }

@@ -1,5 +1,5 @@
-ghost use Rattle.std.specs.Prelude.{◌≡◌, ◌≤◌, ◌==◌, count_by};
-ghost use Rattle.ira_view_page.specs.Lines.{IsFromLine, IsLine};
+ghost use Rattle.std.specs.Prelude.{◌≡◌, ◌≤◌};
+ghost use Rattle.ira_view_page.specs.Lines.{IsFromLine, IsLine, whole_lines};
 
 use crate::first_line::split_line;
 
@@ -13,7 +13,7 @@ pub struct NamedText<'a> {
 impl<'a> NamedText<'a> {
     /// How many lines end in a line feed.
     pub fn whole_lines(&self) -> usize
-        ensures { result ≡ count_by (λ c. c == 10) self.now.text.now }
+        ensures { result ≡ whole_lines self.now.text.now }
     {
         self.text.iter().filter(|c| **c == b'\n').count()
     }

@@ -2,7 +2,7 @@ ghost use Rattle.std.specs.Prelude.{◌≡◌, ◌≤◌, ◌<◌, ◌++◌, cod
 ghost use Rattle.ira_view_page.specs.Page.{Added};
 ghost use Rattle.ira_view_page.specs.Places.{place_text, record_text};
 ghost use Rattle.ira_view_page.specs.Printable.{shown};
-ghost use Rattle.ira_view_page.specs.Quoted.{fitting, quoted_text};
+ghost use Rattle.ira_view_page.specs.Quoted.{fitting, quoted_column, quoted_text};
 
 use crate::page::Page;
 use crate::places::line_of;
@@ -61,9 +61,9 @@ fn fitting(line: &[u8]) -> usize
     unreachable!()
 }
 
-/// The column at which the byte of a line stands in its quote; a byte after the line stands at its end.
-pub(crate) fn quoted_column(line: &[u8], byte: usize) -> usize
-    ensures { result ≤ 80 }
+/// At which column of its quote a byte of a line stands, both counted from 0; one after the line stands at its end.
+pub fn quoted_column(line: &[u8], byte: usize) -> usize
+    ensures { result ≡ quoted_column line.now byte }
 {
     shown_width(&line[..byte.min(line.len())]).min(QUOTED)
 }

@@ -1,14 +1,14 @@
 ghost use Rattle.std.specs.Prelude.{IfOk};
-ghost use Rattle.ira_view_explain.specs.TextTold.{IsWholeTold};
+ghost use Rattle.ira_view_explain.specs.TextTold.{IsWholeTold, short_head_text};
 ghost use Rattle.ira_view_page.specs.Page.{Added, AddedSome};
-ghost use Rattle.ira_view_explain_question.specs.AskedFinding.{short_head_text};
+ghost use Rattle.ira_view_page.specs.Printable.{IsPrintable};
 
 use ira_event::{MAX_TEXT, OutOfMemory};
 use ira_view_page::{Emphasis, Evidence, NamedText, Page};
 use std::alloc::Allocator;
 
 /// Adds that a text is too long.
-pub(crate) fn print_too_long<A: Allocator>(file: &NamedText<'_>, page: &mut Page<A>)
+pub fn print_too_long<A: Allocator>(file: &NamedText<'_>, page: &mut Page<A>)
     ensures { AddedSome page.old page.new }
 {
     page.begin(Emphasis::Plain);
@@ -21,20 +21,28 @@ pub(crate) fn print_too_long<A: Allocator>(file: &NamedText<'_>, page: &mut Page
     page.end();
 }
 
-/// Adds that a text has so many whole lines, and that its head has two.
-pub(crate) fn print_short_head<A: Allocator>(file: &NamedText<'_>, whole: usize, page: &mut Page<A>)
-    ensures { Added page.old (short_head_text file.now.name.now whole) page.new }
+/// Adds that a text has so many whole lines, and that its head has as many as this word says.
+pub fn print_short_head<A: Allocator>(
+    file: &NamedText<'_>,
+    whole: usize,
+    due: &str,
+    page: &mut Page<A>,
+)
+    requires { IsPrintable due.now }
+    ensures { Added page.old (short_head_text file.now.name.now whole due.now) page.new }
 {
     page.begin(Emphasis::Plain);
     page.show(file.name.as_bytes());
     page.words(": ");
     page.number_of(whole, "whole line");
-    page.words("; the head has two.");
+    page.words("; the head has ");
+    page.words(due);
+    page.words(".");
     page.end();
 }
 
 /// The text of a file as a whole, as evidence.
-pub(crate) fn whole_text<A: Allocator + Clone>(
+pub fn whole_text<A: Allocator + Clone>(
     alloc: &A,
     file: &NamedText<'_>,
 ) -> Result<Evidence<A>, OutOfMemory>

@@ -1,5 +1,5 @@
 use Rattle.ira_view_page.proofs.Adding.{◌&◌}
-use Rattle.ira_view_explain_question.proofs.told_text.print_too_long.Goals as goal
+use Rattle.ira_view_explain.proofs.told_text.print_too_long.Goals as goal
 
 pub returns : goal.returns
 returns g c = (

@@ -1,7 +1,7 @@
 use Rattle.std.proofs.Common.{[], Option, List, ℕ, subst}
 use Rattle.ira_view_page.proofs.Adding.{◌&◌, nothing_added}
 use Rattle.ira_view_page.specs.Page.{AddedSome}
-use Rattle.ira_view_explain_question.proofs.explain.explanation.Goals as goal
+use Rattle.ira_view_explain.proofs.explain.explanation.Goals as goal
 
 pub loop-hint-init : goal.loop-hint-init
 loop-hint-init g c = ([], nothing_added _)

@@ -1,5 +1,5 @@
 use Rattle.std.proofs.Common.{refl}
-use Rattle.ira_view_explain_question.proofs.pointed_line.PointedLine.quoted.Goals as goal
+use Rattle.ira_view_explain.proofs.pointed_line.PointedLine.quoted.Goals as goal
 
 pub returns : goal.returns
 returns g c =

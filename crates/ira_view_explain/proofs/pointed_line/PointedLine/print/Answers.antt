@@ -3,9 +3,9 @@ use Rattle.std.specs.Prelude.{codes}
 use Rattle.std.proofs.lemmas.Bool.Decides.{nat_tests}
 use Rattle.ira_view_page.proofs.Adding.{◌&◌, added_as, nothing_added}
 use Rattle.ira_view_page.specs.Quoted.{quoted_text}
-use Rattle.ira_view_explain_question.specs.PointedLine.{after_place}
-use Rattle.ira_view_explain_question.proofs.pointed_line.PointedLine.print.Goals as goal
-use Rattle.ira_view_explain_question.proofs.pointed_line.PointedLine.print.Goals.{then-not-is_empty, else-not-is_empty}
+use Rattle.ira_view_explain.specs.PointedLine.{after_place}
+use Rattle.ira_view_explain.proofs.pointed_line.PointedLine.print.Goals as goal
+use Rattle.ira_view_explain.proofs.pointed_line.PointedLine.print.Goals.{then-not-is_empty, else-not-is_empty}
 
 after_some : (line : List ℕ) → 0 < length line → after_place line ≡ codes " " ++ quoted_text line
 after_some [] some = absurd (omega (arith, some))

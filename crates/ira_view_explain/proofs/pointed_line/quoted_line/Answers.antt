@@ -1,11 +1,9 @@
 use Rattle.std.proofs.Common.{◌∙◌, refl}
 use Rattle.ira_view_page.proofs.Adding.{holds}
-use Rattle.ira_view_explain.proofs.pointed_line.PointedLine.evidence.Goals as goal
+use Rattle.ira_view_explain.proofs.pointed_line.quoted_line.Goals as goal
 
-pub returns : goal.returns
-returns g c = record {
-  line = _;
-  is_line = refl;
+pub returns-clause-quoted : goal.returns-clause-quoted
+returns-clause-quoted g c = record {
   file_is = c.in_ok-from_str.ensures.ok;
   number_is = refl;
   bytes = c.line.result.now;

@@ -1,15 +1,15 @@
 -- Lines of files as they are quoted, with carets or without.
-use Rattle.std.specs.Prelude.{◌≡◌, ◌≤◌, ℕ, ◌+◌, ◌-◌, ◌^◌, List, [], ◌∷◌, ◌++◌, Some, codes, min, string_bytes}
+use Rattle.std.specs.Prelude.{◌≡◌, ◌≤◌, ℕ, ◌+◌, ◌-◌, ◌^◌, List, [], ◌∷◌, ◌++◌, Some, codes, length, min, string_bytes}
 use Rattle.ira_view_page.specs.Lines.{IsLine}
 use Rattle.ira_view_page.specs.Page.{carets_text, spaces}
 use Rattle.ira_view_page.specs.Places.{place_text}
-use Rattle.ira_view_page.specs.Quoted.{quoted_text}
+use Rattle.ira_view_page.specs.Quoted.{quoted_column, quoted_text}
 use Rattle.ira_view_page.specs.declared.named_text.NamedText.{NamedText}
 use Rattle.ira_view_page.specs.declared.quoted_line.Carets.{Carets}
 use Rattle.ira_view_page.specs.declared.quoted_line.QuotedLine.{QuotedLine}
 use Rattle.ira_view_page.specs.declared.remark.Remark.{Remark}
 use Rattle.ira_view_page.specs.declared.remark.Remark.TheVariants.{Due, Note}
-use Rattle.ira_view_explain_question.specs.declared.pointed_line.PointedLine.{PointedLine}
+use Rattle.ira_view_explain.specs.declared.pointed_line.PointedLine.{PointedLine}
 
 -- it is this line of the file, counted from 1, as pages quote it
 pub record IsQuoted {A : Type 0} (file : NamedText) (number : ℕ) (line : QuotedLine A) : Type 0 where
@@ -34,15 +34,24 @@ abbrev pub after_place : List ℕ → List ℕ
 after_place [] = []
 after_place (c ∷ line) = codes " " ++ quoted_text (c ∷ line)
 
--- the line of the file, and somewhere below it carets
-pub record IsPointedFront (file : NamedText) (number : ℕ) (front : List ℕ) : Type 0 where
+-- what a line of a file begins with that the answer speaks of
+abbrev pub named_place : List ℕ → ℕ → List ℕ
+named_place file number = codes "> " ++ place_text file number ++ codes ":"
+
+-- the carets below these bytes of a line that is quoted
+abbrev pub below_text : PointedLine → List ℕ → List ℕ
+below_text pointed bytes =
+    spaces (quoted_column bytes pointed.from)
+    ++ carets_text (quoted_column bytes pointed.to - quoted_column bytes pointed.from)
+
+-- the line of the file after its place, and the carets below it
+pub record IsPointedFront (file : NamedText) (pointed : PointedLine) (front : List ℕ) : Type 0 where
   pub bytes : List ℕ
-  pub bytes_are : 1 ≤ number → IsLine file.text.now number bytes
-  pub column : ℕ
-  pub count : ℕ
+  pub bytes_are : 1 ≤ pointed.number → IsLine file.text.now pointed.number bytes
   pub is : front
-      ≡ codes "> " ++ place_text file.name.now number ++ codes ":" ++ after_place bytes ++ codes "\n"
-      ++ spaces column ++ carets_text count ++ codes " "
+      ≡ named_place file.name.now pointed.number ++ after_place bytes ++ codes "\n"
+      ++ spaces (length (named_place file.name.now pointed.number)) ++ codes " "
+      ++ below_text pointed bytes ++ codes " "
 
 -- what follows the words beside carets
 abbrev pub pointed_end : Remark → List ℕ

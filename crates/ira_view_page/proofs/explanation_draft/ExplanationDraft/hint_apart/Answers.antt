@@ -1,5 +1,0 @@
-use Rattle.ira_view_page.proofs.Adding.{◌&◌}
-use Rattle.ira_view_page.proofs.explanation_draft.ExplanationDraft.hint_apart.Goals as goal
-
-pub returns-clause-page : goal.returns-clause-page
-returns-clause-page g c = (_, c.blank.ensures & c.hint.ensures.page.1)
