@@ -18,6 +18,12 @@ pub record IsFirstLine (text line : List ℕ) : Type 0 where
   pub begins : (text ≡ line ++ more) × HasNoLineFeed line
   pub ends : (more ≡ []) ⊎ ((rest : List ℕ) × (more ≡ codes "\n" ++ rest))
 
+-- it is what stands after the text's last line feed: all of a text without one
+pub record IsLastLine (text line : List ℕ) : Type 0 where
+  pub before : List ℕ
+  pub ends : (text ≡ before ++ line) × HasNoLineFeed line
+  pub begins : (before ≡ []) ⊎ ((lines : List ℕ) × (before ≡ lines ++ codes "\n"))
+
 -- it is line `number` of the text, without its line feed where it has one
 pub record IsLine (text : List ℕ) (number : ℕ) (line : List ℕ) : Type 0 where
   pub rest : List ℕ

@@ -1,5 +1,6 @@
-ghost use Rattle.std.specs.Prelude.{◌≡◌, ◌++◌, [], ◌<◌, ◌≤◌, IfSome, MatchOption, MatchResult, None, Some};
-ghost use Rattle.std.specs.Prelude.{codes, decimal, length};
+ghost use Rattle.std.specs.Prelude.{◌≡◌, ◌≢◌, ◌++◌, [], ◌<◌, ℕ, IfSome, List, MatchOption, MatchResult, None, Some};
+ghost use Rattle.std.specs.Prelude.{codes, decimal, length, slice_index};
+ghost use Rattle.ira_view_page.specs.Lines.{IsLastLine};
 ghost use Rattle.ira_view_page.specs.Page.{Added, AddedBy, kept, mark_text};
 ghost use Rattle.ira_view_page.specs.Printable.{IsPrintable, hex_digit_of, shown, shown_byte};
 
@@ -159,9 +160,9 @@ impl<A: Allocator> Page<A> {
 
     /// How many characters stand on the last line so far.
     pub fn column(&self) -> usize
-        ensures { IfSome self.now (λ text. result ≤ length text) }
+        ensures { IfSome self.now (λ text. (line : List ℕ) × IsLastLine text line × (result ≡ length line)) }
     {
-        match self.text.iter().rposition(|c| *c == b'\n') {
+        match last_feed(&self.text) {
             Some(feed) => self.text.len() - feed - 1,
             None => self.text.len(),
         }
@@ -194,6 +195,15 @@ impl<A: Allocator> Page<A> {
             _ => self.push(&[b'\\', b'x', hex_digit(byte / 16), hex_digit(byte % 16)]),
         }
     }
+}
+
+/// Where the text's last line feed stands.
+fn last_feed(text: &[u8]) -> Option<usize>
+    ensures { MatchOption result ((k : ℕ) → k < length text.now → slice_index text.now k ≢ 10)
+        (λ i. (i < length text.now) × (slice_index text.now i ≡ 10)
+        × ((k : ℕ) → i < k → k < length text.now → slice_index text.now k ≢ 10)) }
+{
+    text.iter().rposition(|c| *c == b'\n')
 }
 
 /// The digit of a number below 16.
