@@ -53,8 +53,8 @@ returns g c = λ yes i member out.
           absurd (omega (arith, counted, few, ap (λ (s : CandidateClock). s.position) own))
       | inr apart ↦
           let further : distance (length logs) near node < distance (length logs) i node = elim c.requires.near [
-            | inl here ↦ absurd (c.if-near-node.false here)
-            | inr nearest ↦ nearest.1 i member out.2 apart
+            | inl here ↦ absurd (c.if-near-node.false here.0)
+            | inr nearest ↦ nearest.2 i member out.2 apart
           ] in
           let knows : Before logs i (out.0.position + 1) near t.position =
           knows_as_much logs c.count.ensures.valid.1 c.count.ensures.valid.2 i (out.0.position + 1) near t.position node q
