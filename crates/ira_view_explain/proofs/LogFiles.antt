@@ -61,6 +61,17 @@ file_there files number f answer missing =
     let there : slice_get (map (λ (x : NamedText). x.text.now) files) number ≡ Some first.text = first.at in
     absurd cc
 
+-- and the fault is that of its text
+pub file_fault : (files : List NamedText) (number : ℕ) (f : LogFault) (file : NamedText)
+    → IsRingAnswer (map (λ (x : NamedText). x.text.now) files) (No (reason.Log number f))
+    → slice_get files number ≡ Some file → LogTextFault file.text.now f
+file_fault files number f file answer at =
+    let first = text_fault (map (λ (x : NamedText). x.text.now) files) number f _ refl answer in
+    let there : slice_get (map (λ (x : NamedText). x.text.now) files) number ≡ Some file.text.now =
+    slice_get-map (λ (x : NamedText). x.text.now) files number ∙ ap (option_map _) at in
+    let same : first.text ≡ file.text.now = (let found = first.at in cc) in
+    subst (λ (text : List ℕ). LogTextFault text f) same first.fault
+
 -- logs that aren't those of one ring are logs
 pub heads_files : (files : List NamedText) (g : HeadFault) (a : Answer) → a ≡ No (reason.Heads g)
     → IsRingAnswer (map (λ (x : NamedText). x.text.now) files) a → AreLogFiles files

@@ -1,5 +1,5 @@
 -- What is told of a text that is no log's.
-use Rattle.std.specs.Prelude.{◌≡◌, ◌≢◌, ◌⊎◌, ℕ, ◌+◌, ◌-◌, ◌≤◌, List, [], ◌∷◌, ◌++◌, None, Some, ⊤, String}
+use Rattle.std.specs.Prelude.{◌≡◌, ◌≢◌, ◌⊎◌, ℕ, ◌+◌, ◌-◌, ◌<◌, ◌≤◌, List, [], ◌∷◌, ◌++◌, Option, None, Some, String}
 use Rattle.std.specs.Prelude.{codes, length, string_bytes}
 use Rattle.ira_event.specs.Limits.{MAX_RECORDS}
 use Rattle.ira_event.specs.LogTextFault.{BeginsWithHead, BeginsWithRecords, RestFault}
@@ -14,12 +14,15 @@ use Rattle.ira_view_page.specs.declared.evidence.Evidence.{Evidence}
 use Rattle.ira_view_page.specs.declared.evidence.Evidence.TheVariants as evidence
 use Rattle.ira_view_page.specs.declared.named_text.NamedText.{NamedText}
 use Rattle.ira_view_page.specs.declared.quoted_line.QuotedLine.{QuotedLine}
+use Rattle.ira_view_page.specs.declared.remark.Remark.TheVariants.{Due}
+use Rattle.ira_view_explain.specs.declared.head_line.HeadLine.{HeadLine}
 use Rattle.ira_view_explain.specs.declared.line_remark.LineRemark.{LineRemark}
-use Rattle.ira_view_explain.specs.declared.line_remark.LineRemark.TheVariants.{AfterEnd, End, Last, LineFeed, TooMany}
+use Rattle.ira_view_explain.specs.declared.line_remark.LineRemark.TheVariants.{AfterEnd, End, Head, Last}
+use Rattle.ira_view_explain.specs.declared.line_remark.LineRemark.TheVariants.{LineFeed, TooMany}
 use Rattle.ira_view_explain.specs.declared.pointed_line.PointedLine.{PointedLine}
 use Rattle.ira_view_explain.specs.declared.text_finding.TextStop.{TextStop}
-use Rattle.ira_view_explain.specs.declared.text_finding.TextStop.TheVariants as stop
-use Rattle.ira_view_explain.specs.declared.text_finding.TextStop.TheVariants.{ShortHead, Line}
+use Rattle.ira_view_explain.specs.declared.text_finding.TextStop.TheVariants.{Line, ShortHead, TooLong}
+use Rattle.ira_view_explain.specs.HeadLine.{IsFirstStop, head_number}
 use Rattle.ira_view_explain.specs.LineRemark.{kind_of}
 use Rattle.ira_view_explain.specs.PointedLine.{IsPointed}
 
@@ -38,12 +41,28 @@ abbrev pub IsWholeLine : List ℕ → ℕ → LineRemark → TextStop → Type 0
 IsWholeLine text number remark stop =
     (line : List ℕ) × (1 ≤ number → IsLine text number line) × IsAt number 0 (length line) remark stop
 
--- the text shows it in one of its first four lines, or by having no more
-abbrev pub IsInHead : TextStop → Type 0
-IsInHead (Line line remark) = line.number ≤ 4
-IsInHead (ShortHead whole None) = ⊤
-IsInHead (ShortHead whole (Some piece)) = piece.number ≤ 4
-IsInHead stop.TooLong = ⊥
+-- what follows the last whole line, of which the line feed is due, if anything does
+abbrev pub IsPiece : ℕ → List ℕ → Option PointedLine → Type 0
+IsPiece number [] piece = piece ≡ None
+IsPiece number (c ∷ bytes) piece =
+    piece ≡ Some (record {
+      number = number;
+      from = length (c ∷ bytes);
+      to = length (c ∷ bytes);
+      remark = Due;
+    })
+
+-- the text shows it in this line of its head, or has fewer whole lines
+abbrev pub IsInHead : List ℕ → HeadLine → TextStop → Type 0
+IsInHead text due (ShortHead whole piece) =
+    (whole ≡ whole_lines text) × (whole < head_number due) × (bytes : List ℕ) × IsLine text (whole + 1) bytes
+    × IsPiece (whole + 1) bytes piece
+IsInHead text due stop =
+    (head_number due ≤ whole_lines text) × (byte : ℕ) × IsAt (head_number due) byte byte (Head due) stop
+
+-- a text without a head shows it in the first line that isn't as it should be
+abbrev pub IsHeadStop : List ℕ → TextStop → Type 0
+IsHeadStop text stop = (due : HeadLine) × IsFirstStop text due × IsInHead text due stop
 
 -- a text that ends too early shows it in a piece after its last whole line, or in that line where there is no piece
 abbrev pub IsCutStop : List ℕ → TextStop → Type 0
@@ -76,8 +95,8 @@ IsTrailingStop text stop =
 
 -- where a text with this fault shows it: in the line that the fault names, or is about
 abbrev pub IsTextStop : List ℕ → LogFault → TextStop → Type 0
-IsTextStop text fault.TooLong stop = stop ≡ stop.TooLong
-IsTextStop text fault.Head stop = IsInHead stop
+IsTextStop text fault.TooLong stop = stop ≡ TooLong
+IsTextStop text fault.Head stop = IsHeadStop text stop
 IsTextStop text (fault.Line number) stop = IsAtLine number stop
 IsTextStop text (fault.Range number) stop = IsAtLine number stop
 IsTextStop text fault.TooMany stop = IsWholeLine text (MAX_RECORDS + 5) TooMany stop
@@ -100,7 +119,7 @@ abbrev pub IsStopTold : {A : Type 0} → NamedText → TextStop → Evidence A �
 IsStopTold file (Line line remark) told = IsLineTold file line told
 IsStopTold file (ShortHead whole (Some piece)) told = IsLineTold file piece told
 IsStopTold file (ShortHead whole None) told = IsWholeTold file told
-IsStopTold file stop.TooLong told = IsWholeTold file told
+IsStopTold file TooLong told = IsWholeTold file told
 
 -- what is told of the text of a file with this fault: where it shows it
 pub record IsTextTold {A : Type 0} (file : NamedText) (fault : LogFault) (told : List (Evidence A)) : Type 0 where

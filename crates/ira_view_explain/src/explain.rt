@@ -1,5 +1,5 @@
-ghost use Rattle.std.specs.Prelude.{◌≡◌, ◌≢◌, [], ◌∷◌, IfOk, None, Some, codes, map};
-ghost use Rattle.ira_event.specs.declared.log_fault.LogFault.{LogFault};
+ghost use Rattle.std.specs.Prelude.{◌≡◌, [], IfOk, None, Some, codes, map};
+ghost use Rattle.ira_event.specs.LogTextFault.{LogTextFault};
 ghost use Rattle.ira_audit.specs.Judged.{IsJudged};
 ghost use Rattle.ira_audit.specs.LogTextAnswer.{IsLogTextAnswer};
 ghost use Rattle.ira_audit.specs.Refusal.{IsRingReason};
@@ -115,7 +115,7 @@ fn explain_text<A: Allocator + Clone>(
     file: &NamedText<'_>,
     fault: LogFault,
 ) -> Result<Explanation<A>, OutOfMemory>
-    requires { fault ≢ LogFault.OutOfMemory }
+    requires { LogTextFault file.now.text.now fault }
     ensures ring { IfOk result (λ explanation. explanation.ring ≡ None) }
     ensures state { IfOk result (λ explanation. explanation.state_before ≡ None) }
     ensures told { IfOk result (λ explanation. IsTextTold file.now fault explanation.evidence.items) }

@@ -1,4 +1,5 @@
-ghost use Rattle.std.specs.Prelude.{◌≤◌};
+ghost use Rattle.std.specs.Prelude.{◌≡◌, ◌<◌, ℕ, MatchOption, min};
+ghost use Rattle.ira_view_explain.specs.HeadLine.{IsFirstStop, IsNumbered, IsWithin, head_number};
 
 use ira_event::{MAX_NODES, MAX_VERSION, MAX_VERSION_1_NODES, scan_number, skip_word};
 use ira_view_page::{NamedText, Page};
@@ -17,25 +18,29 @@ pub(crate) enum HeadLine {
 
 impl HeadLine {
     /// The first of a text's lines that isn't as it should be; the last one where the others are.
-    pub(crate) fn first_stop(file: &NamedText<'_>) -> HeadLine {
-        let most = match number_of(file.line(1), b"irlog ") {
-            Some(1) => MAX_VERSION_1_NODES,
-            Some(2) => MAX_NODES,
-            _ => return HeadLine::Version,
+    pub(crate) fn first_stop(file: &NamedText<'_>) -> HeadLine
+        ensures { IsFirstStop file.now.text.now result }
+    {
+        let Some(version) = number_within(file.line(1), b"irlog ", 1, MAX_VERSION as usize) else {
+            return HeadLine::Version;
         };
-        let nodes = match number_of(file.line(2), b"nodes ") {
-            Some(nodes) if (2..=most).contains(&(nodes as usize)) => nodes,
-            _ => return HeadLine::Nodes { most },
+        let most = if version == 1 {
+            MAX_VERSION_1_NODES
+        } else {
+            MAX_NODES
         };
-        match number_of(file.line(3), b"place ") {
-            Some(place) if place < nodes => HeadLine::Start,
-            _ => HeadLine::Place { nodes },
+        let Some(nodes) = number_within(file.line(2), b"nodes ", 2, most) else {
+            return HeadLine::Nodes { most };
+        };
+        match number_within(file.line(3), b"place ", 0, nodes as usize - 1) {
+            Some(_) => HeadLine::Start,
+            None => HeadLine::Place { nodes },
         }
     }
 
     /// Its number in the text.
     pub(crate) fn number(self) -> usize
-        ensures { result ≤ 4 }
+        ensures { result ≡ head_number self }
     {
         match self {
             HeadLine::Version => 1,
@@ -83,10 +88,27 @@ fn common_length(a: &[u8], b: &[u8]) -> usize {
         .count()
 }
 
-/// The number of a line of a word and a number.
-pub(crate) fn number_of(line: &[u8], word: &[u8]) -> Option<u32> {
+/// The number of a line of a word and a number, `u32::MAX` for itself and everything above.
+pub(crate) fn number_of(line: &[u8], word: &[u8]) -> Option<u32>
+    ensures { MatchOption result ((n : ℕ) → ¬ (IsNumbered word.now line.now n))
+        (λ kept. (n : ℕ) × IsNumbered word.now line.now n × (kept ≡ min n u32.MAX)) }
+{
     let (number, rest) = scan_number(skip_word(line, word)?)?;
     if rest.is_empty() { Some(number) } else { None }
+}
+
+/// The same, where the number is in this range.
+fn number_within(line: &[u8], word: &[u8], least: usize, most: usize) -> Option<u32>
+    requires { most < u32.MAX }
+    ensures { MatchOption result ((n : ℕ) → IsNumbered word.now line.now n → ¬ (IsWithin least most n))
+        (λ n. IsNumbered word.now line.now n × IsWithin least most n) }
+{
+    let number = number_of(line, word)?;
+    if (least..=most).contains(&(number as usize)) {
+        Some(number)
+    } else {
+        None
+    }
 }
 
 /// The first byte with which no line of this word and a number in this range goes on.

@@ -2,7 +2,7 @@ ghost use Rattle.std.specs.Prelude.{◌≡◌, ◌≢◌, ◌≤◌, IfOk, lengt
 ghost use Rattle.ira_event.specs.Limits.{MAX_RECORDS};
 ghost use Rattle.ira_event.specs.LogTextFault.{LogTextFault, OpeningFault};
 ghost use Rattle.ira_event.specs.declared.log_fault.LogFault.{LogFault};
-ghost use Rattle.ira_view_explain.specs.TextTold.{IsAt, IsAtLine, IsCutStop, IsFaultAfter, IsInHead, IsLineTold};
+ghost use Rattle.ira_view_explain.specs.TextTold.{IsAt, IsAtLine, IsCutStop, IsFaultAfter, IsHeadStop, IsLineTold};
 ghost use Rattle.ira_view_explain.specs.TextTold.{IsStopTold, IsTextStop, IsWholeLine};
 ghost use Rattle.ira_view_page.specs.Printable.{IsPrintable};
 
@@ -165,11 +165,11 @@ impl TextFinding {
     }
 
     fn of_head(file: &NamedText<'_>) -> TextFinding
-        ensures { IsInHead result.stop }
+        ensures { IsHeadStop file.now.text.now result.stop }
     {
         let whole = file.whole_lines();
         let due = HeadLine::first_stop(file);
-        let number = due.number().min(whole.saturating_add(1));
+        let number = due.number().min(whole + 1);
         let line = file.line(number);
         let stop = due.stop(line);
         if due.number() <= whole {

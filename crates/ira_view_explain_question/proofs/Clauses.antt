@@ -6,6 +6,7 @@ use Rattle.std.specs.Prelude.{codes}
 use Rattle.std.specs.List.{flat_map}
 use Rattle.std.proofs.lemmas.Grind.{flat_map-append}
 use Rattle.std.proofs.lemmas.List.{length_push}
+use Rattle.ira_event.specs.Numeral.{IsNumeral}
 use Rattle.ira_event.specs.Scan.{kept, kept_at}
 use Rattle.ira_event.proofs.RecordLines.{bind_some, kept-again, kept-takes, map_some, word-takes}
 use Rattle.ira_order.proofs.Pushed.{each_pushed}
@@ -75,3 +76,10 @@ pub place_scanned : (line clause : List ℕ) (n : ℕ) → IsPlaced line n claus
 place_scanned line clause n placed =
     let regrouped : line ≡ placed.0 ++ (codes ": " ++ clause) = placed.1 ∙ simp append_assoc in
     ap place_at regrouped ∙ rw (kept-again placed.0 n (codes ": " ++ clause) placed.2 refl) refl
+
+-- and its digits are the number in front
+pub place_kept : (line digits clause : List ℕ) (n : ℕ) → line ≡ digits ++ codes ": " ++ clause → IsNumeral digits n
+    → kept_at line ≡ Some (kept n, codes ": " ++ clause)
+place_kept line digits clause n parts is =
+    let regrouped : line ≡ digits ++ (codes ": " ++ clause) = parts ∙ simp append_assoc in
+    ap kept_at regrouped ∙ kept-again digits n (codes ": " ++ clause) is refl

@@ -21,15 +21,15 @@ IsClauseStop number stop = (byte : ℕ) × (due : DueInClause) × IsAt number by
 
 -- a line where a case begins or ends or asks a clause shows it in the clause, or as a whole where it has no place
 abbrev pub IsCaseLineStop : List ℕ → ℕ → AskedStop → Type 0
-IsCaseLineStop line number stop =
-    (((place : ℕ) (clause : List ℕ) → ¬ (IsPlaced line place clause)) × IsAt number 0 (length line) CaseLine stop)
-    ⊎ ((place : ℕ) × (clause : List ℕ) × IsPlaced line place clause × IsClauseStop number stop)
+IsCaseLineStop text number stop =
+    (line : List ℕ) × IsLine text number line
+    × ((((place : ℕ) (clause : List ℕ) → ¬ (IsPlaced line place clause)) × IsWholeLine text number CaseLine stop)
+    ⊎ ((place : ℕ) × (clause : List ℕ) × IsPlaced line place clause × IsClauseStop number stop))
 
 -- a line that may not stand there shows it: the third, where the first case is due, as a whole
 abbrev pub IsLineStop : List ℕ → ℕ → AskedStop → Type 0
 IsLineStop text number stop =
-    ((number ≤ 3) × IsWholeLine text number FirstCase stop)
-    ⊎ ((3 < number) × (line : List ℕ) × IsLine text number line × IsCaseLineStop line number stop)
+    ((number ≤ 3) × IsWholeLine text number FirstCase stop) ⊎ ((3 < number) × IsCaseLineStop text number stop)
 
 -- a line whose place may not stand there shows it in the digits of that place
 abbrev pub IsPlaceStop : List ℕ → ℕ → AskedStop → Type 0

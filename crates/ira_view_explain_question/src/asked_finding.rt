@@ -72,12 +72,12 @@ pub(crate) fn nth_line(file: &NamedText<'_>, word: &[u8], k: usize) -> usize
             break;
         };
         if line == word {
-            found = found.saturating_add(1);
+            found += 1;
         }
         if found == k {
             break;
         }
-        number = number.saturating_add(1);
+        number += 1;
         rest = after;
     }
     number
@@ -122,13 +122,10 @@ impl<'a> AskedFinding<'a> {
     }
 
     /// With this hint.
-    pub(crate) fn hinted(self, hint: AskedHint<'a>) -> AskedFinding<'a>
+    pub(crate) fn hinted(self, hint: Option<AskedHint<'a>>) -> AskedFinding<'a>
         ensures { result.stop ≡ self.entry.stop }
     {
-        AskedFinding {
-            hint: Some(hint),
-            ..self
-        }
+        AskedFinding { hint, ..self }
     }
 
     /// With what the file's format does to this line as the hint.
@@ -136,7 +133,7 @@ impl<'a> AskedFinding<'a> {
         ensures { result.stop ≡ self.entry.stop }
     {
         match Slip::of_format(line) {
-            Some(slip) => self.hinted(AskedHint::Slip(slip)),
+            Some(slip) => self.hinted(Some(AskedHint::Slip(slip))),
             None => self,
         }
     }
@@ -175,7 +172,7 @@ impl<'a> AskedFinding<'a> {
         ensures { IsCutStop file.now.text.now result.stop }
     {
         let whole = file.whole_lines();
-        let next = whole.saturating_add(1);
+        let next = whole + 1;
         let end = file.line(next).len();
         if end == 0 {
             AskedFinding::whole_line(file, whole, AskedRemark::LastLine)
@@ -189,7 +186,7 @@ impl<'a> AskedFinding<'a> {
         ensures { IsTrailingStop file.now.text.now result.stop }
     {
         let end = nth_line(file, b"end", 1);
-        AskedFinding::whole_line(file, end.saturating_add(1), AskedRemark::AfterEnd { end })
+        AskedFinding::whole_line(file, end + 1, AskedRemark::AfterEnd { end })
     }
 
     /// Adds what shows it in this file, and an empty line before a hint.

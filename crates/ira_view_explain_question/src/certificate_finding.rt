@@ -22,15 +22,15 @@ fn first_past_limits(file: &NamedText<'_>) -> usize
             break;
         };
         if line == b"section".as_slice() {
-            sections = sections.saturating_add(1);
+            sections += 1;
             steps = 0;
         } else if line.starts_with(b"drop ") {
-            steps = steps.saturating_add(1);
+            steps += 1;
         }
         if sections > MAX_SECTIONS || steps > MAX_STEPS {
             break;
         }
-        number = number.saturating_add(1);
+        number += 1;
         rest = after;
     }
     number

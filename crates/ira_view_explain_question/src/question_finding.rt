@@ -1,11 +1,12 @@
-ghost use Rattle.std.specs.Prelude.{◌≢◌, ◌<◌, length};
+ghost use Rattle.std.specs.Prelude.{◌≡◌, ◌≢◌, ◌<◌, ◌++◌, ℕ, List, codes, length};
+ghost use Rattle.ira_event.specs.Numeral.{IsNumeral};
 ghost use Rattle.ira_pred.specs.declared.ask_fault.AskFault.{AskFault};
 ghost use Rattle.ira_view_explain_question.specs.QuestionFinding.{IsCasesStop, IsClauseStop, IsLineStop, IsPlaceStop};
 ghost use Rattle.ira_view_explain_question.specs.QuestionFinding.{IsQuestionStop};
 
 use crate::asked_finding::{AskedFinding, AskedStop, nth_line};
 use crate::asked_hint::AskedHint;
-use crate::asked_lines::scan_place;
+use crate::asked_lines::{HEAD_LINES, scan_place};
 use crate::asked_remark::AskedRemark;
 use crate::clause_stop::clause_stop;
 use ira_event::{scan_number, skip_word};
@@ -17,6 +18,9 @@ use ira_view_page::NamedText;
 static WORDS: [&str; 10] = [
     "true", "leader", "active", "passive", "choosing", "yielding", "owes", "round", "id", "term",
 ];
+
+/// The line in which the first case begins.
+const FIRST_CASE: usize = HEAD_LINES + 1;
 
 /// So many letters tell a word.
 const TELLING: usize = 4;
@@ -62,6 +66,41 @@ fn deepest(line: &[u8]) -> usize {
     line.len()
 }
 
+/// A usual cause why what stands after a line's place is no clause, which goes on as none does with this rest.
+fn clause_hint<'a>(line: &'a [u8], clause: &'a [u8], rest: &[u8]) -> Option<AskedHint<'a>> {
+    if let Some(slip) = Slip::of_format(line) {
+        return Some(AskedHint::Slip(slip));
+    }
+    if lacks_brackets(clause) {
+        let place = &line[..line.len().saturating_sub(clause.len())];
+        return Some(AskedHint::Brackets { place, clause });
+    }
+    Some(AskedHint::Word(word_begun(rest)?))
+}
+
+/// How many digits the number has that a line begins with; all of the line where it begins with none.
+fn digits_in_front(line: &[u8]) -> usize
+    ensures { (place : ℕ) (digits clause : List ℕ) → line.now ≡ digits ++ codes ": " ++ clause
+        → IsNumeral digits place → result ≡ length digits }
+{
+    match scan_number(line) {
+        Some((_, rest)) => line.len().saturating_sub(rest.len()),
+        None => line.len(),
+    }
+}
+
+/// A usual cause why the place of a line may not stand there.
+fn place_hint<'a>(file: &NamedText<'_>, number: usize) -> Option<AskedHint<'a>> {
+    let (place, _) = scan_number(file.line(number))?;
+    match scan_place(file.line(number.saturating_sub(1))) {
+        Some((before, _)) if before == place => Some(AskedHint::OneClause),
+        Some((before, _)) if before > place => Some(AskedHint::Order),
+        _ => Some(AskedHint::Places {
+            nodes: number_of_nodes(file)?,
+        }),
+    }
+}
+
 impl<'a> AskedFinding<'a> {
     /// Of a text with this fault, which is no question's.
     pub(crate) fn of_question(file: &NamedText<'a>, fault: AskFault) -> AskedFinding<'a>
@@ -91,16 +130,12 @@ impl<'a> AskedFinding<'a> {
         ensures { IsLineStop file.now.text.now number result.stop }
     {
         let line = file.line(number);
+        if number <= FIRST_CASE {
+            return AskedFinding::whole_line(file, number, AskedRemark::FirstCase).with_slip(line);
+        }
         match scan_place(line) {
-            Some((_, clause)) if number > 3 => AskedFinding::of_clause(number, line, clause),
-            _ => {
-                let due = if number > 3 {
-                    AskedRemark::CaseLine
-                } else {
-                    AskedRemark::FirstCase
-                };
-                AskedFinding::whole_line(file, number, due).with_slip(line)
-            }
+            Some((_, clause)) => AskedFinding::of_clause(number, line, clause),
+            None => AskedFinding::whole_line(file, number, AskedRemark::CaseLine).with_slip(line),
         }
     }
 
@@ -110,45 +145,24 @@ impl<'a> AskedFinding<'a> {
     {
         let stop = clause_stop(clause);
         let byte = line.len().saturating_sub(stop.rest.len());
-        let finding = AskedFinding::at(number, byte, byte, AskedRemark::InClause(stop.due));
-        if let Some(slip) = Slip::of_format(line) {
-            return finding.hinted(AskedHint::Slip(slip));
-        }
-        if lacks_brackets(clause) {
-            let place = &line[..line.len().saturating_sub(clause.len())];
-            return finding.hinted(AskedHint::Brackets { place, clause });
-        }
-        match word_begun(stop.rest) {
-            Some(word) => finding.hinted(AskedHint::Word(word)),
-            None => finding,
-        }
+        AskedFinding::at(number, byte, byte, AskedRemark::InClause(stop.due)).hinted(clause_hint(
+            line, clause, stop.rest,
+        ))
     }
 
     fn of_place(file: &NamedText<'a>, number: usize) -> AskedFinding<'a>
         ensures { IsPlaceStop file.now.text.now number result.stop }
     {
-        let line = file.line(number);
-        let Some((place, rest)) = scan_number(line) else {
-            return AskedFinding::whole_line(file, number, AskedRemark::Place);
-        };
-        let digits = line.len().saturating_sub(rest.len());
-        let finding = AskedFinding::at(number, 0, digits, AskedRemark::Place);
-        match scan_place(file.line(number.saturating_sub(1))) {
-            Some((before, _)) if before == place => finding.hinted(AskedHint::OneClause),
-            Some((before, _)) if before > place => finding.hinted(AskedHint::Order),
-            _ => match number_of_nodes(file) {
-                Some(nodes) => finding.hinted(AskedHint::Places { nodes }),
-                None => finding,
-            },
-        }
+        let digits = digits_in_front(file.line(number));
+        AskedFinding::at(number, 0, digits, AskedRemark::Place).hinted(place_hint(file, number))
     }
 
     /// Of a text without a case, or with one more than a question may have.
     fn of_cases(file: &NamedText<'a>) -> AskedFinding<'a>
         ensures { IsCasesStop file.now.text.now result.stop }
     {
-        if file.line(3) == b"end".as_slice() {
-            return AskedFinding::whole_line(file, 3, AskedRemark::NoCase);
+        if file.line(FIRST_CASE) == b"end".as_slice() {
+            return AskedFinding::whole_line(file, FIRST_CASE, AskedRemark::NoCase);
         }
         let number = nth_line(file, b"case", MAX_CASES + 1);
         AskedFinding::whole_line(file, number, AskedRemark::ManyCases)

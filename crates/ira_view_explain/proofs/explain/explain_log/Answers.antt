@@ -18,6 +18,12 @@ said_of_ok : (P : Type 0) (r : Result Log LogFault) (log : Log) → r ≡ Ok log
 said_of_ok P r log is h =
     unless_ok log OutOfMemory P (subst (λ (s : Result Log LogFault). UnlessErr s OutOfMemory P) is h)
 
+pub explain_text-requires : goal.explain_text-requires
+explain_text-requires g c =
+    let fault = c.in-Err.fault in
+    let other : fault ≢ OutOfMemory = search rules in
+    (said_of_err _ c.read_log.result fault c.in-Err.is other (c.read_log.ensures.err fault)).0 c.in-Err.is
+
 pub returns-in-Err : goal.returns-in-Err
 returns-in-Err g c =
     let fault = c.in-Err.fault in
