@@ -1,5 +1,5 @@
 -- Clauses of a case in the lines of a question's text, one more at a time.
-use Rattle.std.proofs.Common.{◌≡◌, ◌∙◌, ◌<◌, ℕ, ◌+◌, List, [], ◌∷◌, ◌++◌, Some, append_assoc, append-nil, ap, arith}
+use Rattle.std.proofs.Common.{◌≡◌, ◌∙◌, ◌<◌, ℕ, ◌+◌, List, [], ◌∷◌, ◌++◌, Option, Some, append_assoc, append-nil, ap, arith}
 use Rattle.std.proofs.Common.{◌≤◌, false, length, nat_le, refl, subst, true}
 use Rattle.std.proofs.lemmas.Bool.Decides.{nat_tests}
 use Rattle.std.specs.Prelude.{codes}
@@ -83,3 +83,8 @@ pub place_kept : (line digits clause : List ℕ) (n : ℕ) → line ≡ digits +
 place_kept line digits clause n parts is =
     let regrouped : line ≡ digits ++ (codes ": " ++ clause) = parts ∙ simp append_assoc in
     ap kept_at regrouped ∙ kept-again digits n (codes ": " ++ clause) is refl
+
+-- what is left after the number that was kept is one
+pub left_of_kept : (o : Option (ℕ × List ℕ)) (m n : ℕ) (rest after : List ℕ) → o ≡ Some (m, rest) → o ≡ Some (n, after)
+    → rest ≡ after
+left_of_kept o m n rest after a b = (let same : (m, rest) ≡ (n, after) = cc in ap (λ (p : ℕ × List ℕ). p.1) same)

@@ -9,16 +9,16 @@ use Rattle.std.proofs.lemmas.List.Elements.{All-take}
 use Rattle.ira_audit.proofs.Zipped.{zipped_more}
 use Rattle.ira_view_explain.specs.Refused.{AreParts, more}
 
--- what follows from two facts of what was made
-pub both_ok : {X E : Type 0} (P Q R : X → Type 0) (r : Result X E) → ((x : X) → P x → Q x → R x) → IfOk r P → IfOk r Q
-    → IfOk r R
-both_ok P Q R (Ok x) so p q = so x p q
-both_ok P Q R (Err e) so p q = tt
-
+-- what follows from facts of what was made
 pub all_ok : {X E : Type 0} (P Q R S : X → Type 0) (r : Result X E) → ((x : X) → P x → Q x → R x → S x) → IfOk r P
     → IfOk r Q → IfOk r R → IfOk r S
 all_ok P Q R S (Ok x) so p q s = so x p q s
 all_ok P Q R S (Err e) so p q s = tt
+
+pub four_ok : {X E : Type 0} (P Q R S T : X → Type 0) (r : Result X E) → ((x : X) → P x → Q x → R x → S x → T x)
+    → IfOk r P → IfOk r Q → IfOk r R → IfOk r S → IfOk r T
+four_ok P Q R S T (Ok x) so p q s t = so x p q s t
+four_ok P Q R S T (Err e) so p q s t = tt
 
 -- what a page has that begins with these
 pub page_is : (all x : List ℕ) (page : Option (List ℕ)) → Added (Some []) x page → AddedSome page (Some all)

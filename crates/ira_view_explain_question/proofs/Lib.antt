@@ -3,7 +3,7 @@ mod Candidates
 mod Clauses
 mod Explained
 mod Numbers
-mod SaidLines
 mod Sections
 mod Stops
+mod TextLines
 mod Told

@@ -67,6 +67,7 @@ line_text mark file number bytes =
 -- a text is explained that is no question's or no certificate's
 pub record IsStopExplained {A : Type 0} (file : NamedText) (stop : AskedStop) (explanation : Explanation A)
     : Type 0 where
+  pub state_before : explanation.state_before ≡ None
   pub one : Evidence A
   pub evidence : explanation.evidence.items ≡ one ∷ []
   pub one_is : IsStopTold file stop one
@@ -77,6 +78,7 @@ pub record IsStopExplained {A : Type 0} (file : NamedText) (stop : AskedStop) (e
 
 -- it is explained that a file is of a ring of another size than the logs: by its second line, after which others may come
 pub record IsSizeExplained {A : Type 0} (file : NamedText) (explanation : Explanation A) : Type 0 where
+  pub state_before : explanation.state_before ≡ None
   pub line : QuotedLine A
   pub is_line : IsQuoted file 2 line
   pub others : List (Evidence A)
@@ -106,6 +108,7 @@ IsNoCertificateExplained file reason explanation = IsSizeExplained file explanat
 -- it is explained why the section of a case isn't sound
 pub record IsSectionExplained {A : Type 0} (files : AskedFiles) (asked : AskedQuestion) (file : List ℕ)
     (sections : List Section) (number : ℕ) (fault : SectionFault) (explanation : Explanation A) : Type 0 where
+  pub state_before : explanation.state_before ≡ None
   pub case : List Conjunct
   pub is_case : slice_get asked.question.cases number ≡ Some case
   pub finding : SectionFinding A
@@ -120,6 +123,7 @@ pub record IsSectionExplained {A : Type 0} (files : AskedFiles) (asked : AskedQu
 -- it is explained that a certificate has another number of sections than are due
 pub record IsCountExplained {A : Type 0} (files : AskedFiles) (asked : AskedQuestion) (file : List ℕ) (sections : ℕ)
     (explanation : Explanation A) : Type 0 where
+  pub state_before : explanation.state_before ≡ None
   pub told : IsMissingTold files asked sections explanation.evidence.items
   pub lines : List ℕ
   pub tells : TellsCount files asked file sections lines

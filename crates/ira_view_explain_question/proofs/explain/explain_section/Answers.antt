@@ -1,23 +1,24 @@
-use Rattle.std.proofs.Common.{◌∙◌, Some}
+use Rattle.std.proofs.Common.{◌≡◌, ◌∙◌, None, Some}
 use Rattle.ira_view_page.proofs.Adding.{◌&◌}
 use Rattle.ira_view_page.specs.Page.{AddedSome}
 use Rattle.ira_view_explain_question.specs.Explanation.{IsSectionExplained}
-use Rattle.ira_view_explain_question.proofs.Explained.{all_ok, page_is}
+use Rattle.ira_view_explain_question.proofs.Explained.{four_ok, page_is}
 use Rattle.ira_view_explain_question.proofs.explain.explain_section.Goals as goal
 
 pub returns-clause-ring : goal.returns-clause-ring
-returns-clause-ring g c = rw c.logs.ensures.value at c.explanation.ensures.ring
+returns-clause-ring g c = rw (c.of.ensures, c.logs.ensures.value) at c.explanation.ensures.ring
 
 pub returns-clause-told : goal.returns-clause-told
 returns-clause-told g c =
     let ring = c.args.ring.now in
     let case = c.case-case in
     let told = rw (case.ensures.files, case.ensures.asked, case.ensures.number) at c.print.ensures in
-    all_ok _ _ (λ x. AddedSome _ (Some x.page))
+    four_ok (λ x. x.state_before ≡ None) _ _ (λ x. AddedSome _ (Some x.page))
     (IsSectionExplained ring.files ring.asked.now c.args.certificate.now c.args.sections.now c.args.case c.args.fault)
-    c.explanation.result (λ x e h p.
+    c.explanation.result (λ x s e h p.
     let more = page_is x.page _ _ (c.page_after_answer-page.ensures & told.2) p in
     record {
+      state_before = s;
       case = case.result.case.now;
       is_case = case.ensures.case;
       finding = c.in_ok-finding.finding;
@@ -28,4 +29,4 @@ returns-clause-told g c =
       tells = told.1;
       more = more.0;
       page = more.1;
-    }) c.explanation.ensures.evidence c.explanation.ensures.hints c.explanation.ensures.page
+    }) c.explanation.ensures.state c.explanation.ensures.evidence c.explanation.ensures.hints c.explanation.ensures.page

@@ -1,4 +1,4 @@
-use Rattle.std.proofs.Common.{◌≡◌, ◌∙◌, ◌++◌, ◌∷◌, [], List, Some, arith, refl}
+use Rattle.std.proofs.Common.{◌≡◌, ◌∙◌, ◌++◌, ◌∷◌, [], List, None, Some, arith, refl}
 use Rattle.ira_view_page.proofs.Adding.{◌&◌}
 use Rattle.std.specs.Prelude.{codes}
 use Rattle.ira_view_page.specs.Page.{AddedSome}
@@ -6,7 +6,7 @@ use Rattle.ira_view_page.specs.declared.page.Emphasis.TheVariants.{Named}
 use Rattle.ira_view_page.specs.declared.evidence.Evidence.{Evidence}
 use Rattle.ira_view_page.specs.declared.evidence.Evidence.TheVariants.{Line}
 use Rattle.ira_view_explain_question.specs.Explanation.{IsSizeExplained, line_text}
-use Rattle.ira_view_explain_question.proofs.Explained.{all_ok, page_is, regrouped}
+use Rattle.ira_view_explain_question.proofs.Explained.{four_ok, page_is, regrouped}
 use Rattle.ira_view_explain_question.proofs.explain.explain_size.Goals as goal
 use Rattle.ira_view_explain_question.proofs.explain.explain_size.Goals.{in_default}
 use Rattle.ira_view_explain_question.proofs.explain.explain_size.Goals.{in-Some+in_ok-quoted_line-2+in_ok-push-2}
@@ -23,9 +23,11 @@ returns-clause-told g c =
       | in_default w ↦ ([], rw (w.evidence-is, c.in_ok-push.ensures.items, c.new-evidence.ensures.items) refl)
     ] in
     let printed = c.print_line.ensures in
-    all_ok _ _ (λ x. AddedSome _ (Some x.page)) (IsSizeExplained c.args.file.now) c.explanation.result (λ x e h p.
+    four_ok (λ x. x.state_before ≡ None) _ _ (λ x. AddedSome _ (Some x.page)) (IsSizeExplained c.args.file.now)
+    c.explanation.result (λ x s e h p.
     let more = page_is x.page _ _ (c.page_after_answer-page.ensures & printed.2 & c.print_first_size.ensures.1) p in
     record {
+      state_before = s;
       line = line;
       is_line = c.in_ok-quoted_line.ensures.quoted;
       others = told.0;
@@ -37,4 +39,4 @@ returns-clause-told g c =
       page = more.1
           ∙ regrouped (codes "\n" ++ line_text Named c.args.file.now.name.now 2 printed.0) c.print_first_size.ensures.0
           more.0;
-    }) c.explanation.ensures.evidence c.explanation.ensures.hints c.explanation.ensures.page
+    }) c.explanation.ensures.state c.explanation.ensures.evidence c.explanation.ensures.hints c.explanation.ensures.page

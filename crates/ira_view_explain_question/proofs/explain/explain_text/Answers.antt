@@ -1,18 +1,19 @@
-use Rattle.std.proofs.Common.{◌∙◌, Some, refl}
+use Rattle.std.proofs.Common.{◌≡◌, ◌∙◌, None, Some, refl}
 use Rattle.ira_view_page.proofs.Adding.{◌&◌}
 use Rattle.ira_view_page.specs.Page.{AddedSome}
 use Rattle.ira_view_explain_question.specs.Explanation.{IsStopExplained}
-use Rattle.ira_view_explain_question.proofs.Explained.{both_ok, page_is}
+use Rattle.ira_view_explain_question.proofs.Explained.{all_ok, page_is}
 use Rattle.ira_view_explain_question.proofs.explain.explain_text.Goals as goal
 
 pub returns-clause-told : goal.returns-clause-told
 returns-clause-told g c =
     let told = c.print.ensures in
     let one = c.in_ok-evidence.field-0 in
-    both_ok _ (λ x. AddedSome _ (Some x.page)) (IsStopExplained c.args.file.now c.args.finding.stop) c.explanation.result
-    (λ x e p.
+    all_ok (λ x. x.state_before ≡ None) _ (λ x. AddedSome _ (Some x.page))
+    (IsStopExplained c.args.file.now c.args.finding.stop) c.explanation.result (λ x s e p.
     let more = page_is x.page _ _ (c.page_after_answer-page.ensures & told.2) p in
     record {
+      state_before = s;
       one = one;
       evidence = e ∙ (rw (c.in_ok-push.ensures.items, c.new-evidence.ensures.items) refl);
       one_is = c.in_ok-evidence.ensures;
@@ -20,4 +21,4 @@ returns-clause-told g c =
       tells = told.1;
       more = more.0;
       page = more.1;
-    }) c.explanation.ensures.evidence c.explanation.ensures.page
+    }) c.explanation.ensures.state c.explanation.ensures.evidence c.explanation.ensures.page

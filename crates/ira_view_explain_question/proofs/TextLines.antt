@@ -1,12 +1,11 @@
 -- Lines of a text, one after the other.
-use Rattle.std.proofs.Common.{◌≡◌, ◌∙◌, ◌+◌, ◌<◌, ◌≤◌, ℕ, Bool, false, List, [], ◌∷◌, ◌++◌, append_assoc, ap, arith, inr, nat_eq, refl}
+use Rattle.std.proofs.Common.{◌≡◌, ◌∙◌, ◌+◌, ◌<◌, ◌≤◌, ℕ, Bool, false, List, [], ◌∷◌, ◌++◌, append_assoc, ap, arith, inr, nat_eq, refl, subst}
 use Rattle.std.specs.Prelude.{cond, codes, count_by}
 use Rattle.std.specs.List.{list_any}
 use Rattle.std.proofs.lemmas.List.Sums.{sum_by-append, sum_by-cons}
 use Rattle.ira_event.proofs.Pieces.{or_parts}
 use Rattle.ira_event.specs.NextLine.{HasNoLineFeed}
 use Rattle.ira_view_page.specs.Lines.{IsFromLine, IsLine, first, next_line, past, whole_lines}
-use Rattle.ira_view_explain_question.specs.SaidLines.{AreSaid, IsNthLine}
 
 none_counted : (p : ℕ → Bool) (xs : List ℕ) → list_any p xs ≡ false → count_by p xs ≡ 0
 none_counted p [] none = refl
@@ -48,8 +47,14 @@ line_there text number rest line after from parts none = record {
   };
 }
 
--- there are fewer such lines, where no line is whole any more
-pub fewer : (text word rest : List ℕ) (k number count : ℕ) → IsFromLine text number rest → AreSaid text word number count
-    → count < k → HasNoLineFeed rest → IsNthLine text word k number
-fewer text word rest k number count from are few none =
-    (count, are, inr (few, omega (arith, whole_before text number rest from, none_counted (λ c. nat_eq c 10) rest none)))
+-- a line without a line feed comes after all whole ones
+pub past_whole : (text : List ℕ) (number : ℕ) (rest : List ℕ) → IsFromLine text number rest → HasNoLineFeed rest
+    → whole_lines text < number
+past_whole text number rest from none =
+    omega (arith, whole_before text number rest from, none_counted (λ c. nat_eq c 10) rest none)
+
+-- the line after one that is followed by a line feed
+pub line_next : (text : List ℕ) (number : ℕ) (rest line after : List ℕ) → IsFromLine text number rest
+    → rest ≡ line ++ codes "\n" ++ after → HasNoLineFeed line → IsFromLine text (number + 1) after
+line_next text number rest line after from parts none =
+    next_line number line after (subst (IsFromLine text number) parts from) none
