@@ -1,23 +1,19 @@
 -- Lines that are written one after the other.
-use Rattle.std.proofs.Common.{◌≡◌, ◌∙◌, ℕ, List, [], ◌∷◌, ◌++◌, Option, Result, Ok, Err, IfOk, ap, inl, inr, refl}
-use Rattle.std.specs.Prelude.{codes}
-use Rattle.json.specs.Json.{Json, object}
-use Rattle.ira_view_json.specs.View.{view}
-use Rattle.ira_view_json.specs.declared.value.Value.{Value}
+use Rattle.std.proofs.Common.{◌≡◌, ◌∙◌, ℕ, List, [], ◌∷◌, ◌++◌, Option, Result, Ok, Err, inl, inr, refl}
+use Rattle.std.proofs.Common.{subst}
+use Rattle.std.specs.Prelude.{OnOk}
+use Rattle.json.specs.Json.{Json}
 use Rattle.ira_event.specs.Log.{Log}
 use Rattle.ira_event.specs.Sink.{SinkState, StopsIn, Takes}
 use Rattle.ira_event.proofs.Writing.{Appends-nothing, Takes-append, Takes-StopsIn}
 use Rattle.ira_view_page.specs.declared.show_fault.ShowFault.{ShowFault}
 use Rattle.ira_view_page.specs.declared.show_fault.ShowFault.TheVariants.{OutOfMemory, Write}
-use Rattle.ira_view_json.specs.Line.{AreLines, IsLineOf, OfLines, WroteLine, WroteLines}
-use Rattle.ira_view_json.specs.Members.{with_number, with_words}
-use Rattle.ira_view_json.specs.Object.{Gives, Puts}
-use Rattle.ira_view_json.specs.declared.object.Object.{Object}
+use Rattle.ira_view_json.specs.Line.{AreLines, AreLinesOf, IsLineOf, OfLines, TookLines, WroteLine, WroteLines}
 use Rattle.ira_view_moment.specs.declared.chosen_moment.ChosenMoment.{ChosenMoment}
 use Rattle.ira_view_moment.specs.declared.chosen_moment.ChosenMoment.TheVariants.{AtEnd, AtCut, OfCase, Unmet}
 use Rattle.ira_view_moment.specs.ChosenMoment.{cut_of, numbers_of}
 use Rattle.ira_view_moment.specs.Told.{Told, told_of}
-use Rattle.ira_view_json.specs.ShownAnswer.{IsRingText, IsYes, OfRingText, WroteRing, with_moment}
+use Rattle.ira_view_json.specs.ShownAnswer.{AreAny, IsRingText, IsYes, OfRingText, WroteRing}
 use Rattle.ira_view_json.proofs.LineTexts.{lines_append, no_lines, one_line}
 
 pub none_are_lines : AreLines []
@@ -64,66 +60,70 @@ pub failed_then : {T : Type 0} (r : Result T ShowFault) (f : ShowFault) (s t u :
     → OfLines (λ text. Takes text s t) → WroteLines {T = T} (Err f) t u → WroteLines r s u
 failed_then {T} r f s t u is so_far more = rw is (wrote_then {T = T} (Err f) s t u so_far more)
 
--- an object that was told the moment, the status, and then that the answer is yes
-pub says_yes : {A E : Type 0} {a b c d : Object A} (r : Result (Value A) E) (status : ℕ) (told : Told)
-    (cut : Option (List ℕ)) → Puts (with_moment told cut) a b → Puts (with_number (codes "status") status) b c
-    → Puts (with_words (codes "answer") (codes "yes")) c d → Gives d r
-    → IfOk r (λ value. IsYes status told cut (view value))
-says_yes (Ok value) status told cut m p q gives =
-    let r = q.ends gives.0 gives.1 in
-    let s = p.ends r.0 r.1 in
-    let t = m.ends s.0 s.1 in (
-      t.0,
-      gives.2 ∙ ap object (r.2 ∙ ap (with_words (codes "answer") (codes "yes"))
-          (s.2 ∙ ap (with_number (codes "status") status) t.2)),
-    )
-says_yes (Err e) status told cut m p q gives = tt
-
 -- of the end of the logs no numbers are told, so they may be those of all events
-pub at_cut_of : {A : Type 0} (logs : List Log) (moment : ChosenMoment A) (status : ℕ) (value : Json)
-    → IsYes status (told_of moment) (numbers_of moment) value → IsYes status (told_of moment) (cut_of logs moment) value
-at_cut_of logs AtEnd status value is = is
-at_cut_of logs (AtCut cut) status value is = is
-at_cut_of logs (OfCase question number cut) status value is = is
-at_cut_of logs (Unmet number) status value is = is
+pub at_cut_of : {A : Type 0} (logs : List Log) (moment : ChosenMoment A) (named : Option (List ℕ)) (status : ℕ)
+    (value : Json) → IsYes logs named status (told_of moment) (numbers_of moment) value
+    → IsYes logs named status (told_of moment) (cut_of logs moment) value
+at_cut_of logs AtEnd named status value h =
+    record { end = h.end; is_end = h.is_end; leaders = h.leaders; are_leaders = h.are_leaders; is = h.is }
+at_cut_of logs (AtCut cut) named status value h = h
+at_cut_of logs (OfCase question number cut) named status value h = h
+at_cut_of logs (Unmet number) named status value h = h
 
-module _ (status : ℕ) (told : Told) (cut : Option (List ℕ)) where
+module _ (logs : List Log) (named : Option (List ℕ)) (status : ℕ) (told : Told) (cut : Option (List ℕ)) where
   -- the answer alone
-  answer_text : (value : Json) (line : List ℕ) → IsYes status told cut value → IsLineOf value line
-      → IsRingText status told cut line
-  answer_text value line says is = record { first = value; rest = []; answer = says; lines = one_line value line is }
+  answer_text : (Are : List Json → Type 0) (value : Json) (line : List ℕ) → Are []
+      → IsYes logs named status told cut value
+      → IsLineOf value line → IsRingText logs named status told cut Are line
+  answer_text Are value line none says is =
+      record { first = value; rest = []; answer = says; are = none; lines = one_line value line is }
 
-  pub answered : {T : Type 0} (r : Result T ShowFault) (value : Json) (s t : SinkState) → IsYes status told cut value
-      → WroteLine r value s t → WroteRing status told cut r s t
-  answered (Ok v) value s t says is = (is.0, answer_text value is.0 says is.1, is.2)
+  pub answered : {T : Type 0} (r : Result T ShowFault) (value : Json) (s t : SinkState)
+      → IsYes logs named status told cut value → WroteLine r value s t
+      → WroteRing logs named status told cut (λ others. others ≡ []) r s t
+  answered (Ok v) value s t says is =
+      (is.0, answer_text (λ others. others ≡ []) value is.0 refl says is.1, is.2)
   answered (Err OutOfMemory) value s t says is = inl is
-  answered (Err Write) value s t says is = (is.0, answer_text value is.0 says is.1, is.2)
+  answered (Err Write) value s t says is = (is.0, answer_text AreAny value is.0 tt says is.1, is.2)
+
+  -- a fault is handed on
+  pub ring_failed : {T : Type 0} (Are Are' : List Json → Type 0) (r : Result T ShowFault) (f : ShowFault)
+      (s t : SinkState)
+      → r ≡ Err f → WroteRing {T = T} logs named status told cut Are (Err f) s t
+      → WroteRing logs named status told cut Are' r s t
+  ring_failed Are Are' r OutOfMemory s t is wrote = rw is wrote
+  ring_failed Are Are' r Write s t is wrote = rw is wrote
 
   -- the answer, and lines after it
-  ring_text : (text rest : List ℕ) → IsRingText status told cut text → AreLines rest
-      → IsRingText status told cut (text ++ rest)
-  ring_text text rest is more = record {
-    first = is.first;
-    rest = is.rest ++ more.0;
-    answer = is.answer;
-    lines = lines_append (is.first ∷ is.rest) more.0 text rest is.lines more.1;
-  }
+  ring_text : (Are : List Json → Type 0) (text rest : List ℕ) (values : List Json) → Are values
+      → IsRingText logs named status told cut (λ others. others ≡ []) text → AreLinesOf values rest
+      → IsRingText logs named status told cut Are (text ++ rest)
+  ring_text Are text rest values are is more =
+      let lines = subst (λ (others : List Json). AreLinesOf (is.first ∷ others) text) is.are is.lines in
+      record {
+        first = is.first;
+        rest = values;
+        answer = is.answer;
+        are = are;
+        lines = lines_append (is.first ∷ []) values text rest lines more;
+      }
 
-  pub ring_then : {T : Type 0} (r : Result T ShowFault) (s t u : SinkState)
-      → OfRingText status told cut (λ text. Takes text s t) → WroteLines r t u → WroteRing status told cut r s u
-  ring_then (Ok v) s t u so_far more = (
-    so_far.0 ++ more.0,
-    ring_text so_far.0 more.0 so_far.1 more.1,
-    Takes-append s t u so_far.0 more.0 so_far.2 more.2,
+  pub ring_then : {T : Type 0} (Are : List Json → Type 0) (r : Result T ShowFault) (s t u : SinkState)
+      → OfRingText logs named status told cut (λ others. others ≡ []) (λ text. Takes text s t) → WroteLines r t u
+      → OnOk r (TookLines Are t u) → WroteRing logs named status told cut Are r s u
+  ring_then Are (Ok v) s t u so_far more all = (
+    so_far.0 ++ all.text,
+    ring_text Are so_far.0 all.text all.values all.are so_far.1 all.lines,
+    Takes-append s t u so_far.0 all.text so_far.2 all.took,
   )
-  ring_then (Err OutOfMemory) s t u so_far more =
+  ring_then Are (Err OutOfMemory) s t u so_far more all =
       inr (
         so_far.0 ++ more.0,
-        ring_text so_far.0 more.0 so_far.1 more.1,
+        ring_text AreAny so_far.0 more.0 more.1.0 tt so_far.1 more.1.1,
         Takes-append s t u so_far.0 more.0 so_far.2 more.2,
       )
-  ring_then (Err Write) s t u so_far more = (
+  ring_then Are (Err Write) s t u so_far more all = (
     so_far.0 ++ more.0,
-    ring_text so_far.0 more.0 so_far.1 more.1,
+    ring_text AreAny so_far.0 more.0 more.1.0 tt so_far.1 more.1.1,
     Takes-StopsIn s t u so_far.0 more.0 so_far.2 more.2,
   )

@@ -5,10 +5,14 @@ use Rattle.std.proofs.lemmas.List.{length-append}
 use Rattle.json.specs.Json.{Items, array, item, no_items, object, string}
 use Rattle.json.specs.Tree.{items_tokens, json_tokens, members_tokens}
 use Rattle.ira_view_json.specs.View.{items_view, members_view, view}
-use Rattle.ira_view_json.specs.declared.value.Value.{Value, Array, Object, Text, the_lemmas}
+use Rattle.ira_view_json.specs.declared.value.Value.{Value, Array, Number, Object, Text, the_lemmas}
+use Rattle.ira_view_json.specs.Members.{natural}
 
 pub view-Text : {A : Type 0} (s : String A) → view (Text s) ≡ string (string_bytes s)
 view-Text s = search (rules, the_lemmas)
+
+pub view-Number : (A : Type 0) (n : ℕ) → view {A = A} (Number n) ≡ natural n
+view-Number A n = search (rules, the_lemmas)
 
 pub view-Array : {A : Type 0} (v : Vec (Value A) A) → view (Array v) ≡ array (items_view v.items)
 view-Array v = search (rules, the_lemmas)

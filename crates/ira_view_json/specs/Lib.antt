@@ -1,4 +1,5 @@
 pub mod AnswerValue
+pub mod EventValue
 pub mod EvidenceValue
 pub mod ExplainedFindings
 pub mod ExplainedValue

@@ -32,6 +32,22 @@ WroteLine (Err OutOfMemory) value old new = new ≡ old
 abbrev pub AreLines : List ℕ → Type 0
 AreLines text = (values : List Json) × AreLinesOf values text
 
+-- lines of these values came to those that are put together, and what is there no more the sink took
+pub record Gathers (values : List Json) (block block' : List ℕ) (old new : SinkState) : Type 0 where
+  pub text : List ℕ
+  pub lines : AreLinesOf values text
+  pub written : List ℕ
+  pub took : Takes written old new
+  pub parts : written ++ block' ≡ block ++ text
+
+-- the sink took the lines of some such values
+pub record TookLines (Are : List Json → Type 0) (old new : SinkState) : Type 0 where
+  pub values : List Json
+  pub are : Are values
+  pub text : List ℕ
+  pub lines : AreLinesOf values text
+  pub took : Takes text old new
+
 -- this holds of some lines
 abbrev pub OfLines : (List ℕ → Type 0) → Type 0
 OfLines P = (text : List ℕ) × AreLines text × P text

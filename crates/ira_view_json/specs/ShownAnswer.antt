@@ -1,12 +1,31 @@
 -- What is written of good logs: an answer, and lines after it.
-use Rattle.std.specs.Prelude.{◌≡◌, ◌⊎◌, ℕ, List, ◌∷◌, Option, Some, None, Result, Ok, Err, codes}
-use Rattle.json.specs.Json.{Json, Members, null, object}
+use Rattle.std.specs.Prelude.{◌≡◌, ◌⊎◌, ℕ, Bool, true, false, List, [], ◌∷◌, Option, Some, None, Result, Ok, Err, ⊤}
+use Rattle.std.specs.Prelude.{codes, length}
+use Rattle.json.specs.Json.{Json, Members, no_members, null, object}
+use Rattle.ira_event.specs.Log.{Log}
 use Rattle.ira_event.specs.Sink.{SinkState, StopsIn, Takes}
 use Rattle.ira_view_page.specs.declared.show_fault.ShowFault.{ShowFault}
 use Rattle.ira_view_page.specs.declared.show_fault.ShowFault.TheVariants.{OutOfMemory, Write}
+use Rattle.ira_view_moment.specs.Moment.{AreLeaders, IsMoment, Moment, whole_cut}
 use Rattle.ira_view_moment.specs.Told.{Told, at_cut, at_end, of_case, unmet}
+use Rattle.ira_view_moment.specs.Totals.{totals_of}
+use Rattle.ira_view_json.specs.EventValue.{AreEventValues}
 use Rattle.ira_view_json.specs.Line.{AreLinesOf}
 use Rattle.ira_view_json.specs.Members.{naturals, put, with_number, with_words}
+
+-- members, and what all events come to, at whose end these nodes lead; the version is that of what members mean
+abbrev pub with_totals : Moment → List ℕ → Members → Members
+with_totals end leaders members =
+    put (codes "leaders") (naturals leaders)
+    (with_number (codes "received") (totals_of end).received
+    (with_number (codes "sent") (totals_of end).sent
+    (with_number (codes "events") (totals_of end).events
+    (with_number (codes "nodes") (length end.nodes) (with_number (codes "version") 1 members)))))
+
+-- members, and the places that are to lead, where some are named
+abbrev pub with_named : Option (List ℕ) → Members → Members
+with_named (Some places) members = put (codes "named") (naturals places) members
+with_named None members = members
 
 -- members, and how many events each node has made; null where there is no such moment
 abbrev pub with_cut : Option (List ℕ) → Members → Members
@@ -20,28 +39,50 @@ with_moment (at_cut events) cut members = with_cut cut members
 with_moment (of_case number case) cut members = with_cut cut (with_number (codes "case") number members)
 with_moment (unmet number) cut members = with_cut cut members
 
--- the value is an object that says yes, with this status and this moment
-abbrev pub IsYes : ℕ → Told → Option (List ℕ) → Json → Type 0
-IsYes status told cut value =
-    (others : Members)
-    × (value ≡ object (with_words (codes "answer") (codes "yes")
-    (with_number (codes "status") status (with_moment told cut others))))
+-- the value is an object that says yes of logs, with this status: what their events come to, who leads when they end,
+-- who is to lead, and which moment is told
+pub record IsYes (logs : List Log) (named : Option (List ℕ)) (status : ℕ) (told : Told) (cut : Option (List ℕ))
+    (value : Json) : Type 0 where
+  pub end : Moment
+  pub is_end : IsMoment logs (whole_cut logs) end
+  pub leaders : List ℕ
+  pub are_leaders : AreLeaders end leaders
+  pub is : value
+      ≡ object (with_words (codes "answer") (codes "yes") (with_number (codes "status") status (with_moment told cut
+      (with_named named (with_totals end leaders (with_words (codes "type") (codes "answer") no_members))))))
 
--- the text is the line of a yes with this status and this moment, and then lines
-pub record IsRingText (status : ℕ) (told : Told) (cut : Option (List ℕ)) (text : List ℕ) : Type 0 where
+-- what is told after it: all events, where these are asked for; of the ring at the moment nothing is said here; nothing
+-- where there is no moment
+abbrev pub AreTold : Bool → List Log → Option (List ℕ) → List Json → Type 0
+AreTold has_events logs None values = values ≡ []
+AreTold true logs (Some cut) values = AreEventValues logs cut values
+AreTold false logs (Some cut) values = ⊤
+
+-- any values
+abbrev pub AreAny : List Json → Type 0
+AreAny values = ⊤
+
+-- the text is that line of a yes, and then lines of such values
+pub record IsRingText (logs : List Log) (named : Option (List ℕ)) (status : ℕ) (told : Told) (cut : Option (List ℕ))
+    (Are : List Json → Type 0) (text : List ℕ) : Type 0 where
   pub first : Json
   pub rest : List Json
-  pub answer : IsYes status told cut first
+  pub answer : IsYes logs named status told cut first
+  pub are : Are rest
   pub lines : AreLinesOf (first ∷ rest) text
 
 -- this holds of some such text
-abbrev pub OfRingText : ℕ → Told → Option (List ℕ) → (List ℕ → Type 0) → Type 0
-OfRingText status told cut P = (text : List ℕ) × IsRingText status told cut text × P text
+abbrev pub OfRingText : List Log → Option (List ℕ) → ℕ → Told → Option (List ℕ) → (List Json → Type 0)
+    → (List ℕ → Type 0) → Type 0
+OfRingText logs named status told cut Are P = (text : List ℕ) × IsRingText logs named status told cut Are text × P text
 
--- the sink took such a text, also where memory ran out, if not before its first line; or, where the sink failed, a
--- first part of one
-abbrev pub WroteRing : {T : Type 0} → ℕ → Told → Option (List ℕ) → Result T ShowFault → SinkState → SinkState → Type 0
-WroteRing status told cut (Ok v) old new = OfRingText status told cut (λ text. Takes text old new)
-WroteRing status told cut (Err OutOfMemory) old new =
-    (new ≡ old) ⊎ OfRingText status told cut (λ text. Takes text old new)
-WroteRing status told cut (Err Write) old new = OfRingText status told cut (λ text. StopsIn text old new)
+-- the sink took such a text; where memory ran out, and not before its first line, that line and any others; where the
+-- sink failed, a first part of them
+abbrev pub WroteRing : {T : Type 0} → List Log → Option (List ℕ) → ℕ → Told → Option (List ℕ) → (List Json → Type 0)
+    → Result T ShowFault → SinkState → SinkState → Type 0
+WroteRing logs named status told cut Are (Ok v) old new =
+    OfRingText logs named status told cut Are (λ text. Takes text old new)
+WroteRing logs named status told cut Are (Err OutOfMemory) old new =
+    (new ≡ old) ⊎ OfRingText logs named status told cut AreAny (λ text. Takes text old new)
+WroteRing logs named status told cut Are (Err Write) old new =
+    OfRingText logs named status told cut AreAny (λ text. StopsIn text old new)

@@ -1,6 +1,9 @@
-ghost use Rattle.std.specs.Prelude.{◌<◌, ◌-◌, ◌^◌};
+ghost use Rattle.std.specs.Prelude.{◌≡◌, ◌<◌, ◌-◌, ◌^◌, IfOk, OnOk};
 ghost use Rattle.ira_order.specs.Cut.{IsConsistentCut};
-ghost use Rattle.ira_view_json.specs.Line.{WroteLines};
+ghost use Rattle.ira_view_json.specs.EventValue.{AreEventValues, event_value, with_sender, with_trail_step};
+ghost use Rattle.ira_view_json.specs.Line.{TookLines, WroteLines};
+ghost use Rattle.ira_view_json.specs.Object.{Puts};
+ghost use Rattle.ira_view_json.specs.View.{view};
 
 use crate::line_block::LineBlock;
 use crate::object::Object;
@@ -10,6 +13,32 @@ use ira_view_page::{ShowFault, line_of};
 use ira_view_trail::{StateStep, StateTrail};
 use std::alloc::Allocator;
 
+impl<A: Allocator + Clone> Object<A> {
+    /// Puts a step, of this number.
+    fn trail_step(&mut self, number: usize, walked: StateStep)
+        requires { walked.step.time < 2 ^ 32 - 1 }
+        ensures { Puts (with_trail_step number walked) self.old self.new }
+    {
+        let step = walked.step;
+        self.number("step", number as u64);
+        self.number("node", step.place as u64);
+        self.number("event", step.event as u64);
+        self.number("line", line_of(step.event) as u64);
+        self.event(walked.event);
+        self.number("column", step.column() as u64);
+        self.flag("in_cut", step.in_cut);
+    }
+
+    /// Puts the step that sent what a receipt receives.
+    fn sender(&mut self, step: Option<u32>)
+        ensures { Puts (with_sender step) self.old self.new }
+    {
+        if let Some(step) = step {
+            self.number("of_step", step as u64);
+        }
+    }
+}
+
 /// An event, which is step `number` of a trail, and the state of its node after it.
 fn event_value<A: Allocator + Clone>(
     alloc: &A,
@@ -17,19 +46,11 @@ fn event_value<A: Allocator + Clone>(
     walked: StateStep,
 ) -> Result<Value<A>, OutOfMemory>
     requires { walked.step.time < 2 ^ 32 - 1 }
+    ensures { IfOk result (λ value. view value ≡ event_value number walked) }
 {
-    let step = walked.step;
     let mut object = Object::of(alloc.clone()?, "event");
-    object.number("step", number as u64);
-    object.number("node", step.place as u64);
-    object.number("event", step.event as u64);
-    object.number("line", line_of(step.event) as u64);
-    object.event(walked.event);
-    object.number("column", step.column() as u64);
-    object.flag("in_cut", step.in_cut);
-    if let Some(sender) = step.sent_by {
-        object.number("of_step", sender as u64);
-    }
+    object.trail_step(number, walked);
+    object.sender(walked.step.sent_by);
     object.state(walked.after);
     object.finish()
 }
@@ -42,16 +63,15 @@ pub(crate) fn write_events<A: Allocator + Clone, W: Sink>(
     sink: &mut W,
 ) -> Result<(), ShowFault>
     requires { IsConsistentCut logs.now cut.now }
-    ensures { WroteLines result (W.state sink.old) (W.state sink.new) }
+    ensures wrote { WroteLines result (W.state sink.old) (W.state sink.new) }
+    ensures told { OnOk result (TookLines (AreEventValues logs.now cut.now) (W.state sink.old) (W.state sink.new)) }
 {
     let mut trail = StateTrail::new(alloc.clone()?, logs, cut)?;
     let mut lines = LineBlock::new(alloc.clone()?);
-    for number in 0..logs.number_of_events() {
-        let Some(walked) = trail.next()? else {
-            break;
-        };
-        let value = event_value(&alloc, number + 1, walked)?;
-        lines.add(&value, sink)?;
+    let mut number = 0;
+    'steps: while let Some(walked) = trail.next()? {
+        number += 1;
+        lines.add(&event_value(&alloc, number, walked)?, sink)?;
     }
     lines.flush(sink)
 }

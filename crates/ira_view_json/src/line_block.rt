@@ -1,4 +1,7 @@
-ghost use Rattle.ira_view_json.specs.Line.{WroteLines};
+ghost use Rattle.std.specs.Prelude.{◌≡◌, ◌∷◌, [], OnOk};
+ghost use Rattle.ira_event.specs.Sink.{Takes};
+ghost use Rattle.ira_view_json.specs.Line.{Gathers, WroteLines};
+ghost use Rattle.ira_view_json.specs.View.{view};
 
 use crate::line::line_bytes;
 use crate::value::Value;
@@ -29,7 +32,9 @@ impl<A: Allocator> Model for LineBlock<A> {
 
 impl<A: Allocator + Clone> LineBlock<A> {
     /// No lines.
-    pub(crate) fn new(alloc: A) -> LineBlock<A> {
+    pub(crate) fn new(alloc: A) -> LineBlock<A>
+        ensures { result ≡ [] }
+    {
         LineBlock {
             text: Vec::new(alloc),
         }
@@ -37,7 +42,9 @@ impl<A: Allocator + Clone> LineBlock<A> {
 
     /// Adds the line of a value, and writes all where they are a block.
     pub(crate) fn add<W: Sink>(&mut self, value: &Value<A>, sink: &mut W) -> Result<(), ShowFault>
-        ensures { WroteLines result (W.state sink.old) (W.state sink.new) }
+        ensures wrote { WroteLines result (W.state sink.old) (W.state sink.new) }
+        ensures gathered { OnOk result
+            (Gathers (view value.now ∷ []) self.old self.new (W.state sink.old) (W.state sink.new)) }
     {
         let line = line_bytes(self.text.allocator().clone()?, value)?;
         self.text.extend_from_slice(&line)?;
@@ -49,7 +56,8 @@ impl<A: Allocator + Clone> LineBlock<A> {
 
     /// Writes all lines that there are.
     pub(crate) fn flush<W: Sink>(&mut self, sink: &mut W) -> Result<(), ShowFault>
-        ensures { WroteLines result (W.state sink.old) (W.state sink.new) }
+        ensures wrote { WroteLines result (W.state sink.old) (W.state sink.new) }
+        ensures all { OnOk result ((self.new ≡ []) × Takes self.old (W.state sink.old) (W.state sink.new)) }
     {
         write_bytes(&self.text, sink)?;
         self.text.clear();

@@ -1,53 +1,57 @@
-ghost use Rattle.std.specs.Prelude.{IfOk};
+ghost use Rattle.std.specs.Prelude.{◌≡◌, [], IfOk, option_map};
 ghost use Rattle.ira_view_json.specs.View.{view};
 ghost use Rattle.ira_order.specs.Matching.{Matches};
 ghost use Rattle.ira_order.specs.Run.{AreLocalRuns};
 ghost use Rattle.ira_view_json.specs.Object.{Puts};
-ghost use Rattle.ira_view_json.specs.ShownAnswer.{IsYes, WroteRing, with_moment};
+ghost use Rattle.ira_view_json.specs.ShownAnswer.{IsYes, WroteRing, with_moment, with_named, with_totals};
 ghost use Rattle.ira_view_moment.specs.ChosenMoment.{cut_of, numbers_of};
+ghost use Rattle.ira_view_moment.specs.Moment.{AreLeaders, IsMoment, whole_cut};
 ghost use Rattle.ira_view_moment.specs.Told.{told_of};
 
 use crate::line::write_line;
 use crate::object::Object;
 use crate::shown_answer::ShownAnswer;
 use crate::value::Value;
-use crate::values::{numbers_value, places_value};
+use crate::values::numbers_value;
 use ira_event::{Logs, OutOfMemory, Sink};
 use ira_view_moment::{ChosenMoment, Moment};
 use ira_view_page::ShowFault;
-use std::alloc::Allocator;
+use std::alloc::{AllocError, Allocator};
 
-/// The places that lead, in a list.
-fn leaders_value<A: Allocator + Clone>(
-    alloc: &A,
-    moment: &Moment<A>,
-) -> Result<Value<A>, OutOfMemory> {
-    let mut leaders = Vec::new(alloc.clone()?);
+/// The places that lead, in their order.
+fn leaders<A: Allocator>(alloc: A, moment: &Moment<A>) -> Result<Vec<u8, A>, AllocError>
+    ensures { IfOk result (λ leaders. AreLeaders moment.now leaders.items) }
+{
+    let mut leaders = Vec::new(alloc);
     for place in 0..moment.size() {
         if moment.leads(place) {
             leaders.push(place)?;
         }
     }
-    places_value(alloc, &leaders)
+    Ok(leaders)
 }
 
 impl<A: Allocator + Clone> Object<A> {
-    /// Puts what all events of logs come to, at whose end the ring is this.
-    fn totals(&mut self, end: &Moment<A>) {
-        let mut events = 0u64;
-        let mut sent = 0u64;
-        let mut received = 0u64;
-        for node in end.nodes() {
-            events = events.saturating_add(node.events as u64);
-            sent = sent.saturating_add(node.sent as u64);
-            received = received.saturating_add(node.received as u64);
-        }
+    /// Puts what all events of logs come to, at whose end the ring is this, and these places lead.
+    fn totals(&mut self, end: &Moment<A>, leaders: &[u8])
+        ensures { Puts (with_totals end.now leaders.now) self.old self.new }
+    {
+        let totals = end.totals();
         self.number("version", 1);
         self.number("nodes", end.size() as u64);
-        self.number("events", events);
-        self.number("sent", sent);
-        self.number("received", received);
-        self.value("leaders", leaders_value(self.alloc(), end));
+        self.number("events", totals.events as u64);
+        self.number("sent", totals.sent as u64);
+        self.number("received", totals.received as u64);
+        self.value("leaders", numbers_value(self.alloc(), leaders));
+    }
+
+    /// Puts the places that are to lead, where some are named.
+    fn named(&mut self, named: Option<&[u64]>)
+        ensures { Puts (with_named (option_map (λ named. named.now) named.entry)) self.old self.new }
+    {
+        if let Some(named) = named {
+            self.value("named", numbers_value(self.alloc(), named));
+        }
     }
 
     /// Puts which moment is told; nothing at the end of the logs.
@@ -66,20 +70,23 @@ impl<A: Allocator + Clone> Object<A> {
     }
 }
 
-/// The answer for logs, at whose end the ring is this.
+/// The answer for logs.
 fn shown_value<A: Allocator + Clone>(
     alloc: &A,
-    end: &Moment<A>,
+    logs: &Logs<A>,
     chosen: &ChosenMoment<A>,
     answer: ShownAnswer<'_>,
 ) -> Result<Value<A>, OutOfMemory>
-    ensures { IfOk result (λ value. IsYes answer.entry.status (told_of chosen.now) (numbers_of chosen.now) (view value)) }
+    requires matches { Matches logs.now }
+    requires local { AreLocalRuns logs.now }
+    ensures { IfOk result (λ value. IsYes logs.now (option_map (λ named. named.now) answer.entry.named)
+        answer.entry.status (told_of chosen.now) (numbers_of chosen.now) (view value)) }
 {
+    let end = Moment::at_end(alloc.clone()?, logs)?;
+    let leaders = leaders(alloc.clone()?, &end)?;
     let mut object = Object::of(alloc.clone()?, "answer");
-    object.totals(end);
-    if let Some(named) = answer.named {
-        object.value("named", places_value(alloc, named));
-    }
+    object.totals(&end, &leaders);
+    object.named(answer.named);
     object.moment(chosen);
     object.number("status", answer.status as u64);
     object.words("answer", "yes");
@@ -96,10 +103,10 @@ pub(crate) fn write_answer<A: Allocator + Clone, W: Sink>(
 ) -> Result<(), ShowFault>
     requires matches { Matches logs.now }
     requires local { AreLocalRuns logs.now }
-    ensures { WroteRing answer.entry.status (told_of chosen.now) (cut_of logs.now chosen.now) result
+    ensures { WroteRing logs.now (option_map (λ named. named.now) answer.entry.named) answer.entry.status
+        (told_of chosen.now) (cut_of logs.now chosen.now) (λ others. others ≡ []) result
         (W.state sink.old) (W.state sink.new) }
 {
-    let end = Moment::at_end(alloc.clone()?, logs)?;
-    let value = shown_value(&alloc, &end, chosen, answer)?;
+    let value = shown_value(&alloc, logs, chosen, answer)?;
     write_line(alloc, &value, sink)
 }

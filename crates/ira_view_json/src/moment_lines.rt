@@ -8,7 +8,7 @@ use crate::line_block::LineBlock;
 use crate::log_lines::start_of;
 use crate::object::Object;
 use crate::value::Value;
-use crate::values::places_value;
+use crate::values::numbers_value;
 use ira_event::{Event, Logs, NodeLog, OutOfMemory, Sink};
 use ira_view_moment::{Moment, NodeProgress, Round, Rounds};
 use ira_view_page::ShowFault;
@@ -23,7 +23,7 @@ fn round_value<A: Allocator + Clone>(alloc: &A, round: &Round<A>) -> Result<Valu
     }
     object.number("drew", round.drew as u64);
     object.number("greatest", round.greatest as u64);
-    object.value("drawn_by", places_value(alloc, &round.greatest_of));
+    object.value("drawn_by", numbers_value(alloc, &round.greatest_of));
     object.finish()
 }
 

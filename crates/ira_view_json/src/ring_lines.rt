@@ -1,11 +1,11 @@
-ghost use Rattle.std.specs.Prelude.{◌≡◌, length};
+ghost use Rattle.std.specs.Prelude.{◌≡◌, OnOk, Some, length, option_map};
 ghost use Rattle.ira_order.specs.Circle.{HasOrder};
 ghost use Rattle.ira_order.specs.Cut.{IsConsistentCut};
 ghost use Rattle.ira_order.specs.Run.{AreLocalRuns};
 ghost use Rattle.ira_view_moment.specs.ChosenMoment.{IsMomentOf, cut_of};
 ghost use Rattle.ira_view_moment.specs.Told.{told_of};
-ghost use Rattle.ira_view_json.specs.Line.{WroteLines};
-ghost use Rattle.ira_view_json.specs.ShownAnswer.{WroteRing};
+ghost use Rattle.ira_view_json.specs.Line.{TookLines, WroteLines};
+ghost use Rattle.ira_view_json.specs.ShownAnswer.{AreTold, WroteRing};
 
 use crate::event_lines::write_events;
 use crate::moment_answer::write_answer;
@@ -29,7 +29,9 @@ fn write_cut<A: Allocator + Clone, W: Sink>(
     requires local { AreLocalRuns logs.now }
     requires cut { IsConsistentCut logs.now cut.now }
     requires files { length files.now ≡ length logs.now }
-    ensures { WroteLines result (W.state sink.old) (W.state sink.new) }
+    ensures wrote { WroteLines result (W.state sink.old) (W.state sink.new) }
+    ensures told { OnOk result
+        (TookLines (AreTold has_events logs.now (Some cut.now)) (W.state sink.old) (W.state sink.new)) }
 {
     if has_events {
         write_events(alloc, logs, cut, sink)
@@ -55,8 +57,9 @@ pub fn write_ring<A: Allocator + Clone, W: Sink>(
     requires local { AreLocalRuns logs.now }
     requires moment { IsMomentOf logs.now chosen.now }
     requires files { length files.now ≡ length logs.now }
-    ensures { WroteRing answer.entry.status (told_of chosen.now) (cut_of logs.now chosen.now) result
-        (W.state sink.old) (W.state sink.new) }
+    ensures { WroteRing logs.now (option_map (λ named. named.now) answer.entry.named) answer.entry.status
+        (told_of chosen.now) (cut_of logs.now chosen.now) (AreTold has_events logs.now (cut_of logs.now chosen.now))
+        result (W.state sink.old) (W.state sink.new) }
 {
     write_answer(alloc.clone()?, logs, chosen, answer, sink)?;
     match chosen {

@@ -1,4 +1,5 @@
-ghost use Rattle.std.specs.Prelude.{◌≡◌, IfOk};
+ghost use Rattle.std.specs.Prelude.{◌≡◌, ℕ, IfOk, List};
+ghost use Rattle.std.specs.List.{AllZip};
 ghost use Rattle.json.specs.Json.{no_members, object};
 ghost use Rattle.ira_view_json.specs.Members.{naturals};
 ghost use Rattle.ira_view_json.specs.Object.{Puts};
@@ -98,27 +99,15 @@ pub(crate) fn state_value<A: Allocator + Clone>(
 }
 
 /// A list of numbers.
-pub(crate) fn numbers_value<A: Allocator + Clone>(
+pub(crate) fn numbers_value<A: Allocator + Clone, T: Copy + Into<u64>>(
     alloc: &A,
-    numbers: &[u32],
+    numbers: &[T],
 ) -> Result<Value<A>, OutOfMemory>
-    ensures { IfOk result (λ value. view value ≡ naturals numbers.now) }
+    ensures { IfOk result (λ value. (all : List ℕ) × AllZip T.converts numbers.now all × (view value ≡ naturals all)) }
 {
     let mut list = Vec::with_capacity(alloc.clone()?, numbers.len())?;
     for number in numbers {
-        list.push(Value::Number(*number as u64))?;
-    }
-    Ok(Value::Array(list))
-}
-
-/// A list of places.
-pub(crate) fn places_value<A: Allocator + Clone, T: Copy + Into<u64>>(
-    alloc: &A,
-    places: &[T],
-) -> Result<Value<A>, OutOfMemory> {
-    let mut list = Vec::with_capacity(alloc.clone()?, places.len())?;
-    for place in places {
-        list.push(Value::Number((*place).into()))?;
+        list.push(Value::Number((*number).into()))?;
     }
     Ok(Value::Array(list))
 }

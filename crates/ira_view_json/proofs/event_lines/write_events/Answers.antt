@@ -1,52 +1,107 @@
-use Rattle.std.proofs.Common.{◌≡◌, ◌∷◌, ◌++◌, [], Err, arith, rules}
+use Rattle.std.proofs.Common.{◌≡◌, ◌∷◌, ◌++◌, ◌∙◌, [], Err, arith, refl, rules, subst}
+use Rattle.std.proofs.lemmas.List.{length_push}
 use Rattle.ira_view_trail.proofs.Steps.{last_is_there}
+use Rattle.ira_view_trail.proofs.Walks.{few_steps}
+use Rattle.ira_view_trail.specs.StateTrail.{TellsStates}
+use Rattle.ira_view_trail.specs.Trail.{IsTrail}
 use Rattle.ira_view_page.specs.declared.show_fault.ShowFault.TheVariants.{OutOfMemory}
+use Rattle.ira_view_json.specs.EventValue.{AreEventValues}
+use Rattle.ira_view_json.specs.View.{view}
+use Rattle.ira_view_json.proofs.EventsGathered.{all_so_far, next_so_far, none_so_far}
+use Rattle.ira_view_json.proofs.Gathering.{all_gathered, gathered_more, none_gathered}
 use Rattle.ira_view_json.proofs.LinesWritten.{failed_then, more_taken, none_taken, none_wrote, wrote_then}
 use Rattle.ira_view_json.proofs.event_lines.write_events.Goals as goal
 
-pub returns-in_err-trail : goal.returns-in_err-trail
-returns-in_err-trail g c =
+pub returns-in_err-trail-clause-wrote : goal.returns-in_err-trail-clause-wrote
+returns-in_err-trail-clause-wrote g c =
     let r = c.from_residual-in_err-trail.result in
     let is : r ≡ Err OutOfMemory = search rules in
     none_wrote r (g.W.Sink.state c.args.sink.now) is
 
-pub returns-in_err-clone-2 : goal.returns-in_err-clone-2
-returns-in_err-clone-2 g c =
+pub returns-in_err-clone-2-clause-wrote : goal.returns-in_err-clone-2-clause-wrote
+returns-in_err-clone-2-clause-wrote g c =
     let r = c.from_residual-in_err-clone-2.result in
     let is : r ≡ Err OutOfMemory = search rules in
     none_wrote r (g.W.Sink.state c.args.sink.now) is
 
-pub loop-number-init : goal.loop-number-init
-loop-number-init g c = record {
-  walked = ([], c.in_ok-trail.ensures.none_given);
+pub steps-init : goal.steps-init
+steps-init g c = record {
+  logs = c.in_ok-trail.ensures.logs;
+  cut = c.in_ok-trail.ensures.cut;
+  steps = [];
+  walked = c.in_ok-trail.ensures.none_given;
+  count = refl;
+  values = [];
+  told = none_so_far c.args.logs.now;
+  gathered = rw c.new-lines.ensures (none_gathered [] (g.W.Sink.state c.args.sink.now));
   took = none_taken (g.W.Sink.state c.args.sink.now);
 }
 
+pub overflow_add-number : goal.overflow_add-number
+overflow_add-number g c =
+    omega (arith, c.steps.invariant.count, few_steps _ _ c.steps.invariant.walked.given)
+
+pub steps-smaller-in_ok-add-3 : goal.steps-smaller-in_ok-add-3
+steps-smaller-in_ok-add-3 g c =
+    let steps = c.steps.invariant.steps in
+    let new = (rw c.in-Some.is at (c.in_ok-walked.ensures.step steps c.steps.invariant.walked)).0 in
+    omega (
+      arith,
+      new.given.number,
+      c.steps.invariant.walked.given.number,
+      length_push steps c.in-Some.walked.step,
+      few_steps _ _ new.given,
+    )
+
 pub event_value-requires : goal.event_value-requires
 event_value-requires g c =
-    let given = c.loop-number.invariant.walked in
-    let after = rw c.in-Some.is at (c.in_ok-walked.ensures.step given.0 given.1) in
-    omega (arith, (last_is_there c.next.new.self.trail given.0 c.in-Some.walked.step after.0.given).time)
+    let steps = c.steps.invariant.steps in
+    let after = rw c.in-Some.is at (c.in_ok-walked.ensures.step steps c.steps.invariant.walked) in
+    omega (arith, (last_is_there c.next.new.self.trail steps c.in-Some.walked.step after.0.given).time)
 
-pub loop-number-preserved : goal.loop-number-preserved
-loop-number-preserved g c =
-    let given = c.loop-number.invariant.walked in
-    let after = rw c.in-Some.is at (c.in_ok-walked.ensures.step given.0 given.1) in
+pub steps-preserved-in_ok-add-3 : goal.steps-preserved-in_ok-add-3
+steps-preserved-in_ok-add-3 g c =
+    let steps = c.steps.invariant.steps in
+    let w = c.in-Some.walked in
+    let found = rw c.in-Some.is at (c.in_ok-walked.ensures.step steps c.steps.invariant.walked) in
     record {
-      walked = (given.0 ++ c.in-Some.walked.step ∷ [], after.0);
+      logs = c.in_ok-walked.ensures.logs.logs ∙ c.steps.invariant.logs;
+      cut = c.in_ok-walked.ensures.logs.cut ∙ c.steps.invariant.cut;
+      steps = steps ++ w.step ∷ [];
+      walked = found.0;
+      count = omega (arith, c.steps.invariant.count, length_push steps w.step);
+      values = c.steps.invariant.values ++ view c.in_ok-event_value.field-0 ∷ [];
+      told = next_so_far c.args.logs.now steps c.steps.invariant.values c.steps.number w
+          (view c.in_ok-event_value.field-0) c.steps.invariant.told c.steps.invariant.count
+          (subst (λ logs. TellsStates logs w) c.steps.invariant.logs found.1) c.in_ok-event_value.ensures;
+      gathered = gathered_more c.steps.invariant.gathered c.in_ok-add.ensures.gathered;
       took =
-          more_taken (g.W.Sink.state c.args.sink.now) (g.W.Sink.state c.loop-number.sink)
-          (g.W.Sink.state c.add.new.sink) c.loop-number.invariant.took c.in_ok-add.ensures;
+          more_taken (g.W.Sink.state c.args.sink.now) (g.W.Sink.state c.steps.sink) (g.W.Sink.state c.add.new.sink)
+          c.steps.invariant.took c.in_ok-add.ensures.wrote;
     }
 
-pub returns-in_err-add : goal.returns-in_err-add
-returns-in_err-add g c =
+pub returns-in_err-add-clause-wrote : goal.returns-in_err-add-clause-wrote
+returns-in_err-add-clause-wrote g c =
     let r = c.from_residual-in_err-add.result in
     let is : r ≡ Err c.in_err-add.field-0.0 = search rules in
-    failed_then r c.in_err-add.field-0.0 (g.W.Sink.state c.args.sink.now) (g.W.Sink.state c.loop-number.sink)
-    (g.W.Sink.state c.add.new.sink) is c.loop-number.invariant.took c.in_err-add.ensures
+    failed_then r c.in_err-add.field-0.0 (g.W.Sink.state c.args.sink.now) (g.W.Sink.state c.steps.sink)
+    (g.W.Sink.state c.add.new.sink) is c.steps.invariant.took c.in_err-add.ensures.wrote
 
-pub returns : goal.returns
-returns g c =
-    wrote_then c.flush.result (g.W.Sink.state c.args.sink.now) (g.W.Sink.state c.loop-number.sink)
-    (g.W.Sink.state c.flush.new.sink) c.loop-number.invariant.took c.flush.ensures
+pub returns-clause-wrote : goal.returns-clause-wrote
+returns-clause-wrote g c =
+    wrote_then c.flush.result (g.W.Sink.state c.args.sink.now) (g.W.Sink.state c.steps.sink)
+    (g.W.Sink.state c.flush.new.sink) c.steps.invariant.took c.flush.ensures.wrote
+
+pub returns-clause-told : goal.returns-clause-told
+returns-clause-told g c =
+    let logs = c.args.logs.now in
+    let cut = c.args.cut.now in
+    let steps = c.steps.invariant.steps in
+    let none = (rw c.in_default.is at (c.in_ok-walked.ensures.none steps c.steps.invariant.walked)).0 in
+    let trail : IsTrail logs cut steps =
+    subst (λ cut. IsTrail logs cut steps) c.steps.invariant.cut
+    (subst (λ logs. IsTrail logs c.steps.trail.trail.cut steps) c.steps.invariant.logs none) in
+    let values = c.steps.invariant.values in
+    all_gathered (AreEventValues logs cut) c.flush.result values c.steps.lines c.flush.new.self
+    (g.W.Sink.state c.args.sink.now) (g.W.Sink.state c.steps.sink) (g.W.Sink.state c.flush.new.sink)
+    (all_so_far logs cut steps values c.steps.invariant.told trail) c.steps.invariant.gathered c.flush.ensures.all

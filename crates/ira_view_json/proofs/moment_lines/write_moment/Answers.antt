@@ -40,4 +40,4 @@ returns g c =
     (g.W.Sink.state c.write_links.new.sink) nodes c.in_ok-write_links.ensures
     in
     wrote_then c.flush.result (g.W.Sink.state c.args.sink.now) (g.W.Sink.state c.write_links.new.sink)
-    (g.W.Sink.state c.flush.new.sink) so_far c.flush.ensures
+    (g.W.Sink.state c.flush.new.sink) so_far c.flush.ensures.wrote

@@ -7,9 +7,10 @@ returns-in_err-add g c =
     let r = c.from_residual-in_err-add.result in
     let is : r ≡ Err c.in_err-add.field-0.0 = search rules in
     failed_then r c.in_err-add.field-0.0 (g.W.Sink.state c.args.sink.now)
-    (g.W.Sink.state c.loop-round.sink) (g.W.Sink.state c.add.new.sink) is c.loop-round.invariant c.in_err-add.ensures
+    (g.W.Sink.state c.loop-round.sink) (g.W.Sink.state c.add.new.sink) is c.loop-round.invariant
+    c.in_err-add.ensures.wrote
 
 pub loop-round-preserved : goal.loop-round-preserved
 loop-round-preserved g c =
     more_taken (g.W.Sink.state c.args.sink.now) (g.W.Sink.state c.loop-round.sink) (g.W.Sink.state c.add.new.sink)
-    c.loop-round.invariant c.in_ok-add.ensures
+    c.loop-round.invariant c.in_ok-add.ensures.wrote

@@ -1,7 +1,6 @@
-use Rattle.std.proofs.Common.{◌≡◌, map, take}
-use Rattle.ira_view_json.specs.View.{view}
-use Rattle.ira_view_json.specs.Members.{natural}
+use Rattle.std.proofs.Common.{take}
+use Rattle.ira_view_json.proofs.Numbers.{AreNumbers}
 use Rattle.ira_view_json.proofs.values.numbers_value.Given as goal
 
 abbrev pub invariant-loop-number : goal.invariant-loop-number
-invariant-loop-number g l = map view l.list.items ≡ map natural (take l.number-index l.numbers)
+invariant-loop-number g l = AreNumbers g.T.Into.converts (take l.number-index l.numbers) l.list.items

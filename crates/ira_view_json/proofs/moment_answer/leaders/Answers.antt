@@ -1,0 +1,22 @@
+use Rattle.std.proofs.Common.{arith}
+use Rattle.ira_view_json.proofs.Leading.{leads_not, leads_too}
+use Rattle.ira_view_json.proofs.moment_answer.leaders.Goals as goal
+use Rattle.ira_view_json.proofs.moment_answer.leaders.Goals.{then-leads+in_ok-push, else-leads}
+
+pub loop-place-preserved : goal.loop-place-preserved
+loop-place-preserved g c =
+    let moment = c.args.moment.now in
+    let so_far = c.loop-place.invariant in
+    elim c.if-leads.branch [
+      | then-leads+in_ok-push w ↦
+          rw (w.leaders-is, w.in_ok-push.ensures.items)
+          (leads_too moment c.loop-place.place c.loop-place.leaders.items so_far (c.leads.ensures.0 w.if-leads.true))
+      | else-leads w ↦
+          rw w.leaders-is
+          (leads_not moment c.loop-place.place c.loop-place.leaders.items so_far
+          (λ leads. let is = c.leads.ensures.1 leads in cc))
+    ]
+
+pub returns : goal.returns
+returns g c = λ i lt.
+    c.loop-place.invariant.led i (omega (arith, lt, c.loop-place-test.false, c.size-place-end.ensures.value))
