@@ -20,7 +20,7 @@ use ira_event::{MemorySink, Sink};
 use ira_main_cli::DecideRequest;
 use ira_main_files::{FileName, Shelf};
 use ira_view_json::cases_lines;
-use std::alloc::{Allocator, Global};
+use std::alloc::Allocator;
 use std::thread::Threads;
 
 // Keeps the certificate of what was found, if there is one, in a new file of this name, if there is one.
@@ -43,8 +43,7 @@ fn keep_found<'a, A: Allocator, F: Shelf>(
 
 // Prints what was found, with its status: as JSON, where that is wanted, or else its lines, which are put together first,
 // since the output isn't buffered.
-fn print_found<'a, A: Allocator, W: Sink>(
-    global: Global,
+fn print_found<'a, A: Allocator + Clone, W: Sink>(
     alloc: A,
     is_json: bool,
     decided: &DecidedCases<A>,
@@ -56,7 +55,7 @@ fn print_found<'a, A: Allocator, W: Sink>(
 {
     let status = Status::of_absent(decided.are_absent);
     if is_json {
-        let text = cases_lines(global, decided, status.number())?;
+        let text = cases_lines(alloc, decided, status.number())?;
         return print_text(text.as_bytes(), status, out);
     }
     let mut text = MemorySink::new(alloc);
@@ -68,7 +67,6 @@ fn print_found<'a, A: Allocator, W: Sink>(
 
 // Prints what is found for the question, and then keeps its certificate, where a name is given for one.
 fn decide_asked<'a, A: Allocator + Clone, F: Shelf, W: Sink>(
-    global: Global,
     alloc: A,
     asked: &AskedQuestion<'_, A>,
     decide: &DecideRequest<'a>,
@@ -81,7 +79,7 @@ fn decide_asked<'a, A: Allocator + Clone, F: Shelf, W: Sink>(
         ⊎ ((shelf.new ≡ shelf.old) × (W.state out.new ≡ W.state out.old) × (result ≡ Err OutOfMemory)) }
 {
     let decided = asked.decide_counted(decide.certificate.is_some())?;
-    print_found(global, alloc, decide.is_json, &decided, out)?;
+    print_found(alloc, decide.is_json, &decided, out)?;
     keep_found(&decided, decide.certificate, shelf)
 }
 
@@ -96,7 +94,7 @@ pub(crate) fn decide_files<'a, R, A, F, W>(
     out: &mut W,
 ) -> Result<Status, ProgramFault<'a>>
 where
-    R: AllocGlobal + Threads + Sync,
+    R: Threads + Sync,
     A: Allocator + Clone + Send + Sync,
     F: Shelf + Sync,
     W: Sink,
@@ -109,10 +107,8 @@ where
     let audit = read_logs(rt, alloc.clone()?, &names, shelf)?;
     let judged = audit.judge_on_threads(rt)?;
     match judged.ask(question.bytes()) {
-        Ok(asked) => decide_asked(rt.alloc(), alloc, &asked, decide, shelf, out),
-        Err(Refusal::No(reason)) => {
-            report_as(rt.alloc(), decide.is_json, &Answer::No(reason), out)
-        }
+        Ok(asked) => decide_asked(alloc, &asked, decide, shelf, out),
+        Err(Refusal::No(reason)) => report_as(alloc, decide.is_json, &Answer::No(reason), out),
         Err(Refusal::OutOfMemory) => Err(ProgramFault::OutOfMemory),
     }
 }

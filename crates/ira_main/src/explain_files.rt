@@ -12,7 +12,7 @@ use ira_main_cli::LogSource;
 use ira_main_files::{CountingReader, FileName, TextBuffer, TextSource};
 use ira_view::{explain_text, explain_texts, judge_texts};
 use ira_view_page::NamedText;
-use std::alloc::{Allocator, Global};
+use std::alloc::Allocator;
 use std::io::Read;
 use std::thread::Threads;
 
@@ -27,7 +27,7 @@ pub(crate) fn explain_files<'a, R, A, F, W>(
     out: &mut W,
 ) -> Result<Status, ProgramFault<'a>>
 where
-    R: AllocGlobal + Threads,
+    R: Threads,
     A: Allocator + Clone + Sync,
     F: TextSource,
     W: Sink,
@@ -38,13 +38,12 @@ where
     let files = read_named(&alloc, &names, shelf)?;
     let named = named_texts(alloc.clone()?, &files)?;
     let judged = judge_texts(rt, alloc.clone()?, &named)?;
-    let view = explain_texts(alloc, &named, &judged)?;
-    print_view(rt.alloc(), is_json, &view, out)
+    let view = explain_texts(alloc.clone()?, &named, &judged)?;
+    print_view(alloc, is_json, &view, out)
 }
 
 /// Judges the log on the input, and says why the answer is as it is.
 pub(crate) fn explain_input<'a, A: Allocator + Clone, I: Read, W: Sink>(
-    global: Global,
     alloc: A,
     is_json: bool,
     input: &mut CountingReader<I>,
@@ -62,6 +61,6 @@ pub(crate) fn explain_input<'a, A: Allocator + Clone, I: Read, W: Sink>(
         name: "-",
         text: text.bytes(),
     };
-    let view = explain_text(alloc, &named)?;
-    print_view(global, is_json, &view, out)
+    let view = explain_text(alloc.clone()?, &named)?;
+    print_view(alloc, is_json, &view, out)
 }

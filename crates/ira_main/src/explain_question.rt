@@ -26,7 +26,7 @@ pub(crate) fn explain_question_files<'a, R, A, F, W>(
     out: &mut W,
 ) -> Result<Status, ProgramFault<'a>>
 where
-    R: AllocGlobal + Threads,
+    R: Threads,
     A: Allocator + Clone + Sync,
     F: TextSource,
     W: Sink,
@@ -43,7 +43,7 @@ where
         question: &question.named(),
     };
     let view = explain_findings(alloc.clone()?, files, &judged, asked.case)?;
-    print_findings_view(rt.alloc(), alloc, is_json, &view, out)
+    print_findings_view(alloc, is_json, &view, out)
 }
 
 /// Judges the logs of this source with the question and the certificate of these files, and says why the answer is as
@@ -59,7 +59,7 @@ pub(crate) fn explain_check_files<'a, R, A, F, W>(
     out: &mut W,
 ) -> Result<Status, ProgramFault<'a>>
 where
-    R: AllocGlobal + Threads + Wait + Clock + Sync,
+    R: Threads + Wait + Clock + Sync,
     A: Allocator + Clone + Send + Sync,
     F: TextSource,
     W: Sink,
@@ -76,6 +76,6 @@ where
         logs: &named,
         question: &question.named(),
     };
-    let view = explain_certified(rt, alloc, files, &certificate.named(), &judged)?;
-    print_view(rt.alloc(), is_json, &view, out)
+    let view = explain_certified(rt, alloc.clone()?, files, &certificate.named(), &judged)?;
+    print_view(alloc, is_json, &view, out)
 }

@@ -11,7 +11,7 @@ use ira_event::{MemorySink, OutOfMemory, Sink, WriteFault, write_bytes};
 use ira_main_cli::LogSource;
 use ira_main_files::{FileName, TextSource};
 use ira_view_json::{folder_answer_line, unread_line};
-use std::alloc::{Allocator, Global};
+use std::alloc::Allocator;
 
 /// What comes of the logs in a folder.
 #[derive(Clone, Copy)]
@@ -77,7 +77,7 @@ impl<'a> FolderAnswer<'a> {
     }
 
     /// The line of JSON of what comes of the folder.
-    fn json(&self, alloc: Global, folder: &str) -> Result<String, OutOfMemory>
+    fn json<A: Allocator + Clone>(&self, alloc: A, folder: &str) -> Result<String<A>, OutOfMemory>
         requires { IsTellable self.now }
         ensures { IfOk result (λ text. IsFolderObject folder.now self.now (string_bytes text)) }
     {
@@ -87,16 +87,16 @@ impl<'a> FolderAnswer<'a> {
                 folder_answer_line(alloc, folder, answer, status)
             }
             FolderAnswer::Unread(name) => {
-                let file = name.path(alloc)?;
+                let file = name.path(alloc.clone()?)?;
                 unread_line(alloc, Some(folder), file.as_str(), Status::Refused.number())
             }
         }
     }
 
     /// Adds what is printed of the folder.
-    pub(crate) fn add_text<A: Allocator>(
+    pub(crate) fn add_text<A: Allocator + Clone>(
         &self,
-        alloc: Global,
+        alloc: A,
         is_json: bool,
         folder: &str,
         text: &mut MemorySink<A>,

@@ -104,9 +104,8 @@ where
 }
 
 /// What is printed of these folders, in their order.
-fn folder_texts<A: Allocator>(
+fn folder_texts<A: Allocator + Clone>(
     alloc: A,
-    json: Global,
     is_json: bool,
     folders: &[&str],
     answers: &[FolderAnswer<'_>],
@@ -115,9 +114,9 @@ fn folder_texts<A: Allocator>(
     requires tellable { AreTellable answers.now }
     ensures { IfOk result (λ text. AreFolderTexts is_json folders.now answers.now text.bytes) }
 {
-    let mut text = MemorySink::new(alloc);
+    let mut text = MemorySink::new(alloc.clone()?);
     for i in 0..folders.len() {
-        answers[i].add_text(json, is_json, folders[i], &mut text)?;
+        answers[i].add_text(alloc.clone()?, is_json, folders[i], &mut text)?;
     }
     Ok(text)
 }
@@ -169,7 +168,7 @@ where
     ensures { JudgesEach F.reads asked.now shelf.now (W.state out.old) (W.state out.new) result }
 {
     let answers = folder_answers(rt, &alloc, &asked.folders, shelf)?;
-    let text = folder_texts(alloc, rt.alloc(), asked.is_json, &asked.folders, &answers)?;
+    let text = folder_texts(alloc, asked.is_json, &asked.folders, &answers)?;
     let unread = unread(rt.alloc(), &answers)?;
     match write_bytes(text.bytes(), out) {
         Ok(()) if unread.is_empty() => Ok(Status::of_answers(&answers)),

@@ -61,7 +61,7 @@ fn judge_files<'a, R, A, F, W>(
     out: &mut W,
 ) -> Result<Status, ProgramFault<'a>>
 where
-    R: AllocGlobal + Threads + Sync,
+    R: Threads + Sync,
     A: Allocator + Clone + Send + Sync,
     F: Shelf + Sync,
     W: Sink,
@@ -69,9 +69,9 @@ where
         (W.state out.old) (W.state out.new) result }
 {
     let names = source_names(&alloc, &asked.logs, shelf)?;
-    let audit = read_logs(rt, alloc, &names, shelf)?;
+    let audit = read_logs(rt, alloc.clone()?, &names, shelf)?;
     let answer = audit.judge_on_threads(rt)?.answer();
-    report_as(rt.alloc(), asked.is_json, &answer, out)
+    report_as(alloc, asked.is_json, &answer, out)
 }
 
 // Judges the logs with the question and the certificate in the files that are named. The files are read in this order,
@@ -84,7 +84,7 @@ fn check_files<'a, R, A, F, W>(
     out: &mut W,
 ) -> Result<Status, ProgramFault<'a>>
 where
-    R: AllocGlobal + Threads + Wait + Clock + Sync,
+    R: Threads + Wait + Clock + Sync,
     A: Allocator + Clone + Send + Sync,
     F: Shelf + Sync,
     W: Sink,
@@ -95,11 +95,11 @@ where
     let names = source_names(&alloc, &check.logs, shelf)?;
     let question = read_file(&alloc, FileName::Given(check.question), shelf)?;
     let certificate = read_file(&alloc, FileName::Given(check.certificate), shelf)?;
-    let audit = read_logs(rt, alloc, &names, shelf)?;
+    let audit = read_logs(rt, alloc.clone()?, &names, shelf)?;
     let (question, certificate) = (question.bytes(), certificate.bytes());
     let judged = audit.judge_on_threads(rt)?;
     let answer = judged.check(rt, question, certificate, check.depth, &OpenGate)?;
-    report_as(rt.alloc(), check.is_json, &answer, out)
+    report_as(alloc, check.is_json, &answer, out)
 }
 
 /// Does what the words ask for, unless that waits: it leaves a check, the evidence of one, and a run with a thread for
@@ -132,9 +132,7 @@ where
         Request::Logs(logs) => Progress::Ended(judge_files(rt, alloc, &logs, shelf, out)),
         Request::Each(each) => Progress::Ended(judge_each(rt, alloc, &each, shelf, out)),
         Request::Explain(ExplainRequest { answer, is_json }) => match answer {
-            ExplainedAnswer::OneLog => {
-                Progress::Ended(explain_input(rt.alloc(), alloc, is_json, input, out))
-            }
+            ExplainedAnswer::OneLog => Progress::Ended(explain_input(alloc, is_json, input, out)),
             ExplainedAnswer::Logs(logs) => {
                 Progress::Ended(explain_files(rt, alloc, is_json, &logs, shelf, out))
             }
@@ -175,7 +173,7 @@ where
 // Does what the words ask for.
 fn execute<'a, R, A, I, F, W>(
     rt: &R,
-    alloc: A,
+    alloc: &A,
     words: &'a [&'a str],
     input: &mut CountingReader<I>,
     shelf: &mut F,
@@ -192,16 +190,26 @@ where
         (W.state out.old) (W.state out.new) result }
     ensures reads { input.new.reads ≤ input.old.reads + (MAX_TEXT + 1) }
 {
+    let waiting = alloc.clone()?;
     match serve_without_wait(rt, alloc.clone()?, words, input, shelf, out) {
         Progress::Ended(outcome) => outcome,
-        Progress::Check(check) => check_files(rt, alloc, &check, shelf, out),
+        Progress::Check(check) => check_files(rt, waiting, &check, shelf, out),
         Progress::ExplainCheck {
             is_json,
             question,
             certificate,
             logs,
-        } => explain_check_files(rt, alloc, is_json, question, certificate, &logs, shelf, out),
-        Progress::Run(ring) => record_run_on_threads(rt, alloc, &ring, shelf, out),
+        } => explain_check_files(
+            rt,
+            waiting,
+            is_json,
+            question,
+            certificate,
+            &logs,
+            shelf,
+            out,
+        ),
+        Progress::Run(ring) => record_run_on_threads(rt, waiting, &ring, shelf, out),
     }
 }
 
@@ -260,7 +268,7 @@ where
         × TellsUnread (wants_json (map (λ word. word.now) words.now)) outcome told (W.state out.new)
         × (result ≡ outcome_number outcome) × ReportsOutcome outcome (V.state err.old) (V.state err.new) }
 {
-    let outcome = execute(rt, alloc, words, input, shelf, out);
-    tell_unread(rt.alloc(), words, &outcome, out);
+    let outcome = execute(rt, &alloc, words, input, shelf, out);
+    tell_unread(alloc, words, &outcome, out);
     report_outcome(outcome, err)
 }

@@ -8,7 +8,7 @@ use crate::status::Status;
 use ira_audit::{Answer, write_report};
 use ira_event::{Sink, WriteFault, write_bytes};
 use ira_view_json::answer_line;
-use std::alloc::Global;
+use std::alloc::Allocator;
 
 /// Writes a text that was put together before, and gives this status.
 pub(crate) fn print_text<'a, W: Sink>(
@@ -36,8 +36,8 @@ pub(crate) fn report<'a, W: Sink>(answer: &Answer, out: &mut W) -> Result<Status
 }
 
 /// Writes the answer, as JSON where that is wanted, and gives the answer's status.
-pub(crate) fn report_as<'a, W: Sink>(
-    alloc: Global,
+pub(crate) fn report_as<'a, A: Allocator + Clone, W: Sink>(
+    alloc: A,
     is_json: bool,
     answer: &Answer,
     out: &mut W,

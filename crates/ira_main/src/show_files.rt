@@ -17,7 +17,7 @@ use ira_main_cli::{AskedLeaders, AskedMoment, ShowRequest};
 use ira_main_files::{FileName, TextBuffer, TextSource};
 use ira_view::{RingFault, ShownRing, differences, missing_leader};
 use ira_view_page::{Page, PageText};
-use std::alloc::{Allocator, Global};
+use std::alloc::Allocator;
 use std::thread::Threads;
 
 /// The text of the question whose first moment is asked for; no bytes where none is.
@@ -89,7 +89,6 @@ fn asked_differences<'a, A: Allocator + Clone>(
 
 // Shows the ring of good logs, in the files of these names, at the moment that is asked for.
 fn show_good<'a, A: Allocator + Clone, W: Sink>(
-    global: Global,
     alloc: A,
     logs: GoodLogs<A>,
     show: &ShowRequest<'a>,
@@ -105,7 +104,7 @@ fn show_good<'a, A: Allocator + Clone, W: Sink>(
     let differences = asked_differences(alloc.clone()?, &logs, &show.leads)?;
     match ring_at(alloc.clone()?, logs, &show.moment, question) {
         Ok(ring) => print_ring(alloc, &ring, &differences, names, show, out),
-        Err(RingFault::No(reason)) => report_as(global, show.is_json, &Answer::No(reason), out),
+        Err(RingFault::No(reason)) => report_as(alloc, show.is_json, &Answer::No(reason), out),
         Err(RingFault::Cut(fault)) => Err(ProgramFault::NoMoment(fault)),
         Err(RingFault::OutOfMemory) => Err(ProgramFault::OutOfMemory),
     }
@@ -121,7 +120,7 @@ pub(crate) fn show_files<'a, R, A, F, W>(
     out: &mut W,
 ) -> Result<Status, ProgramFault<'a>>
 where
-    R: AllocGlobal + Threads + Sync,
+    R: Threads + Sync,
     A: Allocator + Clone + Send + Sync,
     F: TextSource + Sync,
     W: Sink,
@@ -131,7 +130,7 @@ where
     let question = read_asked(&alloc, &show.moment, shelf)?;
     let audit = read_logs(rt, alloc.clone()?, &names, shelf)?;
     match audit.judge_on_threads(rt)?.into_good() {
-        Ok(logs) => show_good(rt.alloc(), alloc, logs, show, question.bytes(), &names, out),
-        Err(reason) => report_as(rt.alloc(), show.is_json, &Answer::No(reason), out),
+        Ok(logs) => show_good(alloc, logs, show, question.bytes(), &names, out),
+        Err(reason) => report_as(alloc, show.is_json, &Answer::No(reason), out),
     }
 }

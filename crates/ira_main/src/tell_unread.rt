@@ -9,7 +9,7 @@ use crate::status::Status;
 use ira_event::{OutOfMemory, Sink, write_bytes};
 use ira_main_files::FileName;
 use ira_view_json::unread_line;
-use std::alloc::Global;
+use std::alloc::Allocator;
 
 /// Whether the words ask for JSON: after `--` they are names.
 fn wants_json(words: &[&str]) -> bool
@@ -27,17 +27,20 @@ fn wants_json(words: &[&str]) -> bool
 }
 
 /// The line of JSON of a file that can't be read.
-fn line_of_unread(alloc: Global, name: FileName<'_>) -> Result<String, OutOfMemory>
+fn line_of_unread<A: Allocator + Clone>(
+    alloc: A,
+    name: FileName<'_>,
+) -> Result<String<A>, OutOfMemory>
     ensures { IfOk result (λ text. IsLineOf (unread_value None (file_name name.entry) 2) (string_bytes text)) }
 {
-    let file = name.path(alloc)?;
+    let file = name.path(alloc.clone()?)?;
     unread_line(alloc, None, file.as_str(), Status::Refused.number())
 }
 
 /// Prints a file that can't be read as JSON, where the words ask for that. Where memory runs out, or the output fails, the
 /// outcome stays.
-pub(crate) fn tell_unread<W: Sink>(
-    alloc: Global,
+pub(crate) fn tell_unread<A: Allocator + Clone, W: Sink>(
+    alloc: A,
     words: &[&str],
     outcome: &Result<Status, ProgramFault<'_>>,
     out: &mut W,

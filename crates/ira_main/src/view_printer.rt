@@ -11,7 +11,7 @@ use crate::status::Status;
 use ira_event::{MemorySink, Sink, WriteFault};
 use ira_view::{FindingsView, View, write_findings_view, write_view};
 use ira_view_json::{explained_findings_lines, explained_line};
-use std::alloc::{Allocator, Global};
+use std::alloc::Allocator;
 
 // The status of an answer whose line was printed with the page after it.
 fn print_page<'a, A: Allocator, W: Sink>(
@@ -29,8 +29,8 @@ fn print_page<'a, A: Allocator, W: Sink>(
 
 /// The status of an answer that was printed with why it is so, as JSON where that is wanted, or else as a page after its
 /// line.
-pub(crate) fn print_view<'a, A: Allocator, W: Sink>(
-    alloc: Global,
+pub(crate) fn print_view<'a, A: Allocator + Clone, W: Sink>(
+    alloc: A,
     is_json: bool,
     view: &View<A>,
     out: &mut W,
@@ -67,7 +67,6 @@ fn print_findings_page<'a, A: Allocator + Clone, W: Sink>(
 
 /// The status of findings that were printed, as JSON where that is wanted, or else with the page after their lines.
 pub(crate) fn print_findings_view<'a, A: Allocator + Clone, W: Sink>(
-    text: Global,
     alloc: A,
     is_json: bool,
     view: &FindingsView<A>,
@@ -80,7 +79,7 @@ pub(crate) fn print_findings_view<'a, A: Allocator + Clone, W: Sink>(
     if is_json {
         let status = Status::of_findings(&view.findings);
         let lines = explained_findings_lines(
-            text,
+            alloc,
             &view.findings,
             status.number(),
             &view.explanation,

@@ -134,3 +134,8 @@ pub returns-in_err-clone-2 : goal.returns-in_err-clone-2
 returns-in_err-clone-2 g c =
     let p = err_from_is_err_and c.from_residual-in_err-clone-2.result c.from_residual-in_err-clone-2.ensures.1 in
     inl (_, c.in_ok-names.ensures, inr (OutOfMemory, inr refl, refl, p.1 ∙ ap (λ f. Err f) p.2))
+
+pub returns-in_err-clone-3 : goal.returns-in_err-clone-3
+returns-in_err-clone-3 g c =
+    let p = err_from_is_err_and c.from_residual-in_err-clone-3.result c.from_residual-in_err-clone-3.ensures.1 in
+    inl (_, c.in_ok-names.ensures, inr (OutOfMemory, inr refl, refl, p.1 ∙ ap (λ f. Err f) p.2))

@@ -104,3 +104,6 @@ pub returns-in_err-answer : goal.returns-in_err-answer
 returns-in_err-answer g c =
     let refused = err_from_is_err_and c.from_residual-in_err-answer.result c.from_residual-in_err-answer.ensures.1 in
     inl (_, c.in_ok-names.ensures, inr (OutOfMemory, inr refl, refl, refused.1 ∙ ap (λ f. Err f) refused.2))
+
+pub returns-in_err-clone : goal.returns-in_err-clone
+returns-in_err-clone g c = inl (_, c.in_ok-names.ensures, inr (OutOfMemory, inr refl, refl, search rules))

@@ -22,6 +22,11 @@ out_of_memory A reads writes (w ∷ ws) input shelf out outcome is =
 
 pub returns-in_err-clone-clause-executed : goal.returns-in_err-clone-clause-executed
 returns-in_err-clone-clause-executed g c =
+    let p = err_from_is_err_and c.from_residual-in_err-clone.result c.from_residual-in_err-clone.ensures.1 in
+    out_of_memory _ _ _ _ _ _ _ _ (p.1 ∙ ap (λ f. Err f) p.2)
+
+pub returns-in_err-waiting-clause-executed : goal.returns-in_err-waiting-clause-executed
+returns-in_err-waiting-clause-executed g c =
     let p = err_from_is_err_and c.from_residual.result c.from_residual.ensures.1 in
     out_of_memory _ _ _ _ _ _ _ _ (p.1 ∙ ap (λ f. Err f) p.2)
 

@@ -38,3 +38,6 @@ returns-in_err-audit g c =
 
 pub returns-in_err-judge_on_threads : goal.returns-in_err-judge_on_threads
 returns-in_err-judge_on_threads g c = inl (_, c.in_ok-names.ensures, inr (OutOfMemory, inr refl, refl, search rules))
+
+pub returns-in_err-clone : goal.returns-in_err-clone
+returns-in_err-clone g c = inl (_, c.in_ok-names.ensures, inr (OutOfMemory, inr refl, refl, search rules))
