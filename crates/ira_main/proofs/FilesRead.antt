@@ -7,7 +7,8 @@ use Rattle.ira_main_files.specs.FileName.{file_name}
 use Rattle.ira_main_files.specs.Shelf.{Reading}
 use Rattle.ira_main_files.specs.declared.file_name.FileName.{FileName}
 use Rattle.ira_main_files.specs.declared.shelf_fault.ShelfFault.{ShelfFault}
-use Rattle.ira_main.proofs.PartsAt.{parts_at, take_next}
+use Rattle.ira_audit.proofs.LogTexts.{next_taken}
+use Rattle.ira_main.proofs.PartsAt.{parts_at}
 use Rattle.ira_main.specs.FilesRead.{HasTakenFiles, IsFilesFault, ReadsFiles, names_of}
 use Rattle.ira_main.specs.ProgramFault.{read_fault}
 use Rattle.ira_main.specs.declared.program_fault.ProgramFault.{ProgramFault}
@@ -74,7 +75,7 @@ pub reads_next : {S : Type 0} (reads : Reading S) (names : List (List ℕ)) (i :
     → reads shelf name (Ok text) → ReadsFiles reads (take (i + 1) names) shelf (texts ++ text ∷ [])
 reads_next reads names i name shelf texts text at before read =
     let both = reads_both reads (take i names) (name ∷ []) shelf texts (text ∷ []) before (read, tt) in
-    subst (λ ns. ReadsFiles reads ns shelf (texts ++ text ∷ [])) (sym (take_next names i name at)) both
+    subst (λ ns. ReadsFiles reads ns shelf (texts ++ text ∷ [])) (next_taken names i name at) both
 
 -- the texts of the files of the names up to an index were taken, and then that of the one there
 pub taken_next : {S : Type 0} (reads : Reading S) (names : List (List ℕ)) (i : ℕ) (name : List ℕ) (shelf : S)

@@ -1,11 +1,11 @@
 -- Logs that are written to files, one after the other.
-use Rattle.std.proofs.Common.{◌≡◌, ℕ, ◌+◌, List, [], ◌∷◌, ◌++◌, Ok, Some, refl, subst, sym, take}
+use Rattle.std.proofs.Common.{◌≡◌, ℕ, ◌+◌, List, [], ◌∷◌, ◌++◌, Ok, Some, refl, subst, take}
 use Rattle.std.specs.Prelude.{slice_get}
 use Rattle.ira_event.specs.Log.{Log}
 use Rattle.ira_event.specs.LogText.{log_text}
 use Rattle.ira_main_files.specs.FileName.{log_name}
 use Rattle.ira_main_files.specs.Shelf.{Writing}
-use Rattle.ira_main.proofs.PartsAt.{take_next}
+use Rattle.ira_audit.proofs.LogTexts.{next_taken}
 use Rattle.ira_main.specs.LogFiles.{WritesLogs}
 
 -- one log more was written
@@ -22,5 +22,5 @@ pub written_next : {S : Type 0} (writes : Writing S) (folder : List ℕ) (logs :
     → slice_get logs i ≡ Some log → WritesLogs writes folder (take i logs) a b
     → writes (log_name folder log.place) (log_text log) b c (Ok tt) → WritesLogs writes folder (take (i + 1) logs) a c
 written_next writes folder logs i log a b c at before wrote =
-    subst (λ xs. WritesLogs writes folder xs a c) (sym (take_next logs i log at))
+    subst (λ xs. WritesLogs writes folder xs a c) (next_taken logs i log at)
     (written_more writes folder (take i logs) log a b c before wrote)

@@ -6,7 +6,7 @@ use Rattle.ira_view_page.specs.declared.named_text.NamedText.{NamedText}
 use Rattle.ira_main_files.specs.Shelf.{Reading}
 use Rattle.ira_view.specs.Texts.{AreFiles}
 use Rattle.ira_main.proofs.FilesRead.{reads_next}
-use Rattle.ira_main.proofs.PartsAt.{take_next}
+use Rattle.ira_audit.proofs.LogTexts.{next_taken}
 use Rattle.ira_main.specs.FilesRead.{ReadsFiles}
 use Rattle.ira_main.specs.NamedFile.{AreRead, names_in, texts_in}
 use Rattle.ira_main.specs.declared.named_file.NamedFile.{NamedFile}
@@ -21,7 +21,7 @@ read_next {A} reads names i name shelf files all file at before named read is =
     let t : NamedFile A → List ℕ = λ file. file.text.items in
     subst (λ fs. AreRead reads (take (i + 1) names) shelf fs) (sym is) (record {
       named = map-append f files (file ∷ []) ∙ ap (λ ns. ns ++ string_bytes file.name ∷ []) before.named
-          ∙ ap (λ n. take i names ++ n ∷ []) named ∙ sym (take_next names i name at);
+          ∙ ap (λ n. take i names ++ n ∷ []) named ∙ next_taken names i name at;
       given = subst (ReadsFiles reads (take (i + 1) names) shelf) (sym (map-append t files (file ∷ [])))
           (reads_next reads names i name shelf (texts_in files) file.text.items at before.given read);
     })
@@ -37,17 +37,17 @@ named_next {A} files i file named all next at before name text is =
     let t : NamedText → List ℕ = λ f. f.text.now in
     let name_of : NamedFile A → List ℕ = λ f. string_bytes f.name in
     let text_of : NamedFile A → List ℕ = λ f. f.text.items in
-    let taken = take_next files i file at in record {
+    let taken = next_taken files i file at in record {
       names_are = ap (map n) is ∙ map-append n named (next ∷ [])
           ∙ ap (λ ns. ns ++ next.name.now ∷ []) before.names_are
           ∙ ap (λ m. names_in (take i files) ++ m ∷ []) name
           ∙ sym (map-append name_of (take i files) (file ∷ []))
-          ∙ ap (λ (fs : List (NamedFile A)). names_in fs) (sym taken);
+          ∙ ap (λ (fs : List (NamedFile A)). names_in fs) taken;
       texts_are = ap (map t) is ∙ map-append t named (next ∷ [])
           ∙ ap (λ ts. ts ++ next.text.now ∷ []) before.texts_are
           ∙ ap (λ m. texts_in (take i files) ++ m ∷ []) text
           ∙ sym (map-append text_of (take i files) (file ∷ []))
-          ∙ ap (λ (fs : List (NamedFile A)). texts_in fs) (sym taken);
+          ∙ ap (λ (fs : List (NamedFile A)). texts_in fs) taken;
     }
 
 -- what is handed on of files that were read has their names and texts

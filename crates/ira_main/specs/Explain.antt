@@ -9,7 +9,7 @@ use Rattle.ira_view_page.specs.declared.named_text.NamedText.{NamedText}
 use Rattle.ira_view_json.specs.ExplainedFindings.{explained_findings}
 use Rattle.ira_view_json.specs.Line.{AreLinesOf}
 use Rattle.ira_view.specs.Explained.{IsCheckExplanation, IsExplanation, IsFindingsExplanation, IsLogExplanation}
-use Rattle.ira_view.specs.Explained.{OfAsked, OfJudged}
+use Rattle.ira_view.specs.Explained.{OfAsked, OfCertified, OfJudged}
 use Rattle.ira_main_cli.specs.declared.case_selection.CaseSelection.{CaseSelection}
 use Rattle.ira_main.specs.Outcome.{ExplainsAs, Outcome, Prints, Telling}
 use Rattle.ira_main.specs.Status.{IsFindingsStatus, status_number}
@@ -30,11 +30,12 @@ ExplainsLogs A is_json names texts answer out out' outcome =
     × OfJudged A names texts (λ files judged. IsExplanation files judged explanation)
     × ExplainsAs explanation is_json answer out out' outcome
 
--- the same of an answer to a question, in the file of this name, with a certificate
-abbrev pub ExplainsCheck : Type 0 → Bool → List ℕ → List (List ℕ) → List ℕ → List (List ℕ) → Telling
-ExplainsCheck A is_json asked names question texts answer out out' outcome =
+-- the same of an answer with a question and a certificate, in the files of these names
+abbrev pub ExplainsCheck : Type 0 → Bool → List ℕ → List ℕ → List (List ℕ) → List ℕ → List ℕ → List (List ℕ) → Telling
+ExplainsCheck A is_json asked certified names question certificate texts answer out out' outcome =
     (explanation : Explanation A)
-    × OfAsked A asked names question texts (λ files judged. IsCheckExplanation files judged explanation)
+    × OfCertified A asked certified names question certificate texts
+    (λ files file judged. IsCheckExplanation files file judged answer explanation)
     × ExplainsAs explanation is_json answer out out' outcome
 
 -- the text that is printed of findings that are explained: as JSON with what they rest on, where that is wanted; or

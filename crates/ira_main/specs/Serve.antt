@@ -94,7 +94,7 @@ check_names asked certified names = asked ∷ certified ∷ names_of names
 
 -- the files of a question, a certificate and logs were read, the texts of the logs were judged together with the text
 -- of the question and the text of the certificate, and their answer told; after a yes no case of the question is met
-pub record CheckOutcome (Tells : List (List ℕ) → List ℕ → List (List ℕ) → Telling) {S : Type 0} (reads : Reading S)
+pub record CheckOutcome (Tells : List (List ℕ) → List ℕ → List ℕ → List (List ℕ) → Telling) {S : Type 0} (reads : Reading S)
     (asked certified : List ℕ) (names : List FileName) (shelf : S) (out out' : SinkState) (outcome : Outcome)
     : Type 0 where
   pub question : List ℕ
@@ -104,11 +104,11 @@ pub record CheckOutcome (Tells : List (List ℕ) → List ℕ → List (List ℕ
   pub answer : Answer
   pub judged : IsCheckAnswer texts question certificate answer
   pub never : answer ≡ audit.Yes → NoCaseIsMet texts question certificate
-  pub told : Tells (names_of names) question texts answer out out' outcome
+  pub told : Tells (names_of names) question certificate texts answer out out' outcome
 
 -- the logs of a source were judged with a question and a certificate, and their answer told; or no answer is given
-abbrev pub JudgesCheck : (List (List ℕ) → List ℕ → List (List ℕ) → Telling) → {S : Type 0} → Reading S → List ℕ → List ℕ
-    → LogSource → S → SinkState → SinkState → Outcome → Type 0
+abbrev pub JudgesCheck : (List (List ℕ) → List ℕ → List ℕ → List (List ℕ) → Telling) → {S : Type 0} → Reading S → List ℕ
+    → List ℕ → LogSource → S → SinkState → SinkState → Outcome → Type 0
 JudgesCheck Tells reads asked certified source shelf out out' outcome =
     OfSource reads source shelf shelf out out' outcome (λ names.
     CheckOutcome Tells reads asked certified names shelf out out' outcome
@@ -140,7 +140,8 @@ ExplainsAnswer A is_json reads (Logs source) shelf out out' outcome =
 ExplainsAnswer A is_json reads (Findings asked source) shelf out out' outcome =
     ExplainsQuestion A is_json reads asked source shelf out out' outcome
 ExplainsAnswer A is_json reads (Certificate question certificate source) shelf out out' outcome =
-    JudgesCheck (ExplainsCheck A is_json question.now) reads question.now certificate.now source shelf out out' outcome
+    JudgesCheck (ExplainsCheck A is_json question.now certificate.now) reads question.now certificate.now source shelf out
+    out' outcome
 
 -- the question whether two nodes of a ring of so many ever lead at once was printed
 pub record AsksPairs (nodes : ℕ) (out out' : SinkState) (outcome : Outcome) : Type 0 where
@@ -205,7 +206,7 @@ pub data CommandOutcome (A : Type 0) {S : Type 0} (reads : Reading S) (writes : 
   drawn : (draw : DrawRequest) → IsDrawLine words draw → DrawsLogs A reads writes draw shelf shelf' out out' outcome
       → CommandOutcome A reads writes words shelf shelf' out out' outcome
   certified : (check : CheckRequest) → IsCheckLine words check → shelf' ≡ shelf
-      → JudgesCheck (λ _ _ _. ReportsAs check.is_json) reads check.question.now check.certificate.now check.logs shelf
+      → JudgesCheck (λ _ _ _ _. ReportsAs check.is_json) reads check.question.now check.certificate.now check.logs shelf
       out out' outcome
       → CommandOutcome A reads writes words shelf shelf' out out' outcome
   decided : (decide : DecideRequest) → IsDecideLine words decide

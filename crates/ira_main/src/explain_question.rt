@@ -63,8 +63,8 @@ where
     A: Allocator + Clone + Send + Sync,
     F: TextSource,
     W: Sink,
-    ensures { JudgesCheck (ExplainsCheck A is_json question.now) F.reads question.now certificate.now source.now
-        shelf.now (W.state out.old) (W.state out.new) result }
+    ensures { JudgesCheck (ExplainsCheck A is_json question.now certificate.now) F.reads question.now
+        certificate.now source.now shelf.now (W.state out.old) (W.state out.new) result }
 {
     let names = source_names(&alloc, source, shelf)?;
     let question = NamedFile::read(&alloc, FileName::Given(question), shelf)?;

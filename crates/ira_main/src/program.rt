@@ -89,7 +89,7 @@ where
     F: Shelf + Sync,
     W: Sink,
     requires depth { check.now.depth ≤ 4 }
-    ensures { JudgesCheck (λ _ _ _. ReportsAs check.now.is_json) F.reads check.now.question.now
+    ensures { JudgesCheck (λ _ _ _ _. ReportsAs check.now.is_json) F.reads check.now.question.now
         check.now.certificate.now check.now.logs shelf.now (W.state out.old) (W.state out.new) result }
 {
     let names = source_names(&alloc, &check.logs, shelf)?;

@@ -1,5 +1,6 @@
 -- What is found for a question that is asked of the ring of logs.
 use Rattle.std.proofs.Common.{◌≡◌, ℕ, List, Err, IfOk, Ok, Option, Result, Some, subst}
+use Rattle.ira_cert_text.specs.Certificate.{Certificate}
 use Rattle.ira_audit.proofs.NeverMet.{no_case}
 use Rattle.ira_audit.specs.AskedQuestion.{AreFoundOf, AskedQuestion}
 use Rattle.ira_audit.specs.CheckAnswer.{IsCheckAnswer}
@@ -14,9 +15,10 @@ use Rattle.ira_audit.specs.declared.judged.Judged.{Judged}
 use Rattle.ira_view_explain.specs.Counts.{counts}
 use Rattle.ira_view_explain_question.specs.Explanation.{AreFindingsExplained}
 use Rattle.ira_view_explain_question.specs.declared.asked_files.AskedFiles.{AskedFiles}
-use Rattle.ira_view.specs.Explained.{IsAsked, IsCheckExplanation, IsFindingsExplanation}
-use Rattle.ira_view.specs.Explained.IsCheckExplanation.{of_asked as of_check}
-use Rattle.ira_view.specs.Explained.IsFindingsExplanation.{of_asked as of_findings}
+use Rattle.ira_view_page.specs.declared.named_text.NamedText.{NamedText}
+use Rattle.ira_view.specs.Explained.{IsAsked, IsCheckExplanation, IsFindingsExplanation, IsPosed, IsSectionsExplanation}
+use Rattle.ira_view.specs.Explained.IsCheckExplanation.{of_sections}
+use Rattle.ira_view.specs.Explained.IsFindingsExplanation.{of_asked}
 use Rattle.ira_view.specs.declared.findings_view.FindingsView.{FindingsView}
 use Rattle.ira_view.specs.declared.view.View.{View}
 
@@ -39,13 +41,15 @@ pub findings_explained : {A E : Type 0} (files : AskedFiles) (judged : Judged A)
     (asked : AskedQuestion) (r : Result (FindingsView A) E) → IsAsked files asked
     → IfOk r (λ view. AreFindingsExplained files asked view.findings case view.explanation)
     → IfOk r (λ view. IsFindingsExplanation files judged case view.findings view.explanation)
-findings_explained files judged case asked (Ok view) fits explained = of_findings asked fits explained
+findings_explained files judged case asked (Ok view) fits explained = of_asked asked fits explained
 findings_explained files judged case asked (Err f) fits explained = tt
 
--- so is the answer to one with a certificate
-pub check_explained : {A E : Type 0} (files : AskedFiles) (judged : Judged A) (asked : AskedQuestion)
-    (r : Result (View A) E) → IsAsked files asked
-    → IfOk r (λ view. view.explanation.ring ≡ Some (counts asked.logs))
-    → IfOk r (λ view. IsCheckExplanation files judged view.explanation)
-check_explained files judged asked (Ok view) fits ring = of_check asked fits ring
-check_explained files judged asked (Err f) fits ring = tt
+-- so is the answer to one with a certificate for its ring
+pub check_explained : {A E : Type 0} (files : AskedFiles) (certificate : NamedText) (judged : Judged A)
+    (asked : AskedQuestion) (read : Certificate) (r : Result (View A) E)
+    → IsPosed files certificate.text.now asked read → IfOk r (λ view. view.explanation.ring ≡ Some (counts asked.logs))
+    → IfOk r (λ view.
+    IsSectionsExplanation files asked certificate.name.now read.sections view.answer view.explanation)
+    → IfOk r (λ view. IsCheckExplanation files certificate judged view.answer view.explanation)
+check_explained files certificate judged asked read (Ok view) posed ring why = of_sections asked read posed ring why
+check_explained files certificate judged asked read (Err f) posed ring why = tt

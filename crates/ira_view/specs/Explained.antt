@@ -1,9 +1,14 @@
 -- What is told of texts beside their answer.
-use Rattle.std.specs.Prelude.{◌≡◌, ℕ, List, [], ◌∷◌, None, Option, Some}
+use Rattle.std.specs.Prelude.{◌≡◌, ℕ, List, [], ◌∷◌, None, Option, Some, length}
+use Rattle.ira_cert_text.specs.Certificate.{Certificate, Section}
+use Rattle.ira_cert_text.specs.CertText.{IsCertText}
 use Rattle.ira_audit.specs.AskedQuestion.{AskedQuestion}
+use Rattle.ira_audit.specs.CheckAnswer.{AreSound}
 use Rattle.ira_audit.specs.Judged.{IsJudged}
 use Rattle.ira_audit.specs.QuestionFitsLogs.{QuestionFitsLogs}
+use Rattle.ira_audit.specs.Refusal.{IsCertificateRefusal, IsFindingsReason, IsSectionsRefusal}
 use Rattle.ira_audit.specs.declared.answer.Answer.{Answer}
+use Rattle.ira_audit.specs.declared.answer.Answer.TheVariants.{No, Yes}
 use Rattle.ira_audit.specs.declared.findings.Findings.{Findings}
 use Rattle.ira_audit.specs.declared.findings.Findings.TheVariants.{Refused}
 use Rattle.ira_audit.specs.declared.judged.Judged.{Judged}
@@ -14,7 +19,8 @@ use Rattle.ira_view_explain.specs.Counts.{counts, ring_of}
 use Rattle.ira_view_explain.specs.LogTold.{IsLogTold}
 use Rattle.ira_view_explain.specs.Refused.{IsTold}
 use Rattle.ira_view_explain_question.specs.declared.asked_files.AskedFiles.{AskedFiles}
-use Rattle.ira_view_explain_question.specs.Explanation.{AreFindingsExplained, IsRefusalTold}
+use Rattle.ira_view_explain_question.specs.Explanation.{AreFindingsExplained, IsNoCertificateExplained}
+use Rattle.ira_view_explain_question.specs.Explanation.{IsNotAskedExplained, IsUnsoundExplained}
 use Rattle.ira_view.specs.Texts.{AreFiles, texts_of}
 
 -- of the text of one log alone, which has this answer: the evidence for it
@@ -29,11 +35,11 @@ pub record IsExplanation {A : Type 0} (files : List NamedText) (judged : Judged 
   pub ring : explanation.ring ≡ ring_of judged
   pub told : IsTold files judged explanation.state_before explanation.evidence.items
 
--- the same of texts for which a question isn't asked; where they are good, the evidence is left open
-pub record IsRefusal {A : Type 0} (files : List NamedText) (judged : Judged A) (explanation : Explanation A)
-    : Type 0 where
+-- the same of texts for which a question isn't asked, for this reason: by the question's file where the logs are good
+pub record IsRefusal {A : Type 0} (files : AskedFiles) (judged : Judged A) (reason : Reason)
+    (explanation : Explanation A) : Type 0 where
   pub ring : explanation.ring ≡ ring_of judged
-  pub told : IsRefusalTold files judged explanation
+  pub why : IsNotAskedExplained files judged reason explanation
 
 -- this is the question in its file, as it is asked of the logs in theirs
 abbrev pub IsAsked : AskedFiles → AskedQuestion → Type 0
@@ -48,16 +54,42 @@ pub data IsFindingsExplanation {A : Type 0} (files : AskedFiles) (judged : Judge
       → AreFindingsExplained files asked findings case explanation
       → IsFindingsExplanation files judged case findings explanation
   not_asked :
-      (reason : Reason) → findings ≡ Refused reason → IsRefusal files.logs.now judged explanation
+      (reason : Reason) → findings ≡ Refused reason → IsRefusal files judged reason explanation
       → IsFindingsExplanation files judged case findings explanation
 
--- of an answer with a certificate: where the question is asked of the texts, how many nodes and events there are
-pub data IsCheckExplanation {A : Type 0} (files : AskedFiles) (judged : Judged A) (explanation : Explanation A)
-    : Type 0 where
-  of_asked :
-      (asked : AskedQuestion) → IsAsked files asked → explanation.ring ≡ Some (counts asked.logs)
-      → IsCheckExplanation files judged explanation
-  not_asked : IsRefusal files.logs.now judged explanation → IsCheckExplanation files judged explanation
+-- the question in its file is asked of the ring of the logs, and this is the certificate of a text for that ring
+abbrev pub IsPosed : AskedFiles → List ℕ → AskedQuestion → Certificate → Type 0
+IsPosed files certificate asked read =
+    IsAsked files asked × IsCertText certificate read × (read.nodes ≡ length asked.logs)
+
+-- of the answer for the sections of a certificate's file of this name: nothing where they are sound, else why they aren't
+abbrev pub IsSectionsExplanation : {A : Type 0} → AskedFiles → AskedQuestion → List ℕ → List Section → Answer
+    → Explanation A → Type 0
+IsSectionsExplanation files asked file sections Yes explanation =
+    AreSound asked.logs asked.question.cases sections × (explanation.state_before ≡ None)
+    × (explanation.evidence.items ≡ [])
+IsSectionsExplanation files asked file sections (No reason) explanation =
+    IsSectionsRefusal asked.logs asked.question.cases sections reason
+    × IsUnsoundExplained files asked file sections reason explanation
+
+-- of an answer with a certificate: what comes of its sections, or why it is none for the ring of the question, or why the
+-- question isn't asked of the texts
+pub data IsCheckExplanation {A : Type 0} (files : AskedFiles) (certificate : NamedText) (judged : Judged A)
+    (answer : Answer) (explanation : Explanation A) : Type 0 where
+  of_sections :
+      (asked : AskedQuestion) (read : Certificate) → IsPosed files certificate.text.now asked read
+      → explanation.ring ≡ Some (counts asked.logs)
+      → IsSectionsExplanation files asked certificate.name.now read.sections answer explanation
+      → IsCheckExplanation files certificate judged answer explanation
+  no_certificate :
+      (asked : AskedQuestion) (reason : Reason) → IsAsked files asked
+      → IsCertificateRefusal certificate.text.now (length asked.logs) reason → answer ≡ No reason
+      → explanation.ring ≡ Some (counts asked.logs) → IsNoCertificateExplained certificate reason explanation
+      → IsCheckExplanation files certificate judged answer explanation
+  not_asked :
+      (reason : Reason) → IsFindingsReason (texts_of files.logs.now) files.question.now.text.now reason
+      → answer ≡ No reason → IsRefusal files judged reason explanation
+      → IsCheckExplanation files certificate judged answer explanation
 
 -- the files have these names and texts, the texts are judged, and this holds of both
 abbrev pub OfJudged : (A : Type 0) → List (List ℕ) → List (List ℕ) → (List NamedText → Judged A → Type 0) → Type 0
@@ -71,3 +103,10 @@ abbrev pub OfAsked : (A : Type 0) → List ℕ → List (List ℕ) → List ℕ 
 OfAsked A asked names question texts Holds =
     (files : AskedFiles) × (judged : Judged A) × AreFiles names texts files.logs.now × IsJudged texts judged
     × AreFiles (asked ∷ []) (question ∷ []) (files.question.now ∷ []) × Holds files judged
+
+-- the same with a certificate too
+abbrev pub OfCertified : (A : Type 0) → List ℕ → List ℕ → List (List ℕ) → List ℕ → List ℕ → List (List ℕ)
+    → (AskedFiles → NamedText → Judged A → Type 0) → Type 0
+OfCertified A asked certified names question certificate texts Holds =
+    (file : NamedText) × AreFiles (certified ∷ []) (certificate ∷ []) (file ∷ [])
+    × OfAsked A asked names question texts (λ files judged. Holds files file judged)

@@ -1,11 +1,10 @@
-ghost use Rattle.std.specs.Prelude.{◌≡◌, IfOk, Some, length};
+ghost use Rattle.std.specs.Prelude.{◌≡◌, IfOk, Some};
 ghost use Rattle.ira_audit.specs.CheckAnswer.{AreSound, IsCheckAnswer};
 ghost use Rattle.ira_audit.specs.Judged.{IsJudged};
 ghost use Rattle.ira_audit.specs.Refusal.{IsSectionsRefusal, MatchRefusal};
 ghost use Rattle.ira_audit.specs.Report.{IsReportable};
-ghost use Rattle.ira_cert_text.specs.CertText.{IsCertText};
 ghost use Rattle.ira_view_explain.specs.Counts.{counts};
-ghost use Rattle.ira_view.specs.Explained.{IsAsked};
+ghost use Rattle.ira_view.specs.Explained.{IsPosed, IsSectionsExplanation};
 ghost use Rattle.ira_view.specs.PosedCheck.{IsPosedCheck};
 ghost use Rattle.ira_view.specs.Texts.{texts_of};
 
@@ -39,7 +38,7 @@ pub fn pose_check<'j, A: Allocator + Clone>(
     judged: &'j Judged<A>,
 ) -> Result<PosedCheck<'j, A>, OutOfMemory>
     requires { IsJudged (texts_of files.logs.now) judged.now }
-    ensures { IfOk result (IsPosedCheck files.entry certificate.now.text.now judged.now) }
+    ensures { IfOk result (IsPosedCheck files.entry certificate.now judged.now) }
 {
     let asked = match judged.ask(files.question.text) {
         Ok(asked) => asked,
@@ -70,14 +69,15 @@ pub fn explain_checked<A: Allocator + Clone>(
     read: &Certificate<A>,
     checked: Result<(), Refusal>,
 ) -> Result<View<A>, OutOfMemory>
-    requires asked { IsAsked files asked.now }
-    requires read { IsCertText certificate.now.text.now read.now × (read.now.nodes ≡ length asked.now.logs) }
+    requires posed { IsPosed files certificate.now.text.now asked.now read.now }
     requires checked { MatchRefusal checked (λ _. AreSound asked.now.logs asked.now.question.cases read.now.sections)
         (IsSectionsRefusal asked.now.logs asked.now.question.cases read.now.sections) }
     ensures answer { IfOk result (λ view. IsCheckAnswer (texts_of files.entry.logs.now)
         files.entry.question.now.text.now certificate.now.text.now view.answer) }
     ensures reportable { IfOk result (λ view. IsReportable view.answer) }
     ensures ring { IfOk result (λ view. view.explanation.ring ≡ Some (counts asked.now.logs)) }
+    ensures explained { IfOk result (λ view. IsSectionsExplanation files.entry asked.now certificate.now.name.now
+        read.now.sections view.answer view.explanation) }
 {
     match checked {
         Ok(()) => Ok(View {

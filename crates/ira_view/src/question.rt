@@ -94,7 +94,8 @@ where
     ensures reportable { IfOk result (λ view. IsReportable view.answer) }
     ensures never { IfOk result (λ view. view.answer ≡ Yes → NoCaseIsMet (texts_of files.entry.logs.now)
         files.entry.question.now.text.now certificate.now.text.now) }
-    ensures explained { IfOk result (λ view. IsCheckExplanation files.entry judged.now view.explanation) }
+    ensures explained { IfOk result (λ view.
+        IsCheckExplanation files.entry certificate.now judged.now view.answer view.explanation) }
 {
     match pose_check(alloc.clone()?, files, certificate, judged)? {
         PosedCheck::Posed { asked, read } => {

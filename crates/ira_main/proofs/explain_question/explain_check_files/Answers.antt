@@ -23,6 +23,7 @@ returns g c =
     c.in_ok-judged.ensures in
     let named = c.named.ensures.name ∙ c.in_ok-question.ensures.named in
     let asked : c.named.result.text.now ≡ c.in_ok-question.question.text.items = c.named.ensures.text in
+    let certifying = c.named-2.ensures.name ∙ c.in_ok-certificate.ensures.named in
     let certified : c.named-2.result.text.now ≡ c.in_ok-certificate.certificate.text.items = c.named-2.ensures.text in
     elim c.print_view.ensures [
       | inl told ↦
@@ -40,6 +41,8 @@ returns g c =
               told = (
                 view.explanation,
                 (
+                  c.named-2.result,
+                  record { names_are = ap (λ n. n ∷ []) certifying; texts_are = ap (λ t. t ∷ []) certified },
                   _,
                   c.in_ok-judged.judged,
                   files,

@@ -1,7 +1,7 @@
 use Rattle.std.proofs.Common.{refl}
 use Rattle.ira_audit.proofs.RefusedTexts.{certificate_reason}
 use Rattle.ira_audit.specs.CheckAnswer.{not_posed}
-use Rattle.ira_view.specs.Explained.IsCheckExplanation.{not_asked, of_asked}
+use Rattle.ira_view.specs.Explained.IsCheckExplanation.{no_certificate, not_asked}
 use Rattle.ira_view.specs.Texts.{texts_of}
 use Rattle.ira_view.proofs.posed_check.pose_check.Goals as goal
 
@@ -14,9 +14,9 @@ returns-in-Err-No g c =
     let why = rw c.in-Err-No.field-0-is at (c.in-Err-No.ensures (texts_of c.args.files.logs.now) c.requires) in (
       not_posed c.in-Err-No.reason why.0 refl,
       why.1,
-      not_asked (record {
+      not_asked c.in-Err-No.reason why refl (record {
         ring = c.in_ok-explain_not_asked-in-Err-No.ensures.ring;
-        told = c.in_ok-explain_not_asked-in-Err-No.ensures.told;
+        why = c.in_ok-explain_not_asked-in-Err-No.ensures.why;
       }),
     )
 
@@ -29,7 +29,11 @@ pub returns-in-Err-No-read_certificate : goal.returns-in-Err-No-read_certificate
 returns-in-Err-No-read_certificate g c =
     let posed = c.in-Ok.asked in
     let fits = c.in-Ok.ensures (texts_of c.args.files.logs.now) c.requires in
-    let why = certificate_reason (texts_of c.args.files.logs.now) c.args.files.question.now.text.now
-    c.args.certificate.now.text.now posed.logs posed.question fits c.in-Err-No-read_certificate.reason
-    (rw c.in-Err-No-read_certificate.field-0-is at c.in-Err-No-read_certificate.ensures) in
-    (why.0, why.1, of_asked posed fits c.in_ok-explain_no_certificate-in-Err-No-read_certificate.ensures.ring)
+    let why = rw c.in-Err-No-read_certificate.field-0-is at c.in-Err-No-read_certificate.ensures in
+    let judged = certificate_reason (texts_of c.args.files.logs.now) c.args.files.question.now.text.now
+    c.args.certificate.now.text.now posed.logs posed.question fits c.in-Err-No-read_certificate.reason why in
+    let explained = c.in_ok-explain_no_certificate-in-Err-No-read_certificate.ensures in (
+      judged.0,
+      judged.1,
+      no_certificate posed c.in-Err-No-read_certificate.reason fits why refl explained.ring explained.told,
+    )

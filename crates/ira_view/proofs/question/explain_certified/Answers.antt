@@ -7,12 +7,8 @@ use Rattle.ira_audit.specs.declared.answer.Answer.{Answer}
 use Rattle.std.proofs.Common.{subst}
 use Rattle.ira_view.proofs.question.explain_certified.Goals as goal
 
-pub explain_checked-requires-clause-asked : goal.explain_checked-requires-clause-asked
-explain_checked-requires-clause-asked g c = (rw c.in-Posed.is at c.in_ok-asked.ensures).0
-
-pub explain_checked-requires-clause-read : goal.explain_checked-requires-clause-read
-explain_checked-requires-clause-read g c =
-    let posed = rw c.in-Posed.is at c.in_ok-asked.ensures in (posed.1, posed.2)
+pub explain_checked-requires-clause-posed : goal.explain_checked-requires-clause-posed
+explain_checked-requires-clause-posed g c = rw c.in-Posed.is at c.in_ok-asked.ensures
 
 pub returns-in-Posed : goal.returns-in-Posed
 returns-in-Posed g c =
@@ -24,8 +20,8 @@ returns-in-Posed g c =
       never = never_met (λ (view : View g.row.A.Denot). view.answer) (texts_of files.logs.now)
           files.question.now.text.now c.args.certificate.now.text.now c.explain_checked.result
           c.explain_checked.ensures.answer;
-      explained = check_explained files c.args.judged.now c.in-Posed.asked c.explain_checked.result posed.0
-          c.explain_checked.ensures.ring;
+      explained = check_explained files c.args.certificate.now c.args.judged.now c.in-Posed.asked c.in-Posed.read
+          c.explain_checked.result posed c.explain_checked.ensures.ring c.explain_checked.ensures.explained;
     }
 
 pub returns-in-Refused : goal.returns-in-Refused

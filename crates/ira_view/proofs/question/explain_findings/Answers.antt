@@ -32,5 +32,5 @@ pub returns-in_ok-explanation-in-Err-No-clause-explained : goal.returns-in_ok-ex
 returns-in_ok-explanation-in-Err-No-clause-explained g c =
     not_asked _ refl (record {
       ring = c.in_ok-explanation-in-Err-No.ensures.ring;
-      told = c.in_ok-explanation-in-Err-No.ensures.told;
+      why = c.in_ok-explanation-in-Err-No.ensures.why;
     })
