@@ -12,8 +12,8 @@ use Rattle.ira_main_files.specs.Shelf.{Writing}
 use Rattle.ira_view_picture.specs.DrawFault.{HasTooManyEvents}
 use Rattle.ira_view_picture.specs.declared.draw_fault.DrawFault.{DrawFault}
 use Rattle.ira_view_picture.specs.declared.draw_fault.DrawFault.TheVariants as draw
-use Rattle.ira_view_html.specs.HtmlPage.{IsHtmlPage}
 use Rattle.ira_view_page.specs.Printable.{IsPrintable}
+use Rattle.ira_view.specs.Html.{IsHtmlOf}
 use Rattle.ira_view.specs.ShownRing.{HasTooManyAt, ShownRing}
 use Rattle.ira_main_cli.specs.declared.draw_request.DrawRequest.{DrawRequest}
 use Rattle.ira_main.specs.Draw.{IsDrawn, IsDrawnAs, IsRefusalDrawn, IsRingDrawn, PrintsDrawn, TellsDrawn, names_page}
@@ -43,30 +43,25 @@ module _ (A : Type 0) {S : Type 0} (writes : Writing S) (names texts : List (Lis
 
   -- refused ones
   pub refused_drawn : (logs : RefusedLogs) (r : Result (List ℕ) DrawFault) → AreLogTexts texts logs.logs
-      → AreRefused logs → IfOk r (IsRefusalDrawn A request names texts logs.logs logs.reason)
+      → AreRefused logs → IfOk r (IsRefusalDrawn A request names texts logs)
       → ((events : ℕ) → r ≡ Err (draw.TooManyEvents events)
       → HasTooManyEvents logs.logs None request.from request.to events)
       → MatchResult r (λ page. PrintsDrawn writes (No logs.reason) page request.picture shelf shelf' out out' outcome)
       (λ f. (shelf' ≡ shelf) × (out' ≡ out) × (outcome ≡ Err (draw_fault f)))
       → TellsDrawn A writes names texts request question shelf shelf' out out' outcome ⊎ NoMemory
   refused_drawn logs (Ok page) are h is many told =
-      inl (refused logs.logs logs.reason page are h.ring (refused_reason texts logs are h) is told)
+      inl (refused logs page are h (refused_reason texts logs are h) is told)
   refused_drawn logs (Err (draw.TooManyEvents events)) are h is many told =
-      inl (too_many_refused logs.logs logs.reason events are h.ring (refused_reason texts logs are h) (many events refl)
-      told.0 told.1 told.2)
+      inl (too_many_refused logs events are h (refused_reason texts logs are h) (many events refl) told.0 told.1 told.2)
   refused_drawn logs (Err draw.OutOfMemory) are h is many told = inr told
 
 module _ (IsPicture AreTold : List ℕ → Type 0) (name : List ℕ) where
-  -- a page of a picture that there is
-  pub page_drawn : (told : List ℕ) (picture r : Result (List ℕ) DrawFault) → names_page name ≡ true
-      → IfOk picture IsPicture → AreTold told
-      → IfOk r (λ text. IsPrintable text × ((inside : List ℕ) × (picture ≡ Ok inside) × IsHtmlPage inside told text))
-      → IfOk r (IsDrawn name IsPicture AreTold)
-  page_drawn told picture (Ok text) page is are h =
-      let page_of = h.1 in
-      let is_picture : IsPicture page_of.0 = subst (λ (p : Result (List ℕ) DrawFault). IfOk p IsPicture) page_of.1 is in
-      (h.0, subst (λ (b : Bool). IsDrawnAs b IsPicture AreTold text) (sym page) (page_of.0, told, is_picture, are, page_of.2))
-  page_drawn told picture (Err f) page is are h = tt
+  -- a page, where there is one
+  pub page_drawn : (r : Result (List ℕ) DrawFault) → names_page name ≡ true → IfOk r IsPrintable
+      → IfOk r (IsHtmlOf IsPicture AreTold) → IfOk r (IsDrawn name IsPicture AreTold)
+  page_drawn (Ok text) page printable is =
+      (printable, subst (λ (b : Bool). IsDrawnAs b IsPicture AreTold text) (sym page) is)
+  page_drawn (Err f) page printable is = tt
 
   -- the picture alone
   pub picture_drawn : (r : Result (List ℕ) DrawFault) → names_page name ≡ false

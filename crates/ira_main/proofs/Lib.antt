@@ -5,7 +5,6 @@ pub mod FilesRead
 pub mod Folders
 pub mod InputAudits
 pub mod LogFiles
-pub mod LogLines
 pub mod NamedFiles
 pub mod PartsAt
 pub mod Reporting

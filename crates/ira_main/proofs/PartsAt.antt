@@ -1,7 +1,7 @@
 -- A list at an index: what is before it, the element there, and what is after it.
 use Rattle.std.proofs.Common.{◌≡◌, ◌∙◌, ℕ, ◌+◌, List, [], ◌∷◌, ◌++◌, Some, ap, drop, sym, take}
 use Rattle.std.specs.Prelude.{slice_get}
-use Rattle.std.proofs.lemmas.List.{take-append-drop, take_more}
+use Rattle.std.proofs.lemmas.List.{take-append-drop}
 use Rattle.std.proofs.lemmas.Option.{get_or_from_slice_get, slice_get_within}
 use Rattle.ira_event.proofs.Rest.{drop-at}
 
@@ -11,9 +11,3 @@ pub parts_at : {X : Type 0} (xs : List X) (i : ℕ) (x : X) → slice_get xs i �
 parts_at xs i x at =
     let left = drop-at xs i x x (slice_get_within xs i x at) (sym (get_or_from_slice_get xs i x x at)) in
     ap (λ ys. take i xs ++ ys) (sym left) ∙ take-append-drop i xs
-
--- one more of the list is those before an index and the one there
-pub take_next : {X : Type 0} (xs : List X) (i : ℕ) (x : X) → slice_get xs i ≡ Some x → take (i + 1) xs ≡ take i xs
-    ++ x ∷ []
-take_next xs i x at =
-    take_more xs i x (slice_get_within xs i x at) ∙ ap (λ y. take i xs ++ y ∷ []) (get_or_from_slice_get xs i x x at)

@@ -1,17 +1,12 @@
--- What is printed of answers.
-use Rattle.std.proofs.Common.{◌≡◌, ◌∙◌, ◌⊎◌, ℕ, true, List, Result, Ok, Err, ap, inl, inr, subst, sym}
-use Rattle.ira_audit.specs.declared.answer.Answer.{Answer}
-use Rattle.ira_audit.specs.declared.findings.Findings.{Findings}
+-- What is printed of answers and findings.
+use Rattle.std.proofs.Common.{◌≡◌, ◌∙◌, ◌⊎◌, ℕ, List, Result, Ok, Err, ap, inl, inr, sym, subst}
 use Rattle.ira_event.specs.Sink.{SinkState, Wrote, Takes, StopsIn}
-use Rattle.ira_view_page.specs.declared.explanation.Explanation.{Explanation}
-use Rattle.ira_view_json.specs.AnswerValue.{findings_values}
-use Rattle.ira_view_json.specs.ExplainedFindings.{explained_findings}
-use Rattle.ira_view_json.specs.Line.{AreLinesOf}
-use Rattle.ira_main.specs.Decide.{IsFindingsText}
-use Rattle.ira_main.specs.Explain.{IsExplainedText}
-use Rattle.ira_main.specs.Outcome.{Outcome, Prints, ReportsText}
-use Rattle.ira_main.specs.Status.{IsFindingsStatus, answer_status, status_number}
-use Rattle.ira_main.specs.declared.status.Status.{Status}
+use Rattle.ira_view_page.specs.declared.show_fault.ShowFault.{ShowFault}
+use Rattle.ira_view_page.specs.declared.show_fault.ShowFault.TheVariants as show
+use Rattle.ira_view.specs.ViewText.{WroteText}
+use Rattle.ira_view.specs.declared.status.Status.{Status}
+use Rattle.ira_main.specs.Outcome.{Outcome, PrintsText, written_outcome}
+use Rattle.ira_main.specs.declared.program_fault.ProgramFault.TheVariants.{OutOfMemory}
 
 -- a text that was written reached the sink whole, or the write of it failed
 pub reported : {T E : Type 0} (r : Result T E) (text : List ℕ) (s t : SinkState) → Wrote r text s t
@@ -19,34 +14,10 @@ pub reported : {T E : Type 0} (r : Result T E) (text : List ℕ) (s t : SinkStat
 reported (Ok x) text s t wrote = inl wrote
 reported (Err e) text s t wrote = inr wrote
 
--- a text of an answer was printed, which goes with the number of the answer's status
-pub text_reported : (IsText : ℕ → Answer → List ℕ → Type 0) (answer : Answer) (status : Status) (n : ℕ)
-    (text lent : List ℕ) (s t : SinkState) (outcome : Outcome) → status ≡ answer_status answer
-    → n ≡ status_number status → IsText n answer text → lent ≡ text → Prints lent status s t outcome
-    → ReportsText IsText answer s t outcome
-text_reported IsText answer status n text lent s t outcome is number told same printed =
-    let numbered = subst (λ k. IsText k answer text) (number ∙ ap status_number is) told in (
-      lent,
-      subst (IsText (status_number (answer_status answer)) answer) (sym same) numbered,
-      subst (λ w. Prints lent w s t outcome) is printed,
-    )
-
--- lines of the values of findings, the first of which has the number of their status
-pub findings_json : {A : Type 0} (findings : Findings A) (status : Status) (n : ℕ) (text lent : List ℕ)
-    → n ≡ status_number status → IsFindingsStatus findings status → AreLinesOf (findings_values n findings) text
-    → lent ≡ text → IsFindingsText true findings lent
-findings_json findings status n text lent number is lines same =
-    let told = subst (λ k. AreLinesOf (findings_values k findings) text) number lines in
-    (status, is, subst (AreLinesOf (findings_values (status_number status) findings)) (sym same) told)
-
--- the same of findings that are explained
-pub explained_json : {A : Type 0} (findings : Findings A) (explanation : Explanation A) (status : Status) (n : ℕ)
-    (text lent : List ℕ) → n ≡ status_number status → IsFindingsStatus findings status
-    → AreLinesOf (explained_findings n findings explanation) text → lent ≡ text
-    → IsExplainedText true findings explanation lent
-explained_json findings explanation status n text lent number is lines same =
-    let told = subst (λ k. AreLinesOf (explained_findings k findings explanation) text) number lines in (
-      status,
-      is,
-      subst (AreLinesOf (explained_findings (status_number status) findings explanation)) (sym same) told,
-    )
+-- such a text was printed, or memory ran out
+pub text_printed : {T : Type 0} (IsText : List ℕ → Type 0) (r : Result T ShowFault) (status : Status) (s t : SinkState)
+    (outcome : Outcome) → outcome ≡ written_outcome r status → WroteText IsText r s t
+    → PrintsText IsText status s t outcome ⊎ ((t ≡ s) × (outcome ≡ Err OutOfMemory))
+text_printed IsText (Ok v) status s t outcome is wrote = inl (wrote.0, wrote.1, inl (wrote.2, is))
+text_printed IsText (Err show.Write) status s t outcome is wrote = inl (wrote.0, wrote.1, inr (wrote.2, is))
+text_printed IsText (Err show.OutOfMemory) status s t outcome is wrote = inr (wrote, is)

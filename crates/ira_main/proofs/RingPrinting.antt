@@ -1,5 +1,5 @@
 -- What is printed of a ring.
-use Rattle.std.proofs.Common.{◌≡◌, ◌∙◌, ℕ, Bool, true, false, List, [], ◌++◌, Result, Err, Ok, append_assoc, refl}
+use Rattle.std.proofs.Common.{◌≡◌, ◌∙◌, ℕ, Bool, true, false, List, [], ◌++◌, Option, Result, Err, Ok, append_assoc, refl}
 use Rattle.std.proofs.Common.{inl, inr, subst}
 use Rattle.std.proofs.lemmas.List.Folds.{list_all-append}
 use Rattle.std.specs.Prelude.{nat_eq, ◌⊎◌, ◌||◌}
@@ -9,17 +9,17 @@ use Rattle.ira_audit.specs.declared.answer.Answer.TheVariants as audit
 use Rattle.ira_event.proofs.Writing.{StopsIn-append, Takes-StopsIn, Takes-append}
 use Rattle.ira_event.specs.Sink.{SinkState, StopsIn, Takes, Wrote}
 use Rattle.ira_view_page.specs.Printable.{IsPrintable, is_graphic}
-use Rattle.ira_view_json.specs.ShownAnswer.{IsRingText, OfRingText}
+use Rattle.ira_view_json.specs.ShownAnswer.{AreAny, AreTold, IsRingText, OfRingText}
 use Rattle.ira_view_show.specs.Showed.{OfPrintable}
-use Rattle.ira_view.specs.ShownRing.{ShownRing}
+use Rattle.ira_view.specs.ShownRing.{AreJsonLines, AreSomeJsonLines, ShownRing}
 use Rattle.ira_main.specs.Outcome.{Outcome}
-use Rattle.ira_main.specs.Show.{AreJsonLines, AreRingLines, PrintsRing, PrintsRingLines, ring_text}
+use Rattle.ira_main.specs.Show.{AreRingLines, PrintsRing, PrintsRingLines, ring_text}
 use Rattle.ira_main.specs.Show.PrintsRing.{no_memory, printed, stopped}
 use Rattle.ira_main.specs.Show.PrintsRingLines.{no_memory as no_memory_in_lines, printed as printed_lines}
 use Rattle.ira_main.specs.Show.PrintsRingLines.{stopped as stopped_lines}
-use Rattle.ira_main.specs.Status.{IsLeadsStatus, status_number}
+use Rattle.ira_view.specs.Status.{IsLeadsStatus, status_number}
 use Rattle.ira_main.specs.declared.program_fault.ProgramFault.TheVariants.{CannotWriteAnswer, OutOfMemory}
-use Rattle.ira_main.specs.declared.status.Status.{Status}
+use Rattle.ira_view.specs.declared.status.Status.{Status}
 
 -- a text was taken where its writer didn't fail, and a first part of it where it did
 pub taken_of : {T E : Type 0} (r : Result T E) (text : List ℕ) (s t : SinkState) → is_err r ≡ false → Wrote r text s t
@@ -77,22 +77,30 @@ stopped_after ring d has_events s t u p front more =
     (subst (λ w. StopsIn w s u) text (Takes-StopsIn s t u (ring_front d) more.0 front more.2)) refl
 
 -- lines of JSON, of which the first has the number of the status: all were printed
-module _ (ring : ShownRing) (d : List ℕ) (status : Status) (n : ℕ) (s t : SinkState) (number : n ≡ status_number status)
-    (is : IsLeadsStatus d status) where
-  with_status : (text : List ℕ) → IsRingText n ring.told ring.cut text → AreJsonLines ring status text
-  with_status text lines = subst (λ k. IsRingText k ring.told ring.cut text) number lines
+module _ (ring : ShownRing) (named : Option (List ℕ)) (d : List ℕ) (has_events : Bool) (status : Status) (n : ℕ)
+    (s t : SinkState) (number : n ≡ status_number status) (is : IsLeadsStatus d status) where
+  whole : (text : List ℕ)
+      → IsRingText ring.logs named n ring.told ring.cut (AreTold has_events ring.logs ring.cut) text
+      → AreJsonLines has_events named ring status text
+  whole text lines =
+      subst (λ k. IsRingText ring.logs named k ring.told ring.cut (AreTold has_events ring.logs ring.cut) text) number lines
 
-  pub lines_printed : OfRingText n ring.told ring.cut (λ text. Takes text s t) → PrintsRingLines ring d s t (Ok status)
-  lines_printed took = printed_lines took.0 status is (with_status took.0 took.1) took.2 refl
+  part : (text : List ℕ) → IsRingText ring.logs named n ring.told ring.cut AreAny text
+      → AreSomeJsonLines named ring status text
+  part text lines = subst (λ k. IsRingText ring.logs named k ring.told ring.cut AreAny text) number lines
+
+  pub lines_printed : OfRingText ring.logs named n ring.told ring.cut (AreTold has_events ring.logs ring.cut)
+      (λ text. Takes text s t) → PrintsRingLines ring named d has_events s t (Ok status)
+  lines_printed took = printed_lines took.0 status is (whole took.0 took.1) took.2 refl
 
   -- the sink failed among them
-  pub lines_stopped : OfRingText n ring.told ring.cut (λ text. StopsIn text s t)
-      → PrintsRingLines ring d s t (Err CannotWriteAnswer)
-  lines_stopped stop = stopped_lines stop.0 status is (with_status stop.0 stop.1) stop.2 refl
+  pub lines_stopped : OfRingText ring.logs named n ring.told ring.cut AreAny (λ text. StopsIn text s t)
+      → PrintsRingLines ring named d has_events s t (Err CannotWriteAnswer)
+  lines_stopped stop = stopped_lines stop.0 status is (part stop.0 stop.1) stop.2 refl
 
   -- memory ran out before them, or among them
-  pub lines_no_memory : (t ≡ s) ⊎ OfRingText n ring.told ring.cut (λ text. Takes text s t)
-      → PrintsRingLines ring d s t (Err OutOfMemory)
+  pub lines_no_memory : (t ≡ s) ⊎ OfRingText ring.logs named n ring.told ring.cut AreAny (λ text. Takes text s t)
+      → PrintsRingLines ring named d has_events s t (Err OutOfMemory)
       ⊎ ((t ≡ s) × (◌≡◌ {A = Outcome} (Err OutOfMemory) (Err OutOfMemory)))
   lines_no_memory (inl none) = inr (none, refl)
-  lines_no_memory (inr took) = inl (no_memory_in_lines took.0 status is (with_status took.0 took.1) took.2 refl)
+  lines_no_memory (inr took) = inl (no_memory_in_lines took.0 status is (part took.0 took.1) took.2 refl)

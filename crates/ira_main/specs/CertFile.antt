@@ -8,7 +8,7 @@ use Rattle.ira_main_files.specs.declared.shelf_fault.ShelfFault.{ShelfFault}
 use Rattle.ira_main.specs.Outcome.{Outcome}
 use Rattle.ira_main.specs.ProgramFault.{write_fault}
 use Rattle.ira_main.specs.declared.program_fault.ProgramFault.TheVariants.{CertificatePastLimits}
-use Rattle.ira_main.specs.declared.status.Status.TheVariants.{Yes}
+use Rattle.ira_view.specs.declared.status.Status.TheVariants.{Yes}
 
 -- this is the text of a certificate, unless that is past the limits
 abbrev pub IsTextToKeep : Option (Bor (List ℕ)) → Certificate → Type 0

@@ -1,13 +1,10 @@
 -- What the program does that is asked to decide a question.
-use Rattle.std.specs.Prelude.{◌≡◌, ◌⊎◌, ℕ, Bool, true, false, List, ◌∷◌, ◌++◌, Option, Some, None, Ok, Err}
+use Rattle.std.specs.Prelude.{◌≡◌, ◌⊎◌, ℕ, Bool, List, ◌∷◌, ◌++◌, Option, Some, None, Ok, Err}
 use Rattle.std.specs.Borrow.{Bor}
 use Rattle.ira_event.specs.Sink.{SinkState, Takes, StopsIn}
 use Rattle.ira_cert_text.specs.Certificate.{Certificate}
 use Rattle.ira_audit.specs.Findings.{AreFindings, IsCertificateOf, MakeNoCertificate}
-use Rattle.ira_audit.specs.FindingsText.{findings_text}
 use Rattle.ira_audit.specs.declared.findings.Findings.{Findings}
-use Rattle.ira_view_json.specs.AnswerValue.{findings_values}
-use Rattle.ira_view_json.specs.Line.{AreLinesOf}
 use Rattle.ira_main_cli.specs.declared.decide_request.DecideRequest.{DecideRequest}
 use Rattle.ira_main_files.specs.Shelf.{Reading, Writing}
 use Rattle.ira_main_files.specs.declared.file_name.FileName.{FileName}
@@ -15,11 +12,12 @@ use Rattle.ira_main.specs.CertFile.{KeepsCertificate}
 use Rattle.ira_main.specs.FilesRead.{IsFilesFault, ReadsFiles, names_of}
 use Rattle.ira_main.specs.Outcome.{Outcome, Prints}
 use Rattle.ira_main.specs.Overwriting.{IsReplacing, KeepsFiles}
-use Rattle.ira_main.specs.Status.{IsFindingsStatus, status_number}
+use Rattle.ira_view.specs.Status.{IsFindingsStatus}
+use Rattle.ira_view.specs.ViewText.{IsFindingsText}
 use Rattle.ira_main.specs.declared.program_fault.ProgramFault.{ProgramFault}
 use Rattle.ira_main.specs.declared.program_fault.ProgramFault.TheVariants.{CannotWriteAnswer}
-use Rattle.ira_main.specs.declared.status.Status.{Status}
-use Rattle.ira_main.specs.declared.status.Status.TheVariants.{Yes, No}
+use Rattle.ira_view.specs.declared.status.Status.{Status}
+use Rattle.ira_view.specs.declared.status.Status.TheVariants.{Yes, No}
 
 -- the names of the files to decide of: the question's and the logs'
 abbrev pub decide_names : DecideRequest → List FileName → List (List ℕ)
@@ -52,15 +50,7 @@ pub record DecidesTogether {A S : Type 0} (Tells : List ℕ → List (List ℕ) 
   pub found : AreFindings texts question findings
   pub told : Tells question texts findings
 
--- the text that is printed of findings: as JSON, where that is wanted, which tells their status too; or else their
--- lines
-abbrev pub IsFindingsText : {A : Type 0} → Bool → Findings A → List ℕ → Type 0
-IsFindingsText true findings text =
-    (status : Status) × IsFindingsStatus findings status
-    × AreLinesOf (findings_values (status_number status) findings) text
-IsFindingsText false findings text = text ≡ findings_text findings
-
--- that text was printed whole, and what comes of the findings on the shelf is the outcome; or the output stopped
+-- the text of findings was printed whole, and what comes of the findings on the shelf is the outcome; or the output stopped
 -- within it
 abbrev pub PrintsFindings : {A S : Type 0} → Writing S → Bool → Option (Bor (List ℕ)) → S → S → SinkState → SinkState
     → Outcome

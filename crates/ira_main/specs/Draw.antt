@@ -1,30 +1,27 @@
 -- What the program does that is asked to draw a ring.
-use Rattle.std.specs.Prelude.{◌≡◌, ◌⊎◌, ℕ, Bool, List, ◌++◌, None, Some, Ok, Err, codes, false, map, nat_eq, true, ⊤}
+use Rattle.std.specs.Prelude.{◌≡◌, ◌⊎◌, ℕ, Bool, List, ◌++◌, None, Some, Ok, Err, codes, false, nat_eq, true}
 use Rattle.std.specs.Borrow.{Bor}
-use Rattle.std.specs.List.{ends_with, zip}
+use Rattle.std.specs.List.{ends_with}
 use Rattle.ira_event.specs.Log.{Log}
-use Rattle.ira_event.specs.Logs.{AreLogs}
 use Rattle.ira_event.specs.Sink.{SinkState, StopsIn, Takes}
 use Rattle.ira_audit.specs.GoodLogs.{AreGoodLogs}
 use Rattle.ira_audit.specs.LogTexts.{AreLogTexts}
 use Rattle.ira_audit.specs.Refusal.{IsLogsReason, IsRingReason}
+use Rattle.ira_audit.specs.RefusedLogs.{AreRefused, RefusedLogs}
 use Rattle.ira_audit.specs.Report.{report_line}
 use Rattle.ira_audit.specs.declared.answer.Answer.{Answer}
 use Rattle.ira_audit.specs.declared.answer.Answer.TheVariants.{Yes, No}
 use Rattle.ira_audit.specs.declared.judged.Judged.{Judged}
-use Rattle.ira_audit.specs.declared.judged.Judged.TheVariants.{Good, Refused, NoRing}
 use Rattle.ira_audit.specs.declared.reason.Reason.{Reason}
 use Rattle.ira_view_page.specs.Printable.{IsPrintable}
-use Rattle.ira_view_page.specs.declared.explanation.Explanation.{Explanation}
+use Rattle.ira_view_page.specs.declared.named_text.NamedText.{NamedText}
 use Rattle.ira_view_moment.specs.declared.cut_fault.CutFault.{CutFault}
 use Rattle.ira_view_picture.specs.DrawFault.{HasTooManyEvents}
 use Rattle.ira_view_draw.specs.Drawing.{IsRefusedDrawing}
-use Rattle.ira_view_html.specs.HtmlPage.{IsHtmlPage}
-use Rattle.ira_view_json.specs.ExplainedValue.{explained_value}
-use Rattle.ira_view_json.specs.Line.{AreLinesOf, IsLineOf}
-use Rattle.ira_view_json.specs.LogValue.{log_value}
-use Rattle.ira_view.specs.Explained.{IsExplanation, OfJudged}
+use Rattle.ira_view.specs.Html.{IsHtmlOf, IsJudgedTold, IsRefusalTold, IsRingTold}
 use Rattle.ira_view.specs.ShownRing.{HasTooManyAt, IsPictureOf, ShownRing}
+use Rattle.ira_view.specs.Status.{answer_status}
+use Rattle.ira_view.specs.Texts.{AreFiles}
 use Rattle.ira_main_cli.specs.declared.draw_request.DrawRequest.{DrawRequest}
 use Rattle.ira_main_files.specs.Shelf.{Reading, Writing}
 use Rattle.ira_main_files.specs.declared.file_name.FileName.{FileName}
@@ -33,9 +30,8 @@ use Rattle.ira_main.specs.FilesRead.{IsFilesFault, ReadsFiles, names_of}
 use Rattle.ira_main.specs.Outcome.{GivesNoAnswer, Outcome, Reports}
 use Rattle.ira_main.specs.Overwriting.{IsReplacing, KeepsFiles}
 use Rattle.ira_main.specs.ProgramFault.{write_fault}
-use Rattle.ira_main.specs.Show.{AreJsonLines, IsAskedRing, IsCutFaultOf, IsReasonAgainst, moment_names, moment_texts}
+use Rattle.ira_main.specs.Show.{IsAskedRing, IsCutFaultOf, IsReasonAgainst, moment_names, moment_texts}
 use Rattle.ira_main.specs.SourceNames.{OfSource}
-use Rattle.ira_main.specs.Status.{answer_status, status_number}
 use Rattle.ira_main.specs.declared.program_fault.ProgramFault.{ProgramFault}
 use Rattle.ira_main.specs.declared.program_fault.ProgramFault.TheVariants.{CannotWriteAnswer, NoMoment, TooManyEvents}
 
@@ -45,47 +41,31 @@ names_page name = ends_with nat_eq name (codes ".html")
 
 -- the text is such a picture; or, where a page is wanted, the page of one and of such lines of JSON
 abbrev pub IsDrawnAs : Bool → (List ℕ → Type 0) → (List ℕ → Type 0) → List ℕ → Type 0
-IsDrawnAs true IsPicture AreTold text =
-    (picture : List ℕ) × (told : List ℕ) × IsPicture picture × AreTold told × IsHtmlPage picture told text
-IsDrawnAs false IsPicture AreTold text = IsPicture text
+IsDrawnAs true IsPicture AreTold = IsHtmlOf IsPicture AreTold
+IsDrawnAs false IsPicture AreTold = IsPicture
 
 -- the text is printable, and what is kept under this name
 abbrev pub IsDrawn : List ℕ → (List ℕ → Type 0) → (List ℕ → Type 0) → List ℕ → Type 0
 IsDrawn name IsPicture AreTold text = IsPrintable text × IsDrawnAs (names_page name) IsPicture AreTold text
 
--- the lines of JSON that a page tells of a ring: those on its moment, and then those on all events
-abbrev pub IsRingTold : ShownRing → List ℕ → Type 0
-IsRingTold ring told =
-    (moment : List ℕ) × (events : List ℕ) × AreJsonLines ring (answer_status Yes) moment
-    × AreJsonLines ring (answer_status Yes) events × (told ≡ moment ++ events)
-
 -- what is kept of a ring at the columns that are asked for
 abbrev pub IsRingDrawn : DrawRequest → ShownRing → List ℕ → Type 0
-IsRingDrawn draw ring text = IsDrawn draw.picture.now (IsPictureOf ring draw.from draw.to) (IsRingTold ring) text
+IsRingDrawn draw ring = IsDrawn draw.picture.now (IsPictureOf ring draw.from draw.to) (IsRingTold ring)
 
--- the lines of JSON on logs, each with the name of its file: its node, and how that starts
-abbrev pub AreLogLines : List (List ℕ × Log) → List ℕ → Type 0
-AreLogLines files text = AreLinesOf (map (λ file. log_value file.0 file.1.place file.1.initiator) files) text
-
--- the lines of JSON that a page tells of refused logs, in files of these names and with these texts: that of the answer
--- with its reason and what it rests on, and those on the logs
-abbrev pub IsRefusalTold : Type 0 → List (List ℕ) → List (List ℕ) → List Log → Reason → List ℕ → Type 0
-IsRefusalTold A names texts logs reason told =
-    (explanation : Explanation A) × (line : List ℕ) × (others : List ℕ)
-    × OfJudged A names texts (λ files judged. IsExplanation files judged explanation)
-    × IsLineOf (explained_value (status_number (answer_status (No reason))) (No reason) explanation) line
-    × AreLogLines (zip names logs) others × (told ≡ line ++ others)
+-- the lines of JSON that a page tells of refused logs, in files of these names and with these texts
+abbrev pub IsRefusalToldOf : Type 0 → List (List ℕ) → List (List ℕ) → RefusedLogs → List ℕ → Type 0
+IsRefusalToldOf A names texts refused told =
+    (files : List NamedText) × AreFiles names texts files × IsRefusalTold A files refused told
 
 -- the same of logs that were judged, where they are refused
-abbrev pub IsJudgedTold : {A : Type 0} → List (List ℕ) → List (List ℕ) → Judged A → List ℕ → Type 0
-IsJudgedTold names texts (Good logs) told = ⊤
-IsJudgedTold {A} names texts (Refused refused) told = IsRefusalTold A names texts refused.logs refused.reason told
-IsJudgedTold names texts (NoRing reason) told = ⊤
+abbrev pub IsJudgedToldOf : {A : Type 0} → List (List ℕ) → List (List ℕ) → Judged A → List ℕ → Type 0
+IsJudgedToldOf names texts judged told =
+    (files : List NamedText) × AreFiles names texts files × IsJudgedTold files judged told
 
--- what is kept of logs, in files of these names and with these texts, that this reason stands against
-abbrev pub IsRefusalDrawn : Type 0 → DrawRequest → List (List ℕ) → List (List ℕ) → List Log → Reason → List ℕ → Type 0
-IsRefusalDrawn A draw names texts logs reason text =
-    IsDrawn draw.picture.now (IsRefusedDrawing logs draw.from draw.to) (IsRefusalTold A names texts logs reason) text
+-- what is kept of refused logs, in files of these names and with these texts
+abbrev pub IsRefusalDrawn : Type 0 → DrawRequest → List (List ℕ) → List (List ℕ) → RefusedLogs → List ℕ → Type 0
+IsRefusalDrawn A draw names texts refused =
+    IsDrawn draw.picture.now (IsRefusedDrawing refused.logs draw.from draw.to) (IsRefusalToldOf A names texts refused)
 
 -- what comes of a picture on a shelf: it is written to a new file of this name, and the status is that of the answer; or
 -- a fault of that is the outcome
@@ -115,9 +95,9 @@ pub data TellsDrawn (A : Type 0) {S : Type 0} (writes : Writing S) (names texts 
       → IsAskedRing logs draw.moment question ring → IsRingDrawn draw ring page
       → PrintsDrawn writes Yes page draw.picture shelf shelf' out out' outcome
       → TellsDrawn A writes names texts draw question shelf shelf' out out' outcome
-  refused : (logs : List Log) (r : Reason) (page : List ℕ) → AreLogTexts texts logs → AreLogs logs
-      → IsLogsReason texts r → IsRefusalDrawn A draw names texts logs r page
-      → PrintsDrawn writes (No r) page draw.picture shelf shelf' out out' outcome
+  refused : (logs : RefusedLogs) (page : List ℕ) → AreLogTexts texts logs.logs → AreRefused logs
+      → IsLogsReason texts logs.reason → IsRefusalDrawn A draw names texts logs page
+      → PrintsDrawn writes (No logs.reason) page draw.picture shelf shelf' out out' outcome
       → TellsDrawn A writes names texts draw question shelf shelf' out out' outcome
   no_question : (logs : List Log) (r : Reason) → AreGoodLogs texts logs → IsReasonAgainst texts draw.moment question r
       → shelf' ≡ shelf → Reports (No r) out out' outcome
@@ -131,8 +111,8 @@ pub data TellsDrawn (A : Type 0) {S : Type 0} (writes : Writing S) (names texts 
       → IsAskedRing logs draw.moment question ring → HasTooManyAt ring draw.from draw.to events → shelf' ≡ shelf
       → out' ≡ out → outcome ≡ Err (TooManyEvents events)
       → TellsDrawn A writes names texts draw question shelf shelf' out out' outcome
-  too_many_refused : (logs : List Log) (r : Reason) (events : ℕ) → AreLogTexts texts logs → AreLogs logs
-      → IsLogsReason texts r → HasTooManyEvents logs None draw.from draw.to events → shelf' ≡ shelf → out' ≡ out
+  too_many_refused : (logs : RefusedLogs) (events : ℕ) → AreLogTexts texts logs.logs → AreRefused logs
+      → IsLogsReason texts logs.reason → HasTooManyEvents logs.logs None draw.from draw.to events → shelf' ≡ shelf → out' ≡ out
       → outcome ≡ Err (TooManyEvents events)
       → TellsDrawn A writes names texts draw question shelf shelf' out out' outcome
 

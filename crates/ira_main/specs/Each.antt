@@ -20,14 +20,14 @@ use Rattle.ira_main_files.specs.declared.file_name.FileName.{FileName}
 use Rattle.ira_main.specs.FilesRead.{HasTakenFiles, IsFilesFault, ReadsFiles, names_of}
 use Rattle.ira_main.specs.Outcome.{Outcome}
 use Rattle.ira_main.specs.SourceNames.{HasNames, IsNamesFault}
-use Rattle.ira_main.specs.Status.{answer_status, status_number}
+use Rattle.ira_view.specs.Status.{answer_status, status_number}
 use Rattle.ira_main.specs.declared.folder_answer.FolderAnswer.{FolderAnswer}
 use Rattle.ira_main.specs.declared.folder_answer.FolderAnswer.TheVariants.{Judged, Unread}
 use Rattle.ira_main.specs.declared.program_fault.ProgramFault.{ProgramFault}
 use Rattle.ira_main.specs.declared.program_fault.ProgramFault.TheVariants.{CannotRead, CannotReadSome, CannotWriteAnswer}
 use Rattle.ira_main.specs.declared.program_fault.ProgramFault.TheVariants.{OutOfMemory}
-use Rattle.ira_main.specs.declared.status.Status.{Status}
-use Rattle.ira_main.specs.declared.status.Status.TheVariants as status
+use Rattle.ira_view.specs.declared.status.Status.{Status}
+use Rattle.ira_view.specs.declared.status.Status.TheVariants as status
 
 -- why the texts of a folder aren't judged: the first log of it wasn't read, or one of those that it names, or memory ran
 -- out

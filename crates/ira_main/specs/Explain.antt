@@ -1,19 +1,16 @@
 -- What is printed where it is asked why an answer is as it is.
-use Rattle.std.specs.Prelude.{◌≡◌, ℕ, Bool, true, false, List, ◌++◌, codes}
+use Rattle.std.specs.Prelude.{◌≡◌, ℕ, Bool, List, codes}
 use Rattle.ira_event.specs.Sink.{SinkState}
-use Rattle.ira_audit.specs.FindingsText.{findings_text}
 use Rattle.ira_audit.specs.declared.findings.Findings.{Findings}
-use Rattle.ira_view_page.specs.Printable.{IsPrintable}
 use Rattle.ira_view_page.specs.declared.explanation.Explanation.{Explanation}
 use Rattle.ira_view_page.specs.declared.named_text.NamedText.{NamedText}
-use Rattle.ira_view_json.specs.ExplainedFindings.{explained_findings}
-use Rattle.ira_view_json.specs.Line.{AreLinesOf}
 use Rattle.ira_view.specs.Explained.{IsCheckExplanation, IsExplanation, IsFindingsExplanation, IsLogExplanation}
 use Rattle.ira_view.specs.Explained.{OfAsked, OfCertified, OfJudged}
 use Rattle.ira_main_cli.specs.declared.case_selection.CaseSelection.{CaseSelection}
 use Rattle.ira_main.specs.Outcome.{ExplainsAs, Outcome, Prints, Telling}
-use Rattle.ira_main.specs.Status.{IsFindingsStatus, status_number}
-use Rattle.ira_main.specs.declared.status.Status.{Status}
+use Rattle.ira_view.specs.Status.{IsFindingsStatus}
+use Rattle.ira_view.specs.ViewText.{IsFindingsViewText}
+use Rattle.ira_view.specs.declared.status.Status.{Status}
 
 -- the answer of the log on the input, which has this text, is explained
 abbrev pub ExplainsLog : Type 0 → Bool → List ℕ → Telling
@@ -38,19 +35,10 @@ ExplainsCheck A is_json asked certified names question certificate texts answer 
     (λ files file judged. IsCheckExplanation files file judged answer explanation)
     × ExplainsAs explanation is_json answer out out' outcome
 
--- the text that is printed of findings that are explained: as JSON with what they rest on, where that is wanted; or
--- else their lines, and after them the page, which is printable
-abbrev pub IsExplainedText : {A : Type 0} → Bool → Findings A → Explanation A → List ℕ → Type 0
-IsExplainedText true findings explanation text =
-    (status : Status) × IsFindingsStatus findings status
-    × AreLinesOf (explained_findings (status_number status) findings explanation) text
-IsExplainedText false findings explanation text =
-    IsPrintable explanation.page × (text ≡ findings_text findings ++ explanation.page)
-
--- that text was printed, with the status of the findings
+-- findings were printed with what they rest on, and the outcome is their status
 abbrev pub PrintsExplained : {A : Type 0} → Bool → Explanation A → SinkState → SinkState → Outcome → Findings A → Type 0
 PrintsExplained is_json explanation out out' outcome findings =
-    (text : List ℕ) × IsExplainedText is_json findings explanation text
+    (text : List ℕ) × IsFindingsViewText is_json findings explanation text
     × (status : Status) × IsFindingsStatus findings status × Prints text status out out' outcome
 
 -- what is found for a question about logs is explained: of the case that is selected, or of the first ones

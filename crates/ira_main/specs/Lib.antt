@@ -17,7 +17,6 @@ pub mod Progress
 pub mod Serve
 pub mod Show
 pub mod SourceNames
-pub mod Status
 pub mod Unread
 pub mod Upgrade
 pub mod Version

@@ -23,7 +23,7 @@ use Rattle.ira_main.specs.Outcome.{GivesNoAnswer, Outcome, Prints, Reports}
 use Rattle.ira_main.specs.Overwriting.{KeepsInput, Overwrites}
 use Rattle.ira_main.specs.declared.program_fault.ProgramFault.{ProgramFault}
 use Rattle.ira_main.specs.declared.program_fault.ProgramFault.TheVariants.{OutOfMemory, WouldOverwrite}
-use Rattle.ira_main.specs.declared.status.Status.TheVariants.{Yes}
+use Rattle.ira_view.specs.declared.status.Status.TheVariants.{Yes}
 
 -- each mended log was written to the file of its place in this folder, and then how many events are kept of each; or
 -- a log wasn't written, and nothing was printed; or memory ran out, and the shelf is as it was

@@ -1,18 +1,18 @@
 -- What the program ends with: a status, or a fault, which is written to standard error.
-use Rattle.std.specs.Prelude.{◌≡◌, ◌⊎◌, ℕ, Bool, true, false, List, ◌++◌, Result, Ok, Err}
+use Rattle.std.specs.Prelude.{◌≡◌, ◌⊎◌, ℕ, Bool, List, Result, Ok, Err}
 use Rattle.ira_event.specs.Sink.{SinkState, Takes, StopsIn}
 use Rattle.ira_audit.specs.Report.{report_line}
 use Rattle.ira_audit.specs.declared.answer.Answer.{Answer}
-use Rattle.ira_view_page.specs.Printable.{IsPrintable}
 use Rattle.ira_view_page.specs.declared.explanation.Explanation.{Explanation}
-use Rattle.ira_view_json.specs.AnswerValue.{answer_value}
-use Rattle.ira_view_json.specs.ExplainedValue.{explained_value}
-use Rattle.ira_view_json.specs.Line.{IsLineOf}
-use Rattle.ira_main.specs.ProgramFault.{program_fault_text}
-use Rattle.ira_main.specs.Status.{answer_status, program_fault_status, status_number}
+use Rattle.ira_view_page.specs.declared.show_fault.ShowFault.{ShowFault}
+use Rattle.ira_view_page.specs.declared.show_fault.ShowFault.TheVariants as show
+use Rattle.ira_view_page.specs.declared.show_fault.ShowFault.TheVariants.{Write}
+use Rattle.ira_main.specs.ProgramFault.{program_fault_status, program_fault_text}
+use Rattle.ira_view.specs.Status.{answer_status, status_number}
+use Rattle.ira_view.specs.ViewText.{IsAnswerText, IsViewText}
 use Rattle.ira_main.specs.declared.program_fault.ProgramFault.{ProgramFault}
-use Rattle.ira_main.specs.declared.program_fault.ProgramFault.TheVariants.{CannotWriteAnswer}
-use Rattle.ira_main.specs.declared.status.Status.{Status}
+use Rattle.ira_main.specs.declared.program_fault.ProgramFault.TheVariants.{CannotWriteAnswer, OutOfMemory}
+use Rattle.ira_view.specs.declared.status.Status.{Status}
 
 -- a status, or a fault
 abbrev pub Outcome : Type 0
@@ -38,11 +38,9 @@ Prints text status out out' outcome =
 abbrev pub Reports : Answer → SinkState → SinkState → Outcome → Type 0
 Reports answer = Prints (report_line answer) (answer_status answer)
 
--- the answer was printed as a text that is so related to it and to the number of its status
-abbrev pub ReportsText : (ℕ → Answer → List ℕ → Type 0) → Answer → SinkState → SinkState → Outcome → Type 0
-ReportsText IsText answer out out' outcome =
-    (text : List ℕ) × IsText (status_number (answer_status answer)) answer text
-    × Prints text (answer_status answer) out out' outcome
+-- such a text was printed, with this status
+abbrev pub PrintsText : (List ℕ → Type 0) → Status → SinkState → SinkState → Outcome → Type 0
+PrintsText IsText status out out' outcome = (text : List ℕ) × IsText text × Prints text status out out' outcome
 
 -- what is printed of an answer, and what comes of it
 abbrev pub Telling : Type 1
@@ -50,18 +48,21 @@ Telling = Answer → SinkState → SinkState → Outcome → Type 0
 
 -- an answer is printed as JSON, where that is wanted, or else as its line
 abbrev pub ReportsAs : Bool → Telling
-ReportsAs true = ReportsText (λ status answer. IsLineOf (answer_value status answer))
-ReportsAs false = Reports
+ReportsAs is_json answer = PrintsText (IsAnswerText is_json answer) (answer_status answer)
 
 -- an answer is printed with its reason and this explanation: as JSON, where that is wanted, or else as its line and the
 -- page, which is printable
 abbrev pub ExplainsAs : {A : Type 0} → Explanation A → Bool → Telling
-ExplainsAs explanation true answer out out' outcome =
-    ReportsText (λ status answer. IsLineOf (explained_value status answer explanation)) answer out out' outcome
-ExplainsAs explanation false answer out out' outcome =
-    IsPrintable explanation.page
-    × Prints (report_line answer ++ explanation.page) (answer_status answer) out out' outcome
+ExplainsAs explanation is_json answer = PrintsText (IsViewText is_json answer explanation) (answer_status answer)
 
 -- nothing was printed, and the outcome is a fault of this kind
 abbrev pub GivesNoAnswer : (ProgramFault → Type 0) → SinkState → SinkState → Outcome → Type 0
 GivesNoAnswer IsWhy out out' outcome = (f : ProgramFault) × IsWhy f × (out' ≡ out) × (outcome ≡ Err f)
+
+-- ---- Helpers, no definitions.
+
+-- what comes of a text that was written or not, and goes with this status
+abbrev pub written_outcome : {T : Type 0} → Result T ShowFault → Status → Outcome
+written_outcome (Ok v) status = Ok status
+written_outcome (Err Write) status = Err CannotWriteAnswer
+written_outcome (Err show.OutOfMemory) status = Err OutOfMemory

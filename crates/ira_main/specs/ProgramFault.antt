@@ -9,6 +9,9 @@ use Rattle.ira_view_picture.specs.declared.draw_fault.DrawFault.TheVariants as d
 use Rattle.ira_view.specs.CutFaultLine.{cut_fault_text}
 use Rattle.ira_view.specs.DrawFaultLine.{too_many_text}
 use Rattle.ira_view.specs.RunFaultLine.{run_fault_text}
+use Rattle.ira_view.specs.declared.status.Status.{Status}
+use Rattle.ira_view.specs.declared.status.Status.TheVariants as status
+use Rattle.ira_view.specs.declared.status.Status.TheVariants.{Refused}
 use Rattle.ira_ring_setup.specs.declared.run_fault.RunFault.{RunFault}
 use Rattle.ira_ring_setup.specs.declared.run_fault.RunFault.TheVariants as run
 use Rattle.ira_main_cli.specs.declared.words_fault.WordsFault.{WordsFault}
@@ -24,6 +27,11 @@ use Rattle.ira_main.specs.declared.program_fault.ProgramFault.TheVariants.{NoMom
 use Rattle.ira_main.specs.declared.program_fault.ProgramFault.TheVariants.{RunRefused, TooManyEvents, WordIsNoText}
 use Rattle.ira_main.specs.declared.program_fault.ProgramFault.TheVariants.{Words}
 use Rattle.ira_main.specs.declared.program_fault.ProgramFault.TheVariants.{WouldOverwrite}
+
+-- the status of a fault
+abbrev pub program_fault_status : ProgramFault → Status
+program_fault_status OutOfMemory = status.OutOfMemory
+program_fault_status _ = Refused
 
 -- the fault where the file of this name wasn't read
 abbrev pub read_fault : FileName → ShelfFault → ProgramFault

@@ -50,14 +50,14 @@ use Rattle.ira_main.specs.Outcome.{GivesNoAnswer, Outcome, Prints, Reports, Repo
 use Rattle.ira_main.specs.ProgramFault.{run_fault, words_fault}
 use Rattle.ira_main.specs.Show.{ShowsLogs}
 use Rattle.ira_main.specs.SourceNames.{OfSource}
-use Rattle.ira_main.specs.Status.{IsElectionStatus}
+use Rattle.ira_view.specs.Status.{IsElectionStatus}
 use Rattle.ira_main.specs.Upgrade.{Upgrades}
 use Rattle.ira_main.specs.Version.{version_line}
 use Rattle.ira_main.specs.declared.program_fault.ProgramFault.{ProgramFault}
 use Rattle.ira_main.specs.declared.program_fault.ProgramFault.TheVariants.{CannotRead, CannotWriteAnswer, OutOfMemory}
 use Rattle.ira_main.specs.declared.program_fault.ProgramFault.TheVariants.{RingSize}
-use Rattle.ira_main.specs.declared.status.Status.{Status}
-use Rattle.ira_main.specs.declared.status.Status.TheVariants.{Yes}
+use Rattle.ira_view.specs.declared.status.Status.{Status}
+use Rattle.ira_view.specs.declared.status.Status.TheVariants.{Yes}
 
 -- the text that the input had left was judged, and its answer told; or a read failed, or there was no memory, and
 -- nothing was written

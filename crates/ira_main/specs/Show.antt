@@ -9,13 +9,12 @@ use Rattle.ira_audit.specs.RingAnswer.{IsRingAnswer}
 use Rattle.ira_audit.specs.declared.answer.Answer.TheVariants as audit
 use Rattle.ira_audit.specs.declared.reason.Reason.{Reason}
 use Rattle.ira_view_page.specs.Printable.{IsPrintable}
-use Rattle.ira_view_json.specs.ShownAnswer.{IsRingText}
 use Rattle.ira_view_moment.specs.CutFault.{IsCutFault}
 use Rattle.ira_view_moment.specs.Moment.{whole_cut}
 use Rattle.ira_view_moment.specs.Told.{at_end}
 use Rattle.ira_view_moment.specs.declared.cut_fault.CutFault.{CutFault}
 use Rattle.ira_view.specs.Differences.{AreDifferences, ArePlaces, TellsOfLeader}
-use Rattle.ira_view.specs.ShownRing.{AreEventsOf, IsAtCut, IsNoCut, IsNoQuestion, IsOfQuestion, IsPageOf, ShownRing}
+use Rattle.ira_view.specs.ShownRing.{AreEventsOf, AreJsonLines, AreSomeJsonLines, IsAtCut, IsNoCut, IsNoQuestion, IsOfQuestion, IsPageOf, ShownRing}
 use Rattle.ira_view.specs.declared.ring_fault.RingFault.{RingFault}
 use Rattle.ira_main_cli.specs.declared.asked_leaders.AskedLeaders.{AskedLeaders}
 use Rattle.ira_main_cli.specs.declared.asked_leaders.AskedLeaders.TheVariants.{Any, Places}
@@ -27,10 +26,10 @@ use Rattle.ira_main_files.specs.declared.file_name.FileName.{FileName}
 use Rattle.ira_main.specs.FilesRead.{IsFilesFault, ReadsFiles, names_of}
 use Rattle.ira_main.specs.Outcome.{GivesNoAnswer, Outcome, ReportsAs}
 use Rattle.ira_main.specs.SourceNames.{OfSource}
-use Rattle.ira_main.specs.Status.{IsLeadsStatus, status_number}
+use Rattle.ira_view.specs.Status.{IsLeadsStatus}
 use Rattle.ira_main.specs.declared.program_fault.ProgramFault.TheVariants.{CannotWriteAnswer, NoMoment, NoPlace}
 use Rattle.ira_main.specs.declared.program_fault.ProgramFault.TheVariants.{OutOfMemory}
-use Rattle.ira_main.specs.declared.status.Status.{Status}
+use Rattle.ira_view.specs.declared.status.Status.{Status}
 
 -- the names of the files that tell of the moment: that of a question, if it is the first that meets one
 abbrev pub moment_names : AskedMoment → List (List ℕ)
@@ -107,24 +106,24 @@ pub data PrintsRing (ring : ShownRing) (differences : List ℕ) (has_events : Bo
       → Takes (ring_text differences text) out out' → outcome ≡ Err OutOfMemory
       → PrintsRing ring differences has_events out out' outcome
 
--- the text is the line of a yes, which has this status and the moment of the ring, and then lines of JSON
-abbrev pub AreJsonLines : ShownRing → Status → List ℕ → Type 0
-AreJsonLines ring status text = IsRingText (status_number status) ring.told ring.cut text
-
 -- lines of JSON on a ring were printed, and the status says whether there are differences; or the output stopped within
--- them; or memory ran out after a first part of them
-pub data PrintsRingLines (ring : ShownRing) (differences : List ℕ) (out out' : SinkState) (outcome : Outcome) : Type 0 where
-  printed : (text : List ℕ) (status : Status) → IsLeadsStatus differences status → AreJsonLines ring status text
-      → Takes text out out' → outcome ≡ Ok status → PrintsRingLines ring differences out out' outcome
-  stopped : (text : List ℕ) (status : Status) → IsLeadsStatus differences status → AreJsonLines ring status text
-      → StopsIn text out out' → outcome ≡ Err CannotWriteAnswer → PrintsRingLines ring differences out out' outcome
-  no_memory : (text : List ℕ) (status : Status) → IsLeadsStatus differences status → AreJsonLines ring status text
-      → Takes text out out' → outcome ≡ Err OutOfMemory → PrintsRingLines ring differences out out' outcome
+-- some; or memory ran out after some of them
+pub data PrintsRingLines (ring : ShownRing) (named : Option (List ℕ)) (differences : List ℕ) (has_events : Bool)
+    (out out' : SinkState) (outcome : Outcome) : Type 0 where
+  printed : (text : List ℕ) (status : Status) → IsLeadsStatus differences status
+      → AreJsonLines has_events named ring status text → Takes text out out' → outcome ≡ Ok status
+      → PrintsRingLines ring named differences has_events out out' outcome
+  stopped : (text : List ℕ) (status : Status) → IsLeadsStatus differences status
+      → AreSomeJsonLines named ring status text → StopsIn text out out' → outcome ≡ Err CannotWriteAnswer
+      → PrintsRingLines ring named differences has_events out out' outcome
+  no_memory : (text : List ℕ) (status : Status) → IsLeadsStatus differences status
+      → AreSomeJsonLines named ring status text → Takes text out out' → outcome ≡ Err OutOfMemory
+      → PrintsRingLines ring named differences has_events out out' outcome
 
 -- a ring is printed as JSON, where that is wanted, or else for a person
-abbrev pub PrintsRingAs : Bool → ShownRing → List ℕ → Bool → SinkState → SinkState → Outcome → Type 0
-PrintsRingAs true ring differences has_events = PrintsRingLines ring differences
-PrintsRingAs false ring differences has_events = PrintsRing ring differences has_events
+abbrev pub PrintsRingAs : Bool → ShownRing → Option (List ℕ) → List ℕ → Bool → SinkState → SinkState → Outcome → Type 0
+PrintsRingAs true ring named differences has_events = PrintsRingLines ring named differences has_events
+PrintsRingAs false ring named differences has_events = PrintsRing ring differences has_events
 
 -- what comes of texts and of the text of a question: they are those of good logs, and the ring is printed at the moment
 -- that is asked for, after the line of a yes; or the line of the reason against them or the question is; or the moment is
@@ -133,7 +132,7 @@ pub data TellsRing (texts : List (List ℕ)) (show : ShowRequest) (question : Li
     (outcome : Outcome) : Type 0 where
   shown : (logs : List Log) (ring : ShownRing) (differences : List ℕ) → AreGoodLogs texts logs
       → IsAskedRing logs show.moment question ring → AreAskedDifferences logs show.leads differences
-      → PrintsRingAs show.is_json ring differences show.has_events out out' outcome
+      → PrintsRingAs show.is_json ring (named_places show.leads) differences show.has_events out out' outcome
       → TellsRing texts show question out out' outcome
   refused : (r : Reason) → IsReasonAgainst texts show.moment question r
       → ReportsAs show.is_json (audit.No r) out out' outcome → TellsRing texts show question out out' outcome

@@ -17,7 +17,7 @@ use Rattle.ira_main.specs.FilesRead.{IsFilesFault, ReadsFiles}
 use Rattle.ira_main.specs.LogFiles.{StopsInLogs, WritesLogs}
 use Rattle.ira_main.specs.Outcome.{GivesNoAnswer, Outcome, Prints, Reports}
 use Rattle.ira_main.specs.declared.program_fault.ProgramFault.TheVariants.{OutOfMemory}
-use Rattle.ira_main.specs.declared.status.Status.TheVariants.{Yes}
+use Rattle.ira_view.specs.declared.status.Status.TheVariants.{Yes}
 
 -- each log was written in version 2 to the file of its place in this folder, and then their number was printed; or a
 -- log wasn't written, and nothing was printed; or memory ran out, and the shelf is as it was

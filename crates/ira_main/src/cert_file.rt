@@ -6,11 +6,11 @@ ghost use Rattle.ira_main.specs.CertFile.{IsTextToKeep, KeepsCertificate};
 ghost use Rattle.ira_main.specs.Outcome.{Outcome, ReportsOutcome, outcome_number};
 
 use crate::program_fault::{ProgramFault, report_outcome};
-use crate::status::Status;
 use crate::text_file::write_text;
 use ira_cert_text::{Certificate, write_cert};
 use ira_event::Sink;
 use ira_main_files::{Shelf, ShelfFault};
+use ira_view::Status;
 use std::alloc::Allocator;
 
 /// What comes of keeping the text of a certificate in a new file of this name. There is none where it is past the

@@ -12,14 +12,13 @@ use crate::cert_file::keep_written;
 use crate::overwriting::keep_inputs;
 use crate::program_fault::ProgramFault;
 use crate::read_files::{read_file, read_logs};
-use crate::report::{print_text, report_as};
+use crate::report::{report_as, written};
 use crate::source_names::source_names;
-use crate::status::Status;
 use ira_audit::{Answer, AskedQuestion, DecidedCases, Refusal};
-use ira_event::{MemorySink, Sink};
+use ira_event::Sink;
 use ira_main_cli::DecideRequest;
 use ira_main_files::{FileName, Shelf};
-use ira_view_json::cases_lines;
+use ira_view::{Status, write_decided_as};
 use std::alloc::Allocator;
 use std::thread::Threads;
 
@@ -41,8 +40,7 @@ fn keep_found<'a, A: Allocator, F: Shelf>(
     }
 }
 
-// Prints what was found, with its status: as JSON, where that is wanted, or else its lines, which are put together first,
-// since the output isn't buffered.
+// Prints what was found, with its status, as JSON where that is wanted, or else its lines.
 fn print_found<'a, A: Allocator + Clone, W: Sink>(
     alloc: A,
     is_json: bool,
@@ -53,16 +51,8 @@ fn print_found<'a, A: Allocator + Clone, W: Sink>(
         → PrintsFound is_json (W.state out.old) (W.state out.new) result findings
         ⊎ ((W.state out.new ≡ W.state out.old) × (result ≡ Err OutOfMemory)) }
 {
-    let status = Status::of_absent(decided.are_absent);
-    if is_json {
-        let text = cases_lines(alloc, decided, status.number())?;
-        return print_text(text.as_bytes(), status, out);
-    }
-    let mut text = MemorySink::new(alloc);
-    let Ok(()) = decided.write(&mut text) else {
-        return Err(ProgramFault::OutOfMemory);
-    };
-    print_text(text.bytes(), status, out)
+    let wrote = write_decided_as(alloc, is_json, decided, out);
+    written(wrote, Status::of_absent(decided.are_absent))
 }
 
 // Prints what is found for the question, and then keeps its certificate, where a name is given for one.

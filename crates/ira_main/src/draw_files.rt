@@ -4,7 +4,7 @@ ghost use Rattle.ira_audit.specs.Judged.{IsJudged};
 ghost use Rattle.ira_audit.specs.Report.{IsReportable};
 ghost use Rattle.ira_main_files.specs.Shelf.{WritesFile};
 ghost use Rattle.ira_main_files.specs.declared.file_name.FileName.{FileName as Name};
-ghost use Rattle.ira_main.specs.Draw.{DrawsLogs, IsJudgedTold, KeepsPicture, PrintsDrawn, TellsDrawn, names_page};
+ghost use Rattle.ira_main.specs.Draw.{DrawsLogs, IsJudgedToldOf, KeepsPicture, PrintsDrawn, TellsDrawn, names_page};
 ghost use Rattle.ira_main.specs.FilesRead.{names_of};
 ghost use Rattle.ira_main.specs.ProgramFault.{draw_fault};
 ghost use Rattle.ira_main.specs.Overwriting.{input_names};
@@ -18,13 +18,12 @@ use crate::read_to_draw::{ToDraw, read_to_draw};
 use crate::report::report;
 use crate::show_files::{read_asked, ring_at};
 use crate::source_names::source_names;
-use crate::status::Status;
 use crate::text_file::write_text;
 use ira_audit::{Answer, GoodLogs, Judged, write_report};
 use ira_event::{Sink, WriteFault};
 use ira_main_cli::{AskedMoment, DrawRequest};
 use ira_main_files::{FileName, Shelf};
-use ira_view::RingFault;
+use ira_view::{RingFault, Status};
 use ira_view_page::PageText;
 use ira_view_picture::DrawFault;
 use std::alloc::Allocator;
@@ -136,7 +135,7 @@ fn draw_judged<'a, A: Allocator + Clone, F: Shelf, W: Sink>(
     requires { (texts : List (List ℕ)) × IsJudged texts read.judged × (length names.now ≡ length texts) }
     ensures { (texts : List (List ℕ)) → IsJudged texts read.judged
         → (names_page draw.now.picture.now ≡ true
-        → IsJudgedTold (names_of names.now) texts read.judged (string_bytes read.told))
+        → IsJudgedToldOf (names_of names.now) texts read.judged (string_bytes read.told))
         → TellsDrawn A (WritesFile F.creates F.closes F.Out.state) (names_of names.now) texts draw.now question.now
         shelf.old shelf.new (W.state out.old) (W.state out.new) result
         ⊎ ((shelf.new ≡ shelf.old) × (W.state out.new ≡ W.state out.old) × (result ≡ Err OutOfMemory)) }
@@ -164,7 +163,7 @@ pub(crate) fn draw_files<'a, R, A, F, W>(
     out: &mut W,
 ) -> Result<Status, ProgramFault<'a>>
 where
-    R: AllocGlobal + Threads + Sync,
+    R: Threads + Sync,
     A: Allocator + Clone + Send + Sync,
     F: Shelf + Sync,
     W: Sink,

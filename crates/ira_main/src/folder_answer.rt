@@ -5,11 +5,11 @@ ghost use Rattle.ira_main.specs.Each.{IsFolderAnswer, IsFolderAudit, IsFolderObj
 use crate::program_fault::ProgramFault;
 use crate::read_files::read_in_turn;
 use crate::source_names::source_names;
-use crate::status::Status;
 use ira_audit::{Answer, RingAudit, write_report};
 use ira_event::{MemorySink, OutOfMemory, Sink, WriteFault, write_bytes};
 use ira_main_cli::LogSource;
 use ira_main_files::{FileName, TextSource};
+use ira_view::Status;
 use ira_view_json::{folder_answer_line, unread_line};
 use std::alloc::Allocator;
 

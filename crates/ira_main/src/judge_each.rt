@@ -6,11 +6,11 @@ ghost use Rattle.ira_main.specs.Each.{JudgesEach, each_status, is_no, unread_nam
 use crate::folder_answer::{FolderAnswer, judge_folder};
 use crate::program_fault::ProgramFault;
 use crate::read_files::thread_count;
-use crate::status::Status;
 use ira_audit::Answer;
 use ira_event::{MemorySink, OutOfMemory, Sink, WriteFault, write_bytes};
 use ira_main_cli::EachRequest;
 use ira_main_files::{FileName, Shelf, TextSource};
+use ira_view::Status;
 use std::alloc::{AllocError, Allocator, Global};
 use std::thread::{self, Threads};
 
@@ -138,16 +138,14 @@ fn has_no(answers: &[FolderAnswer<'_>]) -> bool
     answers.iter().any(|answer| matches!(answer, FolderAnswer::Judged(Answer::No(_))))
 }
 
-impl Status {
-    /// Whether no answer is no.
-    fn of_answers(answers: &[FolderAnswer<'_>]) -> Status
-        ensures { result ≡ each_status answers.now }
-    {
-        if has_no(answers) {
-            Status::No
-        } else {
-            Status::Yes
-        }
+/// The status of what comes of folders: yes where no answer is no.
+fn status_of(answers: &[FolderAnswer<'_>]) -> Status
+    ensures { result ≡ each_status answers.now }
+{
+    if has_no(answers) {
+        Status::No
+    } else {
+        Status::Yes
     }
 }
 
@@ -171,7 +169,7 @@ where
     let text = folder_texts(alloc, asked.is_json, &asked.folders, &answers)?;
     let unread = unread(rt.alloc(), &answers)?;
     match write_bytes(text.bytes(), out) {
-        Ok(()) if unread.is_empty() => Ok(Status::of_answers(&answers)),
+        Ok(()) if unread.is_empty() => Ok(status_of(&answers)),
         Ok(()) => Err(ProgramFault::CannotReadSome(unread)),
         Err(WriteFault) => Err(ProgramFault::CannotWriteAnswer),
     }

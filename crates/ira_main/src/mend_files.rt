@@ -7,13 +7,12 @@ use crate::log_files::write_files;
 use crate::overwriting::overwritten;
 use crate::program_fault::ProgramFault;
 use crate::report::report;
-use crate::status::Status;
 use ira_audit::{Answer, Reason, Refusal};
 use ira_event::{Logs, MemorySink, Sink, WriteFault, write_bytes};
 use ira_main_cli::MendRequest;
 use ira_main_files::Shelf;
 use ira_mend::{MendFault, mend};
-use ira_view::write_mended;
+use ira_view::{Status, write_mended};
 use std::alloc::Allocator;
 
 // Writes what is kept of each log, and then how many events these are. The lines are put together before a file is made,

@@ -3,10 +3,10 @@ ghost use Rattle.ira_main.specs.Outcome.{GivesNoAnswer};
 ghost use Rattle.ira_main.specs.Serve.{AsksPairs, IsPairsFault};
 
 use crate::program_fault::ProgramFault;
-use crate::status::Status;
 use ira_event::{MemorySink, Sink, WriteFault, write_bytes};
 use ira_pred::{pairs_question, write_question};
 use ira_ring::ring_size;
+use ira_view::Status;
 use std::alloc::Allocator;
 
 /// Prints the question whether two nodes of a ring of so many ever lead at once. Its text is put together first, since

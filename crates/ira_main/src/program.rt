@@ -21,7 +21,6 @@ use crate::record_run::{record_run_alone, record_run_on_threads};
 use crate::report::{report, report_as};
 use crate::show_files::show_files;
 use crate::source_names::source_names;
-use crate::status::Status;
 use crate::tell_unread::tell_unread;
 use crate::upgrade_files::upgrade_files;
 use crate::version::print_version;
@@ -31,6 +30,7 @@ use ira_main_cli::{
     CheckRequest, ExplainRequest, ExplainedAnswer, LogsRequest, Request, read_words,
 };
 use ira_main_files::{CountingReader, FileName, Shelf};
+use ira_view::Status;
 use std::alloc::Allocator;
 use std::io::Read;
 use std::sync::Wait;

@@ -4,14 +4,13 @@ ghost use Rattle.ira_event.specs.Sink.{Wrote};
 ghost use Rattle.ira_main_files.specs.FileName.{file_name, slash_after};
 ghost use Rattle.ira_main.specs.ProgramFault.{draw_fault, program_fault_text, unread_text, read_fault, write_fault, write_log_fault};
 ghost use Rattle.ira_main.specs.Outcome.{ReportsOutcome, outcome_number};
-ghost use Rattle.ira_main.specs.Status.{program_fault_status};
+ghost use Rattle.ira_main.specs.ProgramFault.{program_fault_status};
 
-use crate::status::Status;
 use ira_event::{Line, OutOfMemory, Sink, WriteFault, write_bytes};
 use ira_main_cli::WordsFault;
 use ira_main_files::{FileName, ShelfFault, slash_after};
 use ira_ring::RunFault;
-use ira_view::{refused_run, too_many_events, write_cut_fault};
+use ira_view::{Status, refused_run, too_many_events, write_cut_fault};
 use ira_view_moment::CutFault;
 use ira_view_picture::DrawFault;
 use std::alloc::{AllocError, AllocFailed};

@@ -1,6 +1,6 @@
 use crate::program_fault::ProgramFault;
-use crate::status::Status;
 use ira_main_cli::{CheckRequest, LogSource, RunRequest};
+use ira_view::Status;
 
 /// How far the program comes without waiting.
 #[derive(Drop)]

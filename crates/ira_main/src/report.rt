@@ -1,26 +1,26 @@
 ghost use Rattle.std.specs.Prelude.{◌≡◌, ◌⊎◌, Err};
 ghost use Rattle.ira_audit.specs.Report.{IsReportable};
-ghost use Rattle.ira_main.specs.Outcome.{Prints, Reports, ReportsAs};
+ghost use Rattle.ira_main.specs.Outcome.{Reports, ReportsAs, written_outcome};
 ghost use Rattle.ira_main.specs.declared.program_fault.ProgramFault.TheVariants.{OutOfMemory};
 
 use crate::program_fault::ProgramFault;
-use crate::status::Status;
 use ira_audit::{Answer, write_report};
-use ira_event::{Sink, WriteFault, write_bytes};
-use ira_view_json::answer_line;
+use ira_event::{Sink, WriteFault};
+use ira_view::{Status, write_answer_as};
+use ira_view_page::ShowFault;
 use std::alloc::Allocator;
 
-/// Writes a text that was put together before, and gives this status.
-pub(crate) fn print_text<'a, W: Sink>(
-    text: &[u8],
+/// What comes of a text that goes with this status, and was written or not.
+pub(crate) fn written<'a>(
+    wrote: Result<(), ShowFault>,
     status: Status,
-    out: &mut W,
 ) -> Result<Status, ProgramFault<'a>>
-    ensures { Prints text.now status (W.state out.old) (W.state out.new) result }
+    ensures { result ≡ written_outcome wrote status }
 {
-    match write_bytes(text, out) {
+    match wrote {
         Ok(()) => Ok(status),
-        Err(WriteFault) => Err(ProgramFault::CannotWriteAnswer),
+        Err(ShowFault::Write) => Err(ProgramFault::CannotWriteAnswer),
+        Err(ShowFault::OutOfMemory) => Err(ProgramFault::OutOfMemory),
     }
 }
 
@@ -46,10 +46,6 @@ pub(crate) fn report_as<'a, A: Allocator + Clone, W: Sink>(
     ensures { ReportsAs is_json answer.now (W.state out.old) (W.state out.new) result
         ⊎ ((W.state out.new ≡ W.state out.old) × (result ≡ Err OutOfMemory)) }
 {
-    if is_json {
-        let status = Status::of_answer(answer);
-        let line = answer_line(alloc, answer, status.number())?;
-        return print_text(line.as_bytes(), status, out);
-    }
-    report(answer, out)
+    let wrote = write_answer_as(alloc, is_json, answer, out);
+    written(wrote, Status::of_answer(answer))
 }

@@ -1,15 +1,14 @@
 ghost use Rattle.std.specs.Prelude.{◌≡◌, ◌⊎◌, Err, IfOk, false, length, true};
-ghost use Rattle.ira_main.specs.Show.{PrintsRing, PrintsRingAs, PrintsRingLines};
+ghost use Rattle.ira_main.specs.Show.{PrintsRing, PrintsRingAs, PrintsRingLines, named_places};
 ghost use Rattle.ira_main.specs.declared.program_fault.ProgramFault.TheVariants.{OutOfMemory};
 
 use crate::program_fault::ProgramFault;
 use crate::show_files::named_leaders;
-use crate::status::Status;
 use ira_audit::Answer;
 use ira_event::{Sink, WriteFault};
 use ira_main_cli::ShowRequest;
 use ira_main_files::FileName;
-use ira_view::{ShownRing, write_view};
+use ira_view::{ShownRing, Status, write_view};
 use ira_view_json::ShownAnswer;
 use ira_view_page::{PageText, ShowFault};
 use std::alloc::{AllocError, Allocator};
@@ -79,7 +78,8 @@ fn print_json<'a, A: Allocator + Clone, W: Sink>(
     out: &mut W,
 ) -> Result<Status, ProgramFault<'a>>
     requires { length names.now ≡ length ring.now.logs }
-    ensures { PrintsRingLines ring.now differences.now (W.state out.old) (W.state out.new) result
+    ensures { PrintsRingLines ring.now (named_places show.now.leads) differences.now show.now.has_events
+        (W.state out.old) (W.state out.new) result
         ⊎ ((W.state out.new ≡ W.state out.old) × (result ≡ Err OutOfMemory)) }
 {
     let files = paths(&alloc, names)?;
@@ -106,7 +106,8 @@ pub(crate) fn print_ring<'a, A: Allocator + Clone, W: Sink>(
     out: &mut W,
 ) -> Result<Status, ProgramFault<'a>>
     requires { length names.now ≡ length ring.now.logs }
-    ensures { PrintsRingAs show.now.is_json ring.now differences.now show.now.has_events (W.state out.old) (W.state out.new) result
+    ensures { PrintsRingAs show.now.is_json ring.now (named_places show.now.leads) differences.now show.now.has_events
+        (W.state out.old) (W.state out.new) result
         ⊎ ((W.state out.new ≡ W.state out.old) × (result ≡ Err OutOfMemory)) }
 {
     if show.is_json {

@@ -5,9 +5,9 @@ ghost use Rattle.ira_view_json.specs.Line.{IsLineOf};
 ghost use Rattle.ira_main.specs.Unread.{TellsUnread, wants_json};
 
 use crate::program_fault::ProgramFault;
-use crate::status::Status;
 use ira_event::{OutOfMemory, Sink, write_bytes};
 use ira_main_files::FileName;
+use ira_view::Status;
 use ira_view_json::unread_line;
 use std::alloc::Allocator;
 

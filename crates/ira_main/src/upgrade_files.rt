@@ -8,12 +8,11 @@ use crate::program_fault::ProgramFault;
 use crate::read_files::read_logs;
 use crate::report::report;
 use crate::source_names::source_names;
-use crate::status::Status;
 use ira_audit::{Answer, Refusal};
 use ira_event::{Logs, Sink, WriteFault};
 use ira_main_cli::RewriteRequest;
 use ira_main_files::Shelf;
-use ira_view::upgraded_logs;
+use ira_view::{Status, upgraded_logs};
 use std::alloc::Allocator;
 use std::thread::Threads;
 

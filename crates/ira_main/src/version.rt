@@ -1,10 +1,10 @@
 ghost use Rattle.ira_main.specs.Outcome.{Prints};
 ghost use Rattle.ira_main.specs.Version.{version_line};
-ghost use Rattle.ira_main.specs.declared.status.Status.TheVariants.{Yes};
+ghost use Rattle.ira_view.specs.declared.status.Status.TheVariants.{Yes};
 
 use crate::program_fault::ProgramFault;
-use crate::status::Status;
 use ira_event::{Sink, WriteFault, write_bytes};
+use ira_view::Status;
 
 /// The program's version, and the logic that it was proved in, as `rt version` names that.
 const VERSION: &[u8] = b"ira 0.1.0 (proved by rattle, logic dac8208d650f15bf)\n";

@@ -1,4 +1,8 @@
 pub mod Asked
+pub mod Htmls
+pub mod LogLines
 pub mod Moments
 pub mod Pairs
+pub mod Statuses
 pub mod Texts
+pub mod Written

@@ -3,9 +3,12 @@ pub mod Differences
 pub mod DrawFaultLine
 pub mod Explained
 pub mod FirstCut
+pub mod Html
 pub mod MendedLines
 pub mod PosedCheck
 pub mod RunFaultLine
 pub mod ShownRing
+pub mod Status
 pub mod Texts
 pub mod UpgradedLine
+pub mod ViewText

@@ -16,10 +16,13 @@ use Rattle.ira_view_show.specs.MomentText.{TellsMoment}
 use Rattle.ira_view_show.specs.Summary.{summary_text}
 use Rattle.ira_view_draw.specs.Drawing.{IsDrawing}
 use Rattle.ira_view_draw.specs.MomentLine.{cut_with_line}
+use Rattle.ira_view_json.specs.ShownAnswer.{AreAny, AreTold, IsRingText}
 use Rattle.ira_view_picture.specs.DrawFault.{HasTooManyEvents}
 use Rattle.ira_view_moment.specs.Told.{Told, at_cut, at_end, of_case, unmet}
 use Rattle.ira_view_moment.specs.Moment.{IsMoment, Moment}
 use Rattle.ira_view.specs.FirstCut.{IsFirstMoment}
+use Rattle.ira_view.specs.Status.{status_number}
+use Rattle.ira_view.specs.declared.status.Status.{Status}
 use Rattle.ira_view.specs.declared.ring_fault.RingFault.{RingFault}
 use Rattle.ira_view.specs.declared.ring_fault.RingFault.TheVariants.{No, Cut, OutOfMemory}
 
@@ -105,6 +108,17 @@ TellsEventsAt logs (Some cut) (unmet number) text =
 
 abbrev pub AreEventsOf : ShownRing → List ℕ → Type 0
 AreEventsOf ring text = TellsEventsAt ring.logs ring.cut ring.told text
+
+-- the text is lines of JSON: that of a yes, with this status, with the places that are to lead, if some are named, and with
+-- the moment of the ring; and then those of all events, where these are wanted, or else on the moment
+abbrev pub AreJsonLines : Bool → Option (List ℕ) → ShownRing → Status → List ℕ → Type 0
+AreJsonLines has_events named ring status text =
+    IsRingText ring.logs named (status_number status) ring.told ring.cut (AreTold has_events ring.logs ring.cut) text
+
+-- it is that of such a yes, and then any
+abbrev pub AreSomeJsonLines : Option (List ℕ) → ShownRing → Status → List ℕ → Type 0
+AreSomeJsonLines named ring status text =
+    IsRingText ring.logs named (status_number status) ring.told ring.cut AreAny text
 
 -- the text is a picture of the ring at these columns, with a line at its moment
 abbrev pub IsPictureOf : ShownRing → Option ℕ → Option ℕ → List ℕ → Type 0

@@ -1,8 +1,8 @@
-ghost use Rattle.std.specs.Prelude.{◌≡◌, ℕ, Err, IfErr, IfOk, List, MatchResult, OnOk, Some, length};
+ghost use Rattle.std.specs.Prelude.{◌≡◌, ℕ, Err, IfErr, IfOk, List, MatchResult, OnOk, Some, length, option_map};
 ghost use Rattle.ira_event.specs.Sink.{Takes};
 ghost use Rattle.ira_view_moment.specs.Told.{at_end};
 ghost use Rattle.ira_view_moment.specs.Moment.{whole_cut};
-ghost use Rattle.ira_view_json.specs.ShownAnswer.{WroteRing};
+ghost use Rattle.ira_view_json.specs.ShownAnswer.{AreTold, WroteRing};
 ghost use Rattle.ira_view_picture.specs.DrawFault.{IsDrawFault};
 ghost use Rattle.ira_view_show.specs.Showed.{Showed};
 ghost use Rattle.ira_view_page.specs.Printable.{IsPrintable};
@@ -109,7 +109,9 @@ impl<A: Allocator + Clone> ShownRing<A> {
         sink: &mut W,
     ) -> Result<(), ShowFault>
         requires { length files.now ≡ length self.now.logs }
-        ensures { WroteRing answer.entry.status self.now.told self.now.cut result (W.state sink.old) (W.state sink.new) }
+        ensures { WroteRing self.now.logs (option_map (λ named. named.now) answer.entry.named) answer.entry.status
+            self.now.told self.now.cut (AreTold has_events self.now.logs self.now.cut) result
+            (W.state sink.old) (W.state sink.new) }
     {
         let logs = self.logs.logs();
         write_ring(alloc, logs, files, &self.moment, answer, has_events, sink)

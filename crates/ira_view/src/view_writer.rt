@@ -1,13 +1,21 @@
-ghost use Rattle.std.specs.Prelude.{◌++◌};
+ghost use Rattle.std.specs.Prelude.{◌≡◌, ◌++◌, Bool, IfOk, false, string_bytes, true};
+ghost use Rattle.std.specs.List.{enumerate_from, flat_map};
 ghost use Rattle.ira_event.specs.Sink.{Wrote};
+ghost use Rattle.ira_audit.specs.DecidedCases.{AreDecided};
 ghost use Rattle.ira_audit.specs.Findings.{AreReportable};
-ghost use Rattle.ira_audit.specs.FindingsText.{findings_text};
+ghost use Rattle.ira_audit.specs.FindingsText.{decided_line, findings_text};
 ghost use Rattle.ira_audit.specs.Report.{IsReportable, report_line};
+ghost use Rattle.ira_audit.specs.declared.findings.Findings.{Findings};
 ghost use Rattle.ira_view_page.specs.Printable.{IsPrintable};
+ghost use Rattle.ira_view.specs.ViewText.{IsAnswerText, IsFindingsText, IsFindingsViewText, IsViewText, WroteText};
 
 use crate::findings_view::FindingsView;
-use ira_audit::{Answer, write_findings, write_report};
-use ira_event::{Sink, WriteFault, write_bytes};
+use crate::status::Status;
+use crate::view::View;
+use ira_audit::{Answer, DecidedCases, write_findings, write_report};
+use ira_event::{MemorySink, OutOfMemory, Sink, WriteFault, write_bytes};
+use ira_view_json::{answer_line, cases_lines, explained_findings_lines, explained_line};
+use ira_view_page::{Explanation, ShowFault};
 use std::alloc::Allocator;
 
 /// Writes the line of an answer, and the page after it.
@@ -22,7 +30,7 @@ pub fn write_view<W: Sink>(answer: &Answer, page: &[u8], sink: &mut W) -> Result
 
 /// Writes the lines of findings, and the page after them.
 #[tactic(auto, using(ira_event::proofs::Writing::writes))]
-pub fn write_findings_view<A: Allocator, W: Sink>(
+fn write_findings_view<A: Allocator, W: Sink>(
     view: &FindingsView<A>,
     sink: &mut W,
 ) -> Result<(), WriteFault>
@@ -34,4 +42,129 @@ pub fn write_findings_view<A: Allocator, W: Sink>(
     let page = view.explanation.page.bytes();
     write_findings(&view.findings, sink)?;
     write_bytes(page, sink)
+}
+
+/// The line of JSON of an answer that is explained.
+pub(crate) fn view_line<A: Allocator + Clone>(
+    alloc: A,
+    answer: &Answer,
+    explanation: &Explanation<A>,
+) -> Result<String<A>, OutOfMemory>
+    requires { IsReportable answer.now }
+    ensures { IfOk result (λ line. IsViewText true answer.now explanation.now (string_bytes line)) }
+{
+    let status = Status::of_answer(answer);
+    explained_line(alloc, answer, status.number(), explanation)
+}
+
+/// Writes a text that was put together before.
+fn write_text<W: Sink>(text: &[u8], sink: &mut W) -> Result<(), ShowFault>
+    ensures { WroteText (λ written. written ≡ text.now) result (W.state sink.old) (W.state sink.new) }
+{
+    Ok(write_bytes(text, sink)?)
+}
+
+/// Writes an answer, as JSON where that is wanted, or else its line.
+pub fn write_answer_as<A: Allocator + Clone, W: Sink>(
+    alloc: A,
+    is_json: bool,
+    answer: &Answer,
+    sink: &mut W,
+) -> Result<(), ShowFault>
+    requires { IsReportable answer.now }
+    ensures { WroteText (IsAnswerText is_json answer.now) result (W.state sink.old) (W.state sink.new) }
+{
+    if is_json {
+        let status = Status::of_answer(answer);
+        let line = answer_line(alloc, answer, status.number())?;
+        return write_text(line.as_bytes(), sink);
+    }
+    Ok(write_report(answer, sink)?)
+}
+
+/// Writes an answer with why it is so, as JSON where that is wanted, or else as a page after its line.
+pub fn write_view_as<A: Allocator + Clone, W: Sink>(
+    alloc: A,
+    is_json: bool,
+    view: &View<A>,
+    sink: &mut W,
+) -> Result<(), ShowFault>
+    requires { IsReportable view.now.answer }
+    ensures { WroteText (IsViewText is_json view.now.answer view.now.explanation) result
+        (W.state sink.old) (W.state sink.new) }
+{
+    if is_json {
+        let line = view_line(alloc, &view.answer, &view.explanation)?;
+        return write_text(line.as_bytes(), sink);
+    }
+    Ok(write_view(&view.answer, view.explanation.page.bytes(), sink)?)
+}
+
+/// The lines of findings, and the page after them.
+fn findings_page<A: Allocator>(
+    alloc: A,
+    view: &FindingsView<A>,
+) -> Result<MemorySink<A>, OutOfMemory>
+    requires { AreReportable view.now.findings }
+    ensures { IfOk result (λ text. IsFindingsViewText false view.now.findings view.now.explanation text.bytes) }
+{
+    let mut text = MemorySink::new(alloc);
+    match write_findings_view(view, &mut text) {
+        Ok(()) => Ok(text),
+        Err(WriteFault) => Err(OutOfMemory),
+    }
+}
+
+/// Writes findings with why they are so, as JSON where that is wanted, or else as a page after their lines; all of it at once.
+pub fn write_findings_view_as<A: Allocator + Clone, W: Sink>(
+    alloc: A,
+    is_json: bool,
+    view: &FindingsView<A>,
+    sink: &mut W,
+) -> Result<(), ShowFault>
+    requires { AreReportable view.now.findings }
+    ensures { WroteText (IsFindingsViewText is_json view.now.findings view.now.explanation) result
+        (W.state sink.old) (W.state sink.new) }
+{
+    if is_json {
+        let (findings, explanation) = (&view.findings, &view.explanation);
+        let status = Status::of_findings(findings);
+        let lines = explained_findings_lines(alloc, findings, status.number(), explanation)?;
+        return write_text(lines.as_bytes(), sink);
+    }
+    let text = findings_page(alloc, view)?;
+    write_text(text.bytes(), sink)
+}
+
+/// The lines of what was found for the cases of a question.
+fn decided_lines<A: Allocator>(
+    alloc: A,
+    decided: &DecidedCases<A>,
+) -> Result<MemorySink<A>, OutOfMemory>
+    ensures { IfOk result (λ lines. lines.bytes ≡ flat_map decided_line (enumerate_from 0 decided.now.cases.items)) }
+{
+    let mut lines = MemorySink::new(alloc);
+    match decided.write(&mut lines) {
+        Ok(()) => Ok(lines),
+        Err(WriteFault) => Err(OutOfMemory),
+    }
+}
+
+/// Writes what was found for the cases of a question, as JSON where that is wanted, or else as its lines; all of it at once.
+pub fn write_decided_as<A: Allocator + Clone, W: Sink>(
+    alloc: A,
+    is_json: bool,
+    decided: &DecidedCases<A>,
+    sink: &mut W,
+) -> Result<(), ShowFault>
+    ensures { (certify : Bool) (findings : Findings A) → AreDecided certify findings decided.now
+        → WroteText (IsFindingsText is_json findings) result (W.state sink.old) (W.state sink.new) }
+{
+    if is_json {
+        let status = Status::of_absent(decided.are_absent);
+        let lines = cases_lines(alloc, decided, status.number())?;
+        return write_text(lines.as_bytes(), sink);
+    }
+    let lines = decided_lines(alloc, decided)?;
+    write_text(lines.bytes(), sink)
 }

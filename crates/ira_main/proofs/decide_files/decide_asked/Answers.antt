@@ -1,4 +1,4 @@
-use Rattle.std.proofs.Common.{◌≡◌, ◌∙◌, Err, ap, inl, inr, refl, rules}
+use Rattle.std.proofs.Common.{◌∙◌, Err, ap, inl, inr, refl, rules}
 use Rattle.std.proofs.lemmas.Result.{err_from_is_err_and}
 use Rattle.ira_main.proofs.decide_files.decide_asked.Goals as goal
 

@@ -1,4 +1,4 @@
-use Rattle.std.proofs.Common.{◌≡◌, ◌∙◌, List, [], ◌∷◌, inl, inr, rules, refl, subst}
+use Rattle.std.proofs.Common.{List, [], ◌∷◌, inl, inr, rules, refl, subst}
 use Rattle.ira_audit.specs.declared.findings.Findings.TheVariants.{Refused}
 use Rattle.ira_audit.proofs.Deciding.{found_asked}
 use Rattle.ira_main_files.specs.declared.file_name.FileName.{FileName}

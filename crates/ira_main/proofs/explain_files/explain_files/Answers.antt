@@ -56,3 +56,8 @@ pub returns-in_err-view : goal.returns-in_err-view
 returns-in_err-view g c =
     let p = err_from_is_err_and c.from_residual-in_err-view.result c.from_residual-in_err-view.ensures.1 in
     inl (_, c.in_ok-names.ensures, inr (OutOfMemory, inr refl, refl, p.1 ∙ ap (λ f. Err f) p.2))
+
+pub returns-in_err-clone-3 : goal.returns-in_err-clone-3
+returns-in_err-clone-3 g c =
+    let p = err_from_is_err_and c.from_residual-in_err-clone-3.result c.from_residual-in_err-clone-3.ensures.1 in
+    inl (_, c.in_ok-names.ensures, inr (OutOfMemory, inr refl, refl, p.1 ∙ ap (λ f. Err f) p.2))

@@ -43,12 +43,14 @@ returns g c =
                 (
                   c.named-2.result,
                   record { names_are = ap (λ n. n ∷ []) certifying; texts_are = ap (λ t. t ∷ []) certified },
-                  _,
-                  c.in_ok-judged.judged,
-                  files,
-                  judged,
-                  record { names_are = ap (λ n. n ∷ []) named; texts_are = ap (λ t. t ∷ []) asked },
-                  c.in_ok-view.ensures.explained,
+                  (
+                    _,
+                    c.in_ok-judged.judged,
+                    files,
+                    judged,
+                    record { names_are = ap (λ n. n ∷ []) named; texts_are = ap (λ t. t ∷ []) asked },
+                    c.in_ok-view.ensures.explained,
+                  ),
                 ),
                 told,
               );

@@ -1,6 +1,5 @@
 use Rattle.std.proofs.Common.{◌≡◌, ◌∙◌, ℕ, List, [], ◌∷◌, inl, inr, refl, rules, Err, ap, subst, sym}
 use Rattle.ira_audit.specs.Judged.{IsJudged}
-use Rattle.ira_audit.specs.Findings.{AreFindings}
 use Rattle.std.proofs.lemmas.Result.{err_from_is_err_and}
 use Rattle.ira_view_page.specs.declared.named_text.NamedText.{NamedText}
 use Rattle.ira_view.specs.Texts.{texts_of}

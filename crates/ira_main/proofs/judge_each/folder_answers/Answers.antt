@@ -1,4 +1,4 @@
-use Rattle.std.proofs.Common.{◌≡◌, ◌+◌, ◌<◌, Some, arith, length, refl, rules, subst, sym, take}
+use Rattle.std.proofs.Common.{◌≡◌, ◌+◌, ◌<◌, Some, length, rules, subst, sym, take}
 use Rattle.std.proofs.lemmas.Option.{slice_get-get_or, slice_get_read}
 use Rattle.std.specs.List.{AllZip}
 use Rattle.std.specs.Prelude.{slice_get}

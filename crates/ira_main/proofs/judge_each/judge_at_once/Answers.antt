@@ -1,4 +1,4 @@
-use Rattle.std.proofs.Common.{◌∙◌, Option, Some, IfSome, arith, length, subst}
+use Rattle.std.proofs.Common.{◌∙◌, Option, Some, IfSome, arith, subst}
 use Rattle.std.proofs.lemmas.Option.{get_or_from_slice_get, slice_get_within}
 use Rattle.ira_audit.specs.declared.answer.Answer.{Answer}
 use Rattle.ira_main.specs.Each.{IsAnswerAt}

@@ -1,7 +1,6 @@
 use Rattle.std.proofs.Common.{◌≡◌, ◌≢◌, ◌∙◌, ◌∷◌, List, [], ap, arith, length, refl, rules, subst, sym}
 use Rattle.ira_event.specs.Sink.{StopsIn, Takes}
 use Rattle.ira_audit.proofs.Zipped.{zipped_length}
-use Rattle.ira_main.specs.Each.{unread_names}
 use Rattle.ira_main.specs.Each.JudgesEach.{told, stopped}
 use Rattle.ira_main.proofs.Folders.{all_tellable}
 use Rattle.ira_main.proofs.judge_each.judge_each.Goals as goal
@@ -29,7 +28,7 @@ returns-in-Ok g c =
     let names = rw c.deref-4.ensures.value at c.in_ok-unread.ensures in
     let empty : c.in_ok-unread.unread.items ≡ [] = is_empty _ (search rules) in
     told c.in_ok-answers.answers.items c.in_ok-text.text.bytes are texts took
-    (sym names ∙ empty, rw c.deref-in-Ok.ensures.value at c.of_answers.ensures)
+    (sym names ∙ empty, rw c.deref-in-Ok.ensures.value at c.status_of.ensures)
 
 pub returns-in-Ok-2 : goal.returns-in-Ok-2
 returns-in-Ok-2 g c =

@@ -1,4 +1,4 @@
-use Rattle.std.proofs.Common.{◌≡◌, ◌≤◌, ℕ, List, arith, inl, inr, refl, subst, sym}
+use Rattle.std.proofs.Common.{◌≤◌, ℕ, List, arith, inl, inr, refl, subst, sym}
 use Rattle.std.proofs.lemmas.Bool.{cases_eq}
 use Rattle.ira_main.specs.LeftFiles.{LeavesNumber}
 use Rattle.ira_main.specs.LeftFiles.SaysLeft.{said}

@@ -1,5 +1,5 @@
 use Rattle.std.proofs.Common.{◌≡◌, ℕ, zero, suc, List, ◌∷◌, Err, IfOk, MatchOption, None, Ok, Option, Result, Some}
-use Rattle.std.proofs.Common.{slice_get, subst}
+use Rattle.std.proofs.Common.{subst}
 use Rattle.ira_main_files.specs.FileName.{file_name}
 use Rattle.ira_main_files.specs.declared.file_name.FileName.{FileName}
 use Rattle.ira_main.specs.Overwriting.{IsSamePath, Replaces, ReplacesNone}

@@ -49,8 +49,8 @@ returns-in-ExplainCheck-clause-executed g c =
     (explained _ made same.shelf_is (rw (left.2, left.3)
     (rw (same.shelf_is, same.out_is) at c.explain_check_files.ensures)))
 
-pub returns-clause-executed : goal.returns-clause-executed
-returns-clause-executed g c =
+pub returns-in-Run-clause-executed : goal.returns-in-Run-clause-executed
+returns-in-Run-clause-executed g c =
     let left = c.in-Run.ensures.served in
     let made = left.0 in
     let first = made.first in

@@ -1,17 +1,13 @@
-use Rattle.std.proofs.Common.{inl, string_bytes}
-use Rattle.ira_view_json.specs.AnswerValue.{answer_value}
-use Rattle.ira_view_json.specs.Line.{IsLineOf}
-use Rattle.ira_main.proofs.Reporting.{text_reported}
+use Rattle.std.proofs.Common.{◌∙◌, ap}
+use Rattle.ira_view.specs.ViewText.{IsAnswerText}
+use Rattle.ira_main.proofs.Reporting.{text_printed}
+use Rattle.ira_main.specs.Outcome.{written_outcome}
 use Rattle.ira_main.proofs.report.report_as.Goals as goal
 
-pub returns-then-is_json : goal.returns-then-is_json
-returns-then-is_json g c =
-    let s = g.W.Sink.state c.args.out.now in
-    let t = g.W.Sink.state c.print_text.new.out in
-    inl (rw c.if-is_json.true (text_reported (λ status answer. IsLineOf (answer_value status answer))
-    c.args.answer.now c.of_answer-status.result c.number.result
-    (string_bytes c.in_ok-line.line) c.as_bytes.result.now s t c.print_text.result c.of_answer-status.ensures
-    c.number.ensures c.in_ok-line.ensures c.as_bytes.ensures.value c.print_text.ensures))
-
 pub returns : goal.returns
-returns g c = inl (rw c.if-is_json.false c.report.ensures)
+returns g c =
+    let s = g.W.Sink.state c.args.out.now in
+    let t = g.W.Sink.state c.write_answer_as-wrote.new.sink in
+    text_printed (IsAnswerText c.args.is_json c.args.answer.now) c.write_answer_as-wrote.result _ s t c.written.result
+    (c.written.ensures ∙ ap (written_outcome c.write_answer_as-wrote.result) c.of_answer.ensures)
+    c.write_answer_as-wrote.ensures

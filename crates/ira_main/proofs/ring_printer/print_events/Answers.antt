@@ -1,4 +1,4 @@
-use Rattle.std.proofs.Common.{◌≡◌, ◌∙◌, Err, Ok, refl, subst, sym, true}
+use Rattle.std.proofs.Common.{◌≡◌, ◌∙◌, Err, Ok, subst, sym, true}
 use Rattle.ira_view_page.specs.Printable.{IsPrintable}
 use Rattle.ira_main.proofs.RingPrinting.{no_memory_after, printed_after, ring_front, stopped_after, stopped_before}
 use Rattle.ira_main.proofs.RingPrinting.{stopped_of, taken_of}

@@ -1,6 +1,6 @@
-use Rattle.std.proofs.Common.{◌≡◌, ◌∙◌, inl, subst}
+use Rattle.std.proofs.Common.{inl, subst}
 use Rattle.ira_main.proofs.RingPrinting.{lines_no_memory, lines_printed, lines_stopped}
-use Rattle.ira_main.specs.Status.{IsLeadsStatus}
+use Rattle.ira_view.specs.Status.{IsLeadsStatus}
 use Rattle.ira_main.proofs.ring_printer.print_json.Goals as goal
 
 pub returns-in-Ok : goal.returns-in-Ok
@@ -11,7 +11,8 @@ returns-in-Ok g c =
     let status = c.of_differences-status.result in
     let is = subst (λ w. IsLeadsStatus w status) (c.bytes.ensures.text)
     c.of_differences-status.ensures in
-    inl (lines_printed c.args.ring.now d status c.number.result s t c.number.ensures is c.in-Ok.ensures)
+    inl (lines_printed c.args.ring.now _ d c.args.show.now.has_events status c.number.result s t c.number.ensures is
+    (rw c.named_leaders.ensures at c.in-Ok.ensures))
 
 pub returns-in-Err-Write : goal.returns-in-Err-Write
 returns-in-Err-Write g c =
@@ -21,8 +22,8 @@ returns-in-Err-Write g c =
     let status = c.of_differences-status.result in
     let is = subst (λ w. IsLeadsStatus w status) (c.bytes.ensures.text)
     c.of_differences-status.ensures in
-    inl (lines_stopped c.args.ring.now d status c.number.result s t c.number.ensures is
-    (rw (c.in-Err-Write.is, c.in-Err-Write.field-0-is) at c.write_json.ensures))
+    inl (lines_stopped c.args.ring.now _ d c.args.show.now.has_events status c.number.result s t c.number.ensures is
+    (rw (c.named_leaders.ensures, c.in-Err-Write.is, c.in-Err-Write.field-0-is) at c.write_json.ensures))
 
 pub returns : goal.returns
 returns g c =
@@ -32,5 +33,5 @@ returns g c =
     let status = c.of_differences-status.result in
     let is = subst (λ w. IsLeadsStatus w status) (c.bytes.ensures.text)
     c.of_differences-status.ensures in
-    lines_no_memory c.args.ring.now d status c.number.result s t c.number.ensures is
-    (rw (c.in-Err-OutOfMemory.is, c.in-Err-OutOfMemory.field-0-is) at c.write_json.ensures)
+    lines_no_memory c.args.ring.now _ d c.args.show.now.has_events status c.number.result s t c.number.ensures is
+    (rw (c.named_leaders.ensures, c.in-Err-OutOfMemory.is, c.in-Err-OutOfMemory.field-0-is) at c.write_json.ensures)

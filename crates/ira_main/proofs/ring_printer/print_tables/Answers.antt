@@ -1,5 +1,5 @@
 use Rattle.std.proofs.Common.{◌≡◌, ◌∙◌, Err, Ok, false, inl, subst, sym}
-use Rattle.ira_event.specs.Sink.{StopsIn, Takes}
+use Rattle.ira_event.specs.Sink.{StopsIn}
 use Rattle.ira_view_page.specs.Printable.{IsPrintable}
 use Rattle.ira_main.proofs.RingPrinting.{printed_after, ring_front, stopped_after, stopped_before, stopped_of, taken_of}
 use Rattle.ira_main.specs.Show.{PrintsRing}

@@ -1,7 +1,4 @@
-use Rattle.std.proofs.Common.{◌∙◌, Err, ap, inr, refl}
-use Rattle.std.proofs.lemmas.Result.{err_from_is_err_and}
 use Rattle.ira_main.proofs.FilesRead.{reads_one}
-use Rattle.ira_main.specs.declared.program_fault.ProgramFault.TheVariants.{OutOfMemory}
 use Rattle.ira_main.proofs.show_files.read_asked.Goals as goal
 
 pub returns-in-OfQuestion : goal.returns-in-OfQuestion

@@ -1,4 +1,4 @@
-use Rattle.std.proofs.Common.{◌≡◌, Err, ap, inl, inr, length, refl, sym, ◌∙◌}
+use Rattle.std.proofs.Common.{Err, ap, inl, inr, length, refl, sym, ◌∙◌}
 use Rattle.std.proofs.lemmas.Result.{err_from_is_err_and}
 use Rattle.ira_main.proofs.Showing.{against, no_cut, reportable, ring_of}
 use Rattle.ira_main.specs.Show.TellsRing.{no_moment, no_place, refused, shown}

@@ -1,5 +1,5 @@
 ghost use Rattle.std.specs.Prelude.{◌≡◌, IsFalse, IsTrue};
-ghost use Rattle.ira_main.specs.Status.{IsElectionStatus, IsFindingsStatus, IsLeadsStatus, answer_status, status_number};
+ghost use Rattle.ira_view.specs.Status.{IsElectionStatus, IsFindingsStatus, IsLeadsStatus, answer_status, status_number};
 
 use ira_audit::{Answer, Findings};
 use ira_ring::{NodeEnd, has_leader};
@@ -18,7 +18,7 @@ pub enum Status {
 }
 
 impl Status {
-    pub(crate) fn of_answer(answer: &Answer) -> Status
+    pub fn of_answer(answer: &Answer) -> Status
         ensures { result ≡ answer_status answer.now }
     {
         match answer {
@@ -28,14 +28,14 @@ impl Status {
     }
 
     /// Whether each case is absent.
-    pub(crate) fn of_findings<A: Allocator + Clone>(findings: &Findings<A>) -> Status
+    pub fn of_findings<A: Allocator + Clone>(findings: &Findings<A>) -> Status
         ensures { IsFindingsStatus findings.now result }
     {
         Status::of_absent(findings.are_absent())
     }
 
     /// Whether each case is absent, where that is known.
-    pub(crate) fn of_absent(are_absent: bool) -> Status
+    pub fn of_absent(are_absent: bool) -> Status
         ensures yes { IsTrue are_absent → result ≡ Status.Yes }
         ensures no { IsFalse are_absent → result ≡ Status.No }
     {
@@ -43,7 +43,7 @@ impl Status {
     }
 
     /// Whether a node leads.
-    pub(crate) fn of_ends(ends: &[NodeEnd]) -> Status
+    pub fn of_ends(ends: &[NodeEnd]) -> Status
         ensures { IsElectionStatus ends.now result }
     {
         if has_leader(ends) {
@@ -54,7 +54,7 @@ impl Status {
     }
 
     /// Whether those lead that are to, by the lines that say where they differ.
-    pub(crate) fn of_differences(differences: &[u8]) -> Status
+    pub fn of_differences(differences: &[u8]) -> Status
         ensures { IsLeadsStatus differences.now result }
     {
         if differences.is_empty() {
@@ -64,7 +64,7 @@ impl Status {
         }
     }
 
-    pub(crate) fn number(self) -> u8
+    pub fn number(self) -> u8
         ensures { result ≡ status_number self }
     {
         match self {

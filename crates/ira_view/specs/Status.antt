@@ -6,10 +6,8 @@ use Rattle.ira_audit.specs.declared.answer.Answer.TheVariants as answer
 use Rattle.ira_audit.specs.declared.findings.Findings.{Findings}
 use Rattle.ira_ring_setup.specs.declared.node_end.NodeEnd.{NodeEnd}
 use Rattle.ira_ring.specs.SeededRing.{HasLeader}
-use Rattle.ira_main.specs.declared.program_fault.ProgramFault.{ProgramFault}
-use Rattle.ira_main.specs.declared.program_fault.ProgramFault.TheVariants as program
-use Rattle.ira_main.specs.declared.status.Status.{Status}
-use Rattle.ira_main.specs.declared.status.Status.TheVariants.{Yes, No, Refused, OutOfMemory}
+use Rattle.ira_view.specs.declared.status.Status.{Status}
+use Rattle.ira_view.specs.declared.status.Status.TheVariants.{Yes, No, Refused, OutOfMemory}
 
 -- the number that the program ends with
 abbrev pub status_number : Status → ℕ
@@ -35,8 +33,3 @@ IsElectionStatus ends status = (HasLeader ends × (status ≡ Yes)) ⊎ (¬ (Has
 -- the status of a ring where some nodes are to lead: yes where nothing differs, else no
 abbrev pub IsLeadsStatus : List ℕ → Status → Type 0
 IsLeadsStatus differences status = ((differences ≡ []) × (status ≡ Yes)) ⊎ ((differences ≢ []) × (status ≡ No))
-
--- the status of a fault of the program
-abbrev pub program_fault_status : ProgramFault → Status
-program_fault_status program.OutOfMemory = OutOfMemory
-program_fault_status _ = Refused

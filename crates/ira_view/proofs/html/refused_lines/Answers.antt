@@ -1,0 +1,48 @@
+use Rattle.std.proofs.Common.{◌∙◌, ap, length, map, string_bytes, subst, sym, true}
+use Rattle.std.specs.List.{zip}
+use Rattle.std.proofs.lemmas.List.{length-map}
+use Rattle.ira_event.specs.Log.{Log}
+use Rattle.ira_event.specs.LogText.{IsLogText}
+use Rattle.std.specs.Prelude.{List}
+use Rattle.ira_audit.proofs.Judging.{refused_reason}
+use Rattle.ira_audit.proofs.Zipped.{zipped_length}
+use Rattle.ira_audit.specs.declared.answer.Answer.TheVariants.{No}
+use Rattle.ira_audit.specs.declared.reason.Reason.{Reason}
+use Rattle.ira_view_page.specs.declared.named_text.NamedText.{NamedText}
+use Rattle.ira_view.specs.Html.{AreLogLines, IsRefusalTold}
+use Rattle.ira_view.specs.Texts.{texts_of}
+use Rattle.ira_view.specs.ViewText.{IsViewText}
+use Rattle.ira_view.proofs.html.refused_lines.Goals as goal
+
+pub view_line-requires : goal.view_line-requires
+view_line-requires g c =
+    let judged = rw c.in-Refused.is at c.requires in
+    rw c.reason.ensures.value (refused_reason (texts_of c.args.files.now) c.in-Refused.refused judged.0 judged.1).1
+
+pub add_logs-requires : goal.add_logs-requires
+add_logs-requires g c =
+    let judged = rw c.in-Refused.is at c.requires in
+    let files = c.args.files.now in
+    sym (length-map files (λ (file : NamedText). file.text.now))
+    ∙ sym (zipped_length IsLogText (texts_of files) c.in-Refused.refused.logs judged.0)
+    ∙ sym (ap length c.logs.ensures.value)
+
+pub returns : goal.returns
+returns g c =
+    let refused = c.in-Refused.refused in
+    let explanation = c.in_ok-view.view.explanation in
+    let line = string_bytes c.in_ok-told.told in
+    let files = c.args.files.now in
+    let added = c.in_ok-add_logs.ensures in
+    let lines = subst (λ (logs : List Log). AreLogLines (zip (map (λ (file : NamedText). file.name.now) files) logs) added.0)
+    c.logs.ensures.value added.1 in
+    let is : IsRefusalTold g.row.A.Denot files refused (string_bytes c.add_logs.new.told) = (
+      explanation,
+      line,
+      added.0,
+      rw c.in-Refused.is at c.in_ok-view.ensures.explained,
+      subst (λ (r : Reason). IsViewText true (No r) explanation line) c.reason.ensures.value c.in_ok-told.ensures,
+      lines,
+      added.2,
+    ) in
+    rw c.in-Refused.is is

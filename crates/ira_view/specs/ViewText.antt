@@ -1,0 +1,52 @@
+-- What is written of answers and findings, for a person or as JSON.
+use Rattle.std.specs.Prelude.{◌≡◌, ℕ, Bool, true, false, List, ◌++◌, Result, Ok, Err}
+use Rattle.ira_event.specs.Sink.{SinkState, StopsIn, Takes}
+use Rattle.ira_audit.specs.FindingsText.{findings_text}
+use Rattle.ira_audit.specs.Report.{report_line}
+use Rattle.ira_audit.specs.declared.answer.Answer.{Answer}
+use Rattle.ira_audit.specs.declared.findings.Findings.{Findings}
+use Rattle.ira_view_page.specs.Printable.{IsPrintable}
+use Rattle.ira_view_page.specs.declared.explanation.Explanation.{Explanation}
+use Rattle.ira_view_page.specs.declared.show_fault.ShowFault.{ShowFault}
+use Rattle.ira_view_page.specs.declared.show_fault.ShowFault.TheVariants.{OutOfMemory, Write}
+use Rattle.ira_view_json.specs.AnswerValue.{answer_value, findings_values}
+use Rattle.ira_view_json.specs.ExplainedFindings.{explained_findings}
+use Rattle.ira_view_json.specs.ExplainedValue.{explained_value}
+use Rattle.ira_view_json.specs.Line.{AreLinesOf, IsLineOf}
+use Rattle.ira_view.specs.Status.{IsFindingsStatus, answer_status, status_number}
+use Rattle.ira_view.specs.declared.status.Status.{Status}
+
+-- the text of an answer: as JSON, where that is wanted, with its status; or else its line
+abbrev pub IsAnswerText : Bool → Answer → List ℕ → Type 0
+IsAnswerText true answer text = IsLineOf (answer_value (status_number (answer_status answer)) answer) text
+IsAnswerText false answer text = text ≡ report_line answer
+
+-- the text of an answer that is explained: as JSON, where that is wanted, with its status and with what it rests on; or else
+-- its line, and after it the page, which is printable
+abbrev pub IsViewText : {A : Type 0} → Bool → Answer → Explanation A → List ℕ → Type 0
+IsViewText true answer explanation text =
+    IsLineOf (explained_value (status_number (answer_status answer)) answer explanation) text
+IsViewText false answer explanation text =
+    IsPrintable explanation.page × (text ≡ report_line answer ++ explanation.page)
+
+-- the text of findings: as JSON, where that is wanted, with their status; or else their lines
+abbrev pub IsFindingsText : {A : Type 0} → Bool → Findings A → List ℕ → Type 0
+IsFindingsText true findings text =
+    (status : Status) × IsFindingsStatus findings status
+    × AreLinesOf (findings_values (status_number status) findings) text
+IsFindingsText false findings text = text ≡ findings_text findings
+
+-- the text of findings that are explained: as JSON, where that is wanted, with their status and with what they rest on; or
+-- else their lines, and after them the page, which is printable
+abbrev pub IsFindingsViewText : {A : Type 0} → Bool → Findings A → Explanation A → List ℕ → Type 0
+IsFindingsViewText true findings explanation text =
+    (status : Status) × IsFindingsStatus findings status
+    × AreLinesOf (explained_findings (status_number status) findings explanation) text
+IsFindingsViewText false findings explanation text =
+    IsPrintable explanation.page × (text ≡ findings_text findings ++ explanation.page)
+
+-- the sink took such a text; a first part of one, where it failed; or nothing, where memory ran out
+abbrev pub WroteText : {T : Type 0} → (List ℕ → Type 0) → Result T ShowFault → SinkState → SinkState → Type 0
+WroteText IsText (Ok v) old new = (text : List ℕ) × IsText text × Takes text old new
+WroteText IsText (Err Write) old new = (text : List ℕ) × IsText text × StopsIn text old new
+WroteText IsText (Err OutOfMemory) old new = new ≡ old
