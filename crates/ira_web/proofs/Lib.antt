@@ -1,4 +1,4 @@
-pub mod Deciding
+pub mod Printed
 pub mod Served
 pub mod Shown
 pub mod Written

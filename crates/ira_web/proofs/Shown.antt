@@ -1,5 +1,5 @@
 -- What is told of a ring at a moment that is asked for.
-use Rattle.std.proofs.Common.{◌≡◌, ℕ, List, IfOk, Ok, Err, Result, inl, inr, refl}
+use Rattle.std.proofs.Common.{◌≡◌, ℕ, List, IfOk, Ok, Err, Result, ap, inl, inr, refl}
 use Rattle.ira_audit.specs.Refusal.{IsQuestionRefusal}
 use Rattle.ira_audit.specs.Report.{IsReportableReason}
 use Rattle.ira_audit.specs.declared.answer.Answer.{Answer}
@@ -7,9 +7,10 @@ use Rattle.ira_audit.specs.declared.reason.Reason.{Reason}
 use Rattle.ira_event.specs.Log.{Log}
 use Rattle.ira_view_picture.specs.declared.draw_fault.DrawFault.{DrawFault}
 use Rattle.ira_view_picture.specs.declared.draw_fault.DrawFault.TheVariants as draw
+use Rattle.ira_view.specs.ShownRing.{ShownRing}
 use Rattle.ira_view.specs.declared.ring_fault.RingFault.{RingFault}
 use Rattle.ira_view.specs.declared.ring_fault.RingFault.TheVariants as fault
-use Rattle.ira_web.specs.AskedMoment.{IsNoAskedRing}
+use Rattle.ira_web.specs.AskedMoment.{IsAskedRing, IsNoAskedRing}
 use Rattle.ira_web.specs.Reply.{Reply}
 use Rattle.ira_web.specs.Show.{Draws, IsReportableFault, TellsPicture}
 use Rattle.ira_web.specs.Show.Draws.{drawn, too_many}
@@ -40,3 +41,10 @@ draws answer IsPicture AreTooMany (Ok picture) reply is many told = drawn pictur
 draws answer IsPicture AreTooMany (Err (draw.TooManyEvents events)) reply is many told =
     too_many events (many events refl) told
 draws answer IsPicture AreTooMany (Err draw.OutOfMemory) reply is many told = absurd told
+
+-- a ring that is asked for has these logs
+pub ring_logs : (logs : List Log) (moment : AskedMoment) (question : List ℕ) (ring : ShownRing)
+    → IsAskedRing logs moment question ring → ring.logs ≡ logs
+ring_logs logs AtEnd question ring h = ap (λ (r : ShownRing). r.logs) h
+ring_logs logs (AtCut events) question ring h = h.0
+ring_logs logs (OfQuestion case) question ring h = h.0

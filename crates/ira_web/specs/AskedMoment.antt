@@ -5,6 +5,7 @@ use Rattle.ira_view_moment.specs.Moment.{whole_cut}
 use Rattle.ira_view.specs.ShownRing.{IsAtCut, IsNoCut, IsNoQuestion, IsOfQuestion, ShownRing}
 use Rattle.ira_view.specs.declared.ring_fault.RingFault.{RingFault}
 use Rattle.ira_view_moment.specs.Told.{at_end}
+use Rattle.ira_view_page.specs.declared.named_text.NamedText.{NamedText}
 use Rattle.ira_web.specs.declared.asked_moment.AskedMoment.{AskedMoment}
 use Rattle.ira_web.specs.declared.asked_moment.AskedMoment.TheVariants.{AtCut, AtEnd, OfQuestion}
 
@@ -19,11 +20,12 @@ moment_values AtEnd = []
 moment_values (AtCut events) = 1 ∷ events.now
 moment_values (OfQuestion case) = 2 ∷ case_values case
 
--- the texts that tell of the moment: that of a question, if it is the first that meets one
-abbrev pub moment_texts : AskedMoment → List ℕ → List (List ℕ)
-moment_texts (OfQuestion case) question = question ∷ []
-moment_texts AtEnd question = []
-moment_texts (AtCut events) question = []
+-- the files are those of the logs, after that of the question, with this text, whose first moment is asked for, where one is
+abbrev pub AreMomentFiles : AskedMoment → List ℕ → List NamedText → List NamedText → Type 0
+AreMomentFiles (OfQuestion case) question files logs =
+    (file : NamedText) × (file.text.now ≡ question) × (files ≡ file ∷ logs)
+AreMomentFiles AtEnd question files logs = files ≡ logs
+AreMomentFiles (AtCut events) question files logs = files ≡ logs
 
 -- the ring of these logs at the moment: their end; when each node has made so many events, which are a consistent cut; or
 -- the first that meets a case of the question of this text, of the case of a number or of any

@@ -18,9 +18,10 @@ pub record ChecksTexts (Tells : Telling) (question certificate : List ℕ) (text
   pub told : Tells answer reply
 
 -- the first file is that of the question, the next that of the certificate, and the others are those of the logs
-pub record ChecksFiles (Tells : Telling) (files : List NamedText) (reply : Reply) : Type 0 where
-  pub question : List ℕ
-  pub certificate : List ℕ
-  pub texts : List (List ℕ)
-  pub given : texts_of files ≡ question ∷ certificate ∷ texts
-  pub told : ChecksTexts Tells question certificate texts reply
+pub record ChecksFiles (Tells : NamedText → NamedText → List NamedText → Telling) (files : List NamedText) (reply : Reply)
+    : Type 0 where
+  pub question : NamedText
+  pub certificate : NamedText
+  pub logs : List NamedText
+  pub given : files ≡ question ∷ certificate ∷ logs
+  pub told : ChecksTexts (Tells question certificate logs) question.text.now certificate.text.now (texts_of logs) reply

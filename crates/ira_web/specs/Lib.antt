@@ -2,6 +2,7 @@ pub mod AskedMoment
 pub mod AskedRun
 pub mod Check
 pub mod Decide
+pub mod Explain
 pub mod ExplainQuestion
 pub mod Files
 pub mod Mend
@@ -11,5 +12,4 @@ pub mod Request
 pub mod Run
 pub mod Serves
 pub mod Show
-pub mod Status
 pub mod Upgrade

@@ -12,7 +12,7 @@ use Rattle.ira_audit.specs.declared.reason.Reason.{Reason}
 use Rattle.ira_audit.specs.declared.reason.Reason.TheVariants.{Match}
 use Rattle.ira_view.specs.MendedLines.{mended_lines}
 use Rattle.ira_web.specs.Reply.{Reply, Reports, printed, with_files}
-use Rattle.ira_web.specs.declared.status.Status.TheVariants.{Yes}
+use Rattle.ira_view.specs.declared.status.Status.TheVariants.{Yes}
 
 -- the text of each mended log is a file, and how many events are kept of each is printed
 abbrev pub TellsMended : List Log → List Log → List Bool → Reply → Type 0

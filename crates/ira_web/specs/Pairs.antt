@@ -5,7 +5,7 @@ use Rattle.ira_pred.specs.Pairs.{ArePairCases}
 use Rattle.ira_pred.specs.Question.{QuestionCases}
 use Rattle.ira_pred.specs.QuestionText.{question_text}
 use Rattle.ira_web.specs.Reply.{Reply, printed, refused}
-use Rattle.ira_web.specs.declared.status.Status.TheVariants.{Yes}
+use Rattle.ira_view.specs.declared.status.Status.TheVariants.{Yes}
 
 -- the question whether two nodes of a ring of so many ever lead at once is printed; or no ring has so many
 pub data AsksPairs (nodes : ℕ) (reply : Reply) : Type 0 where

@@ -11,9 +11,9 @@ use Rattle.ira_ring_setup.specs.declared.run_fault.RunFault.TheVariants.{Setup}
 use Rattle.ira_view.specs.RunFaultLine.{run_fault_text}
 use Rattle.ira_web.specs.AskedRun.{ring_of}
 use Rattle.ira_web.specs.Reply.{Reply, printed, refused, with_files}
-use Rattle.ira_web.specs.Status.{IsElectionStatus}
+use Rattle.ira_view.specs.Status.{IsElectionStatus}
 use Rattle.ira_web.specs.declared.asked_run.AskedRun.{AskedRun}
-use Rattle.ira_web.specs.declared.status.Status.{Status}
+use Rattle.ira_view.specs.declared.status.Status.{Status}
 
 -- the text of each log is a file, the ends of the run are printed, and the status says whether a node leads
 abbrev pub TellsRun : Run → Reply → Type 0

@@ -1,5 +1,5 @@
 -- What comes of requests to show a ring at a moment.
-use Rattle.std.specs.Prelude.{◌≡◌, ℕ, List, ◌++◌, Result, Ok, Err, None, Some, ⊤}
+use Rattle.std.specs.Prelude.{◌≡◌, ℕ, Bool, true, false, List, ◌++◌, Result, Ok, Err, None, Some, ⊤}
 use Rattle.ira_event.specs.Log.{Log}
 use Rattle.ira_audit.specs.GoodLogs.{AreGoodLogs}
 use Rattle.ira_audit.specs.LogTexts.{AreLogTexts}
@@ -8,6 +8,7 @@ use Rattle.ira_audit.specs.RefusedLogs.{AreRefused, RefusedLogs}
 use Rattle.ira_audit.specs.Report.{IsReportableReason, report_line}
 use Rattle.ira_audit.specs.declared.answer.Answer.{Answer}
 use Rattle.ira_audit.specs.declared.answer.Answer.TheVariants as answer
+use Rattle.ira_audit.specs.declared.judged.Judged.{Judged}
 use Rattle.ira_audit.specs.declared.reason.Reason.{Reason}
 use Rattle.ira_view_draw.specs.Drawing.{IsRefusedDrawing}
 use Rattle.ira_view_page.specs.declared.named_text.NamedText.{NamedText}
@@ -16,17 +17,18 @@ use Rattle.ira_view_picture.specs.declared.draw_fault.DrawFault.{DrawFault}
 use Rattle.ira_view_picture.specs.declared.draw_fault.DrawFault.TheVariants as draw
 use Rattle.ira_view.specs.CutFaultLine.{cut_fault_text}
 use Rattle.ira_view.specs.DrawFaultLine.{too_many_text}
-use Rattle.ira_view.specs.ShownRing.{AreEventsOf, HasTooManyAt, IsPageOf, IsPictureOf, ShownRing}
+use Rattle.ira_view.specs.Html.{IsJudgedTold, IsRefusalHtml, IsRingHtml}
+use Rattle.ira_view.specs.ShownRing.{AreEventsOf, AreJsonLines, HasTooManyAt, IsPageOf, IsPictureOf, ShownRing}
+use Rattle.ira_view.specs.Status.{answer_status}
 use Rattle.ira_view.specs.Texts.{texts_of}
 use Rattle.ira_view.specs.declared.ring_fault.RingFault.{RingFault}
 use Rattle.ira_view.specs.declared.ring_fault.RingFault.TheVariants as fault
-use Rattle.ira_web.specs.AskedMoment.{IsAskedRing, IsNoAskedRing, moment_texts}
-use Rattle.ira_web.specs.Reply.{Reply, Reports, printed, refused, with_file}
-use Rattle.ira_web.specs.Status.{answer_status}
+use Rattle.ira_view.specs.declared.status.Status.TheVariants.{Yes}
+use Rattle.ira_web.specs.AskedMoment.{AreMomentFiles, IsAskedRing, IsNoAskedRing}
+use Rattle.ira_web.specs.Reply.{Prints, Reply, ReportsAs, printed, refused, with_file}
 use Rattle.ira_web.specs.declared.asked_moment.AskedMoment.{AskedMoment}
 use Rattle.ira_web.specs.declared.ring_form.RingForm.{RingForm}
-use Rattle.ira_web.specs.declared.ring_form.RingForm.TheVariants.{Events, Page, Picture}
-use Rattle.ira_web.specs.declared.status.Status.TheVariants.{Yes}
+use Rattle.ira_web.specs.declared.ring_form.RingForm.TheVariants.{Html, Lines, Picture}
 
 -- such a text is printed after the line of a yes
 abbrev pub PrintsYes : (List ℕ → Type 0) → Reply → Type 0
@@ -42,50 +44,76 @@ pub data Draws (answer : Answer) (IsPicture : List ℕ → Type 0) (AreTooMany :
   too_many : (events : ℕ) → AreTooMany events → reply ≡ refused (too_many_text events)
       → Draws answer IsPicture AreTooMany reply
 
+-- lines on a ring are printed: as JSON, where that is wanted; or else all events in an order, where these are wanted, or what
+-- it looks like at its moment
+abbrev pub PrintsLines : Bool → Bool → ShownRing → Reply → Type 0
+PrintsLines true has_events ring = Prints (AreJsonLines has_events None ring Yes) Yes
+PrintsLines false true ring = PrintsYes (AreEventsOf ring)
+PrintsLines false false ring = PrintsYes (IsPageOf ring)
+
 -- a ring is told in a form
 abbrev pub TellsRing : RingForm → ShownRing → Reply → Type 0
-TellsRing Page ring = PrintsYes (IsPageOf ring)
-TellsRing Events ring = PrintsYes (AreEventsOf ring)
+TellsRing (Lines is_json has_events) ring = PrintsLines is_json has_events ring
 TellsRing (Picture from to) ring =
     Draws answer.Yes (IsPictureOf ring (Some from) (Some to)) (HasTooManyAt ring (Some from) (Some to))
+TellsRing (Html from to) ring =
+    Draws answer.Yes (IsRingHtml ring (Some from) (Some to)) (HasTooManyAt ring (Some from) (Some to))
 
--- logs that are those of no run are told in a form: there is a picture of them, and else their answer alone
-abbrev pub TellsRefused : RingForm → RefusedLogs → Reply → Type 0
-TellsRefused Page logs = Reports (answer.No logs.reason)
-TellsRefused Events logs = Reports (answer.No logs.reason)
-TellsRefused (Picture from to) logs =
+-- JSON is wanted
+abbrev pub wants_json : RingForm → Bool
+wants_json (Lines is_json has_events) = is_json
+wants_json (Picture from to) = false
+wants_json (Html from to) = false
+
+-- logs in files that are those of no run are told in a form: there is a picture of them, or a page, and else their answer
+-- alone
+abbrev pub TellsRefused : Type 0 → RingForm → List NamedText → RefusedLogs → Reply → Type 0
+TellsRefused A (Lines is_json has_events) files logs = ReportsAs is_json (answer.No logs.reason)
+TellsRefused A (Picture from to) files logs =
     Draws (answer.No logs.reason) (IsRefusedDrawing logs.logs (Some from) (Some to))
+    (HasTooManyEvents logs.logs None (Some from) (Some to))
+TellsRefused A (Html from to) files logs =
+    Draws (answer.No logs.reason) (IsRefusalHtml A files logs (Some from) (Some to))
     (HasTooManyEvents logs.logs None (Some from) (Some to))
 
 -- why there is no such moment: the reason against the question is the answer, or numbers that are no consistent cut are
 -- refused
-abbrev pub TellsFault : RingFault → Reply → Type 0
-TellsFault (fault.No r) reply = Reports (answer.No r) reply
-TellsFault (fault.Cut f) reply = reply ≡ refused (cut_fault_text f)
-TellsFault fault.OutOfMemory reply = ⊥
+abbrev pub TellsFault : Bool → RingFault → Reply → Type 0
+TellsFault is_json (fault.No r) reply = ReportsAs is_json (answer.No r) reply
+TellsFault is_json (fault.Cut f) reply = reply ≡ refused (cut_fault_text f)
+TellsFault is_json fault.OutOfMemory reply = ⊥
 
--- what comes of texts and of the text of a question. They are those of good logs, and the ring is told at the moment that
--- is asked for, or why there is no such moment; or they are those of other logs of one ring; or this is why they are those of
--- no ring's logs
-pub data ShowsTexts (form : RingForm) (moment : AskedMoment) (question : List ℕ) (texts : List (List ℕ)) (reply : Reply)
-    : Type 0 where
-  shown : (logs : List Log) (ring : ShownRing) → AreGoodLogs texts logs → IsAskedRing logs moment question ring
-      → TellsRing form ring reply → ShowsTexts form moment question texts reply
-  no_moment : (logs : List Log) (f : RingFault) → AreGoodLogs texts logs → IsNoAskedRing logs moment question f
-      → TellsFault f reply → ShowsTexts form moment question texts reply
-  no_run : (logs : RefusedLogs) → AreLogTexts texts logs.logs → AreRefused logs → IsLogsReason texts logs.reason
-      → TellsRefused form logs reply → ShowsTexts form moment question texts reply
-  no_ring : (r : Reason) → IsRingReason texts r → Reports (answer.No r) reply
-      → ShowsTexts form moment question texts reply
+-- what comes of the texts of files and of the text of a question. They are those of good logs, and the ring is told at the
+-- moment that is asked for, or why there is no such moment; or they are those of other logs of one ring; or this is why they
+-- are those of no ring's logs
+pub data ShowsLogs (A : Type 0) (form : RingForm) (moment : AskedMoment) (question : List ℕ) (files : List NamedText)
+    (reply : Reply) : Type 0 where
+  shown : (logs : List Log) (ring : ShownRing) → AreGoodLogs (texts_of files) logs → IsAskedRing logs moment question ring
+      → TellsRing form ring reply → ShowsLogs A form moment question files reply
+  no_moment : (logs : List Log) (f : RingFault) → AreGoodLogs (texts_of files) logs
+      → IsNoAskedRing logs moment question f → TellsFault (wants_json form) f reply
+      → ShowsLogs A form moment question files reply
+  no_run : (logs : RefusedLogs) → AreLogTexts (texts_of files) logs.logs → AreRefused logs
+      → IsLogsReason (texts_of files) logs.reason → TellsRefused A form files logs reply
+      → ShowsLogs A form moment question files reply
+  no_ring : (r : Reason) → IsRingReason (texts_of files) r → ReportsAs (wants_json form) (answer.No r) reply
+      → ShowsLogs A form moment question files reply
 
 -- the files are that of the question whose first moment is asked for, where one is, and those of the logs
-pub record ShowsFiles (form : RingForm) (moment : AskedMoment) (files : List NamedText) (reply : Reply) : Type 0 where
+pub record ShowsFiles (A : Type 0) (form : RingForm) (moment : AskedMoment) (files : List NamedText) (reply : Reply)
+    : Type 0 where
   pub question : List ℕ
-  pub texts : List (List ℕ)
-  pub given : texts_of files ≡ moment_texts moment question ++ texts
-  pub told : ShowsTexts form moment question texts reply
+  pub logs : List NamedText
+  pub given : AreMomentFiles moment question files logs
+  pub told : ShowsLogs A form moment question logs reply
 
 -- ---- Helpers, no definitions.
+
+-- what a page tells of logs that were judged, where one is asked for
+abbrev pub IsToldOf : {A : Type 0} → RingForm → List NamedText → Judged A → List ℕ → Type 0
+IsToldOf (Lines is_json has_events) files judged told = ⊤
+IsToldOf (Picture from to) files judged told = ⊤
+IsToldOf (Html from to) files judged told = IsJudgedTold files judged told
 
 -- the reason, if it is one, doesn't say that memory ran out
 abbrev pub IsReportableFault : RingFault → Type 0

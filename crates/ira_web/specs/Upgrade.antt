@@ -10,7 +10,7 @@ use Rattle.ira_audit.specs.declared.answer.Answer.TheVariants.{No}
 use Rattle.ira_audit.specs.declared.reason.Reason.{Reason}
 use Rattle.ira_view.specs.UpgradedLine.{upgraded_text}
 use Rattle.ira_web.specs.Reply.{Reply, Reports, printed, with_files}
-use Rattle.ira_web.specs.declared.status.Status.TheVariants.{Yes}
+use Rattle.ira_view.specs.declared.status.Status.TheVariants.{Yes}
 
 -- the text of each log in version 2 is a file, and their number is printed
 abbrev pub TellsUpgraded : List Log → Reply → Type 0

@@ -1,6 +1,5 @@
-ghost use Rattle.std.specs.Prelude.{◌≡◌, ◌++◌, IfSome, MatchResult};
-ghost use Rattle.ira_view.specs.Texts.{texts_of};
-ghost use Rattle.ira_web.specs.AskedMoment.{IsAskedRing, IsNoAskedRing, moment_texts, moment_values};
+ghost use Rattle.std.specs.Prelude.{◌≡◌, IfSome, MatchResult};
+ghost use Rattle.ira_web.specs.AskedMoment.{AreMomentFiles, IsAskedRing, IsNoAskedRing, moment_values};
 
 use ira_audit::GoodLogs;
 use ira_view::{RingFault, ShownRing};
@@ -37,8 +36,7 @@ impl<'v> AskedMoment<'v> {
         &self,
         files: &'f [NamedText<'t>],
     ) -> Option<(&'t [u8], &'f [NamedText<'t>])>
-        ensures { IfSome result (λ parts.
-            texts_of files.now ≡ moment_texts self.now parts.0.now ++ texts_of parts.1.now) }
+        ensures { IfSome result (λ parts. AreMomentFiles self.now parts.0.now files.now parts.1.now) }
     {
         match self {
             AskedMoment::OfQuestion(_) => {

@@ -1,10 +1,10 @@
-ghost use Rattle.std.specs.Prelude.{IfOk, IfSome, List, ℕ};
+ghost use Rattle.std.specs.Prelude.{◌≡◌, ◌∷◌, IfOk, IfSome, List, ℕ};
 ghost use Rattle.ira_audit.specs.CheckAnswer.{AreSound, IsCheckAnswer};
 ghost use Rattle.ira_audit.specs.Judged.{IsJudged};
 ghost use Rattle.ira_audit.specs.Refusal.{IsSectionsRefusal, MatchRefusal, answered};
 ghost use Rattle.ira_audit.specs.Report.{IsReportable};
 ghost use Rattle.ira_web.specs.Check.{ChecksFiles, ChecksTexts};
-ghost use Rattle.ira_web.specs.Reply.{Reports};
+ghost use Rattle.ira_web.specs.Reply.{ReportsAs};
 ghost use Rattle.ira_view.specs.Texts.{texts_of};
 
 use crate::judged::judge;
@@ -12,6 +12,7 @@ use crate::reply::Reply;
 use ira_audit::{Answer, AskedQuestion, Judged, Reason, Refusal};
 use ira_cert::{Profiles, Section, Verdict, check_queues, profiled_queues};
 use ira_event::OutOfMemory;
+use ira_view::AskedFiles;
 use ira_view_page::NamedText;
 use std::alloc::Allocator;
 
@@ -63,30 +64,44 @@ fn certify<A: Allocator + Clone>(
 /// The answer of the texts of logs, of a question and of a certificate.
 fn check_logs<A: Allocator + Clone>(
     alloc: A,
-    question: &[u8],
+    is_json: bool,
+    files: AskedFiles<'_>,
     certificate: &[u8],
-    logs: &[NamedText<'_>],
 ) -> Result<Reply<A>, OutOfMemory>
-    ensures { IfOk result (ChecksTexts Reports question.now certificate.now (texts_of logs.now)) }
+    ensures { IfOk result (ChecksTexts (ReportsAs is_json) files.entry.question.now.text.now certificate.now
+        (texts_of files.entry.logs.now)) }
 {
-    let judged = judge(alloc.clone()?, logs)?;
-    match certify(alloc.clone()?, &judged, question, certificate) {
-        Ok(()) => Reply::of_answer(alloc, &Answer::Yes),
-        Err(Refusal::No(reason)) => Reply::of_answer(alloc, &Answer::No(reason)),
+    let judged = judge(alloc.clone()?, files.logs)?;
+    match certify(alloc.clone()?, &judged, files.question.text, certificate) {
+        Ok(()) => Reply::of_answer_as(alloc, is_json, &Answer::Yes),
+        Err(Refusal::No(reason)) => Reply::of_answer_as(alloc, is_json, &Answer::No(reason)),
         Err(Refusal::OutOfMemory) => Err(OutOfMemory),
     }
+}
+
+/// The files of a question and of logs, and that of a certificate, which stands between these; nothing where the first two are
+/// missing.
+pub(crate) fn split_files<'f>(
+    files: &'f [NamedText<'f>],
+) -> Option<(AskedFiles<'f>, &'f NamedText<'f>)>
+    ensures { IfSome result (λ parts. files.now ≡ parts.0.question.now ∷ parts.1.now ∷ parts.0.logs.now) }
+{
+    let [question, certificate, logs @ ..] = files else {
+        return None;
+    };
+    Some((AskedFiles { logs, question }, certificate))
 }
 
 /// The answer of the logs of these files, which come after a question and a certificate; nothing where these are missing.
 pub(crate) fn check_files<A: Allocator + Clone>(
     alloc: A,
+    is_json: bool,
     files: &[NamedText<'_>],
 ) -> Result<Option<Reply<A>>, OutOfMemory>
-    ensures { IfOk result (λ served. IfSome served (ChecksFiles Reports files.now)) }
+    ensures { IfOk result (λ served. IfSome served (ChecksFiles (λ _ _ _. ReportsAs is_json) files.now)) }
 {
-    let [question, certificate, logs @ ..] = files else {
+    let Some((files, certificate)) = split_files(files) else {
         return Ok(None);
     };
-    let reply = check_logs(alloc, question.text, certificate.text, logs)?;
-    Ok(Some(reply))
+    Ok(Some(check_logs(alloc, is_json, files, certificate.text)?))
 }

@@ -1,46 +1,54 @@
 ghost use Rattle.std.specs.Prelude.{IfOk};
 ghost use Rattle.ira_audit.specs.Report.{IsReportable};
 ghost use Rattle.ira_view.specs.Texts.{texts_of};
-ghost use Rattle.ira_web.specs.Reply.{Explains};
+ghost use Rattle.ira_web.specs.Explain.{ExplainsLog, ExplainsLogs};
+ghost use Rattle.ira_web.specs.Reply.{ExplainsAs};
 ghost use Rattle.ira_web.specs.Serves.{JudgesLog, JudgesLogs};
 
 use crate::judged::judge;
 use crate::reply::Reply;
-use ira_event::OutOfMemory;
-use ira_view::{View, explain_text, explain_texts};
+use ira_event::{MemorySink, OutOfMemory};
+use ira_view::{Status, View, explain_text, explain_texts, write_view_as};
 use ira_view_page::NamedText;
 use std::alloc::Allocator;
 
-/// The line of an answer, and why it is so.
+/// An answer, and why it is so, as JSON where that is wanted.
 pub(crate) fn tell_view<A: Allocator + Clone>(
     alloc: A,
+    is_json: bool,
     view: &View<A>,
 ) -> Result<Reply<A>, OutOfMemory>
     requires { IsReportable view.now.answer }
-    ensures { IfOk result (Explains view.now.answer) }
+    ensures { IfOk result (ExplainsAs is_json view.now.explanation view.now.answer) }
 {
-    Reply::of_page(alloc, &view.answer, view.explanation.page.bytes())
+    let mut text = MemorySink::new(alloc.clone()?);
+    let Ok(()) = write_view_as(alloc.clone()?, is_json, view, &mut text) else {
+        return Err(OutOfMemory);
+    };
+    Ok(Reply::printed(alloc, Status::of_answer(&view.answer), text)?)
 }
 
 /// The answer of the text of one log alone, and why it is so.
 pub(crate) fn explain_log<A: Allocator + Clone>(
     alloc: A,
+    is_json: bool,
     log: &NamedText<'_>,
 ) -> Result<Reply<A>, OutOfMemory>
-    ensures { IfOk result (JudgesLog Explains log.now.text.now) }
+    ensures { IfOk result (JudgesLog (ExplainsLog A is_json log.now) log.now.text.now) }
 {
     let view = explain_text(alloc.clone()?, log)?;
-    tell_view(alloc, &view)
+    tell_view(alloc, is_json, &view)
 }
 
 /// The answer of the texts of the logs of a ring, and why it is so.
 pub(crate) fn explain_logs<A: Allocator + Clone>(
     alloc: A,
+    is_json: bool,
     logs: &[NamedText<'_>],
 ) -> Result<Reply<A>, OutOfMemory>
-    ensures { IfOk result (JudgesLogs Explains (texts_of logs.now)) }
+    ensures { IfOk result (JudgesLogs (ExplainsLogs A is_json logs.now) (texts_of logs.now)) }
 {
     let judged = judge(alloc.clone()?, logs)?;
     let view = explain_texts(alloc.clone()?, logs, &judged)?;
-    tell_view(alloc, &view)
+    tell_view(alloc, is_json, &view)
 }

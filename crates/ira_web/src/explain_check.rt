@@ -2,11 +2,12 @@ ghost use Rattle.std.specs.Prelude.{IfOk, IfSome};
 ghost use Rattle.ira_audit.specs.CheckAnswer.{IsCheckAnswer};
 ghost use Rattle.ira_audit.specs.Judged.{IsJudged};
 ghost use Rattle.ira_audit.specs.Report.{IsReportable};
+ghost use Rattle.ira_view.specs.Explained.{IsCheckExplanation};
 ghost use Rattle.ira_view.specs.Texts.{texts_of};
 ghost use Rattle.ira_web.specs.Check.{ChecksFiles, ChecksTexts};
-ghost use Rattle.ira_web.specs.Reply.{Explains};
+ghost use Rattle.ira_web.specs.Explain.{ExplainsCheck};
 
-use crate::check::check_sections;
+use crate::check::{check_sections, split_files};
 use crate::explain::tell_view;
 use crate::judged::judge;
 use crate::reply::Reply;
@@ -27,6 +28,8 @@ fn explain_judged<A: Allocator + Clone>(
     ensures answer { IfOk result (λ view. IsCheckAnswer (texts_of files.entry.logs.now)
         files.entry.question.now.text.now certificate.now.text.now view.answer) }
     ensures reportable { IfOk result (λ view. IsReportable view.answer) }
+    ensures explained { IfOk result (λ view.
+        IsCheckExplanation files.entry certificate.now judged.now view.answer view.explanation) }
 {
     match pose_check(alloc.clone()?, files, certificate, judged)? {
         PosedCheck::Posed { asked, read } => {
@@ -40,28 +43,30 @@ fn explain_judged<A: Allocator + Clone>(
 /// The answer of the texts of logs, of a question and of a certificate, and why it is so.
 fn explain_check<A: Allocator + Clone>(
     alloc: A,
-    question: &NamedText<'_>,
+    is_json: bool,
+    files: AskedFiles<'_>,
     certificate: &NamedText<'_>,
-    logs: &[NamedText<'_>],
 ) -> Result<Reply<A>, OutOfMemory>
-    ensures { IfOk result (ChecksTexts Explains question.now.text.now certificate.now.text.now (texts_of logs.now)) }
+    ensures { IfOk result (ChecksTexts
+        (ExplainsCheck A is_json files.entry.question.now certificate.now files.entry.logs.now)
+        files.entry.question.now.text.now certificate.now.text.now (texts_of files.entry.logs.now)) }
 {
-    let judged = judge(alloc.clone()?, logs)?;
-    let files = AskedFiles { logs, question };
+    let judged = judge(alloc.clone()?, files.logs)?;
     let view = explain_judged(alloc.clone()?, files, certificate, &judged)?;
-    tell_view(alloc, &view)
+    tell_view(alloc, is_json, &view)
 }
 
 /// The answer of the logs of these files, which come after a question and a certificate, and why it is so; nothing where
 /// these are missing.
 pub(crate) fn explain_check_files<A: Allocator + Clone>(
     alloc: A,
+    is_json: bool,
     files: &[NamedText<'_>],
 ) -> Result<Option<Reply<A>>, OutOfMemory>
-    ensures { IfOk result (λ served. IfSome served (ChecksFiles Explains files.now)) }
+    ensures { IfOk result (λ served. IfSome served (ChecksFiles (ExplainsCheck A is_json) files.now)) }
 {
-    let [question, certificate, logs @ ..] = files else {
+    let Some((files, certificate)) = split_files(files) else {
         return Ok(None);
     };
-    Ok(Some(explain_check(alloc, question, certificate, logs)?))
+    Ok(Some(explain_check(alloc, is_json, files, certificate)?))
 }

@@ -9,9 +9,8 @@ use crate::request::Request;
 use crate::serve::serve;
 use ira_event::OutOfMemory;
 use ira_lent::{Lent, Room};
+use ira_view::Status;
 
-/// Memory ran out.
-const OUT_OF_MEMORY: u32 = 3;
 /// The values are those of no request, or the files aren't those of one.
 const NO_REQUEST: u32 = 4;
 /// What comes of the request has no room in `out`, or its sizes have none in `sizes`.
@@ -57,13 +56,13 @@ fn serve_in(
     match answer(&lent, values, bytes, lengths) {
         Ok(Some(reply)) => {
             if reply.tell(out, sizes) {
-                reply.status().number()
+                u32::from(reply.status().number())
             } else {
                 NO_ROOM
             }
         }
         Ok(None) => NO_REQUEST,
-        Err(OutOfMemory) => OUT_OF_MEMORY,
+        Err(OutOfMemory) => u32::from(Status::OutOfMemory.number()),
     }
 }
 

@@ -21,5 +21,4 @@ mod ring_form;
 mod run;
 mod serve;
 mod show;
-mod status;
 mod upgrade;

@@ -1,5 +1,5 @@
 ghost use Rattle.std.specs.Prelude.{IfOk};
-ghost use Rattle.ira_web.specs.Reply.{Reports};
+ghost use Rattle.ira_web.specs.Reply.{Reports, ReportsAs};
 ghost use Rattle.ira_web.specs.Serves.{JudgesLog, JudgesLogs};
 ghost use Rattle.ira_view.specs.Texts.{texts_of};
 
@@ -23,10 +23,11 @@ pub(crate) fn judge_log<A: Allocator + Clone>(
 /// The answer of the texts of the logs of a ring.
 pub(crate) fn judge_logs<A: Allocator + Clone>(
     alloc: A,
+    is_json: bool,
     logs: &[NamedText<'_>],
 ) -> Result<Reply<A>, OutOfMemory>
-    ensures { IfOk result (JudgesLogs Reports (texts_of logs.now)) }
+    ensures { IfOk result (JudgesLogs (ReportsAs is_json) (texts_of logs.now)) }
 {
     let judged = judge(alloc.clone()?, logs)?;
-    Reply::of_answer(alloc, &judged.answer())
+    Reply::of_answer_as(alloc, is_json, &judged.answer())
 }

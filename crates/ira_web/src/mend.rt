@@ -4,11 +4,10 @@ ghost use Rattle.ira_view.specs.Texts.{texts_of};
 ghost use Rattle.ira_web.specs.Mend.{MendsTexts, TellsMended};
 
 use crate::reply::Reply;
-use crate::status::Status;
 use ira_audit::{Answer, Reason, Refusal};
 use ira_event::{Logs, MemorySink, OutOfMemory};
 use ira_mend::{MendFault, RecordedLogs, mend};
-use ira_view::write_mended;
+use ira_view::{Status, write_mended};
 use ira_view_page::NamedText;
 use std::alloc::Allocator;
 

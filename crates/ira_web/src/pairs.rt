@@ -2,10 +2,10 @@ ghost use Rattle.std.specs.Prelude.{IfOk};
 ghost use Rattle.ira_web.specs.Pairs.{AsksPairs};
 
 use crate::reply::{Reply, kept};
-use crate::status::Status;
 use ira_event::{MemorySink, OutOfMemory};
 use ira_pred::{pairs_question, write_question};
 use ira_ring::ring_size;
+use ira_view::Status;
 use std::alloc::Allocator;
 
 /// The question whether two nodes of a ring of so many ever lead at once.

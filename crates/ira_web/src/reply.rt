@@ -1,21 +1,21 @@
-ghost use Rattle.std.specs.Prelude.{◌≡◌, ◌≤◌, ◌+◌, ◌++◌, ◌∷◌, [], IfOk, IsTrue, length, map, take};
+ghost use Rattle.std.specs.Prelude.{◌≡◌, ◌<◌, ◌≤◌, ◌+◌, ◌++◌, ◌∷◌, [], IfOk, IsFalse, IsTrue, length, map, take};
 ghost use Rattle.ira_audit.specs.Report.{IsReportable, report_line};
 ghost use Rattle.std.specs.List.{flat_map};
 ghost use Rattle.ira_event.specs.LogText.{log_text};
-ghost use Rattle.ira_web.specs.Reply.{Begins, IsTold, Reports, printed, refused, with_file, with_files};
-ghost use Rattle.ira_web.specs.Status.{answer_status};
+ghost use Rattle.ira_web.specs.Reply.{Begins, HasNoRoom, IsTold, Reports, ReportsAs, printed, refused, with_file, with_files};
+ghost use Rattle.ira_view.specs.Status.{answer_status};
 
-use crate::status::Status;
 use ira_audit::{Answer, write_report};
 use ira_event::{Logs, MemorySink, OutOfMemory, WriteFault, write_bytes, write_log};
-use ira_view::write_view;
+use ira_view::{Status, write_answer_as, write_view};
 use std::alloc::{AllocError, Allocator};
 use std::marker::Model;
 
 /// Writes how many parts there are, and how many bytes each of them is; whether there is room for that.
 fn write_lengths<A: Allocator>(parts: &[MemorySink<A>], lengths: &mut [usize]) -> bool
-    ensures { IsTrue result
+    ensures fits { IsTrue result
         → Begins (length parts.now ∷ map (λ part. length part.bytes) parts.now) lengths.new }
+    ensures full { IsFalse result → length lengths.new ≤ length parts.now }
 {
     if parts.len() >= lengths.len() {
         return false;
@@ -38,7 +38,8 @@ fn write_at(text: &[u8], out: &mut [u8], at: usize)
 
 /// Writes the parts one after another; whether there is room for them.
 fn write_parts<A: Allocator>(parts: &[MemorySink<A>], out: &mut [u8]) -> bool
-    ensures { IsTrue result → Begins (flat_map (λ part. part.bytes) parts.now) out.new }
+    ensures fits { IsTrue result → Begins (flat_map (λ part. part.bytes) parts.now) out.new }
+    ensures full { IsFalse result → length out.new < length (flat_map (λ part. part.bytes) parts.now) }
 {
     let mut at = 0;
     for part in parts {
@@ -91,6 +92,22 @@ impl<A: Allocator + Clone> Reply<A> {
             return Err(OutOfMemory);
         };
         Ok(Reply::printed(alloc, Status::of_answer(answer), line)?)
+    }
+
+    /// An answer, as JSON where that is wanted, or else its line.
+    pub(crate) fn of_answer_as(
+        alloc: A,
+        is_json: bool,
+        answer: &Answer,
+    ) -> Result<Reply<A>, OutOfMemory>
+        requires { IsReportable answer.now }
+        ensures { IfOk result (ReportsAs is_json answer.now) }
+    {
+        let mut text = MemorySink::new(alloc.clone()?);
+        let Ok(()) = write_answer_as(alloc.clone()?, is_json, answer, &mut text) else {
+            return Err(OutOfMemory);
+        };
+        Ok(Reply::printed(alloc, Status::of_answer(answer), text)?)
     }
 
     /// The line of an answer, and a page after it.
@@ -178,7 +195,8 @@ impl<A: Allocator + Clone> Reply<A> {
     /// Writes the parts one after another into `out`, and into `lengths` how many they are and how many bytes each is;
     /// whether both have room.
     pub(crate) fn tell(&self, out: &mut [u8], lengths: &mut [usize]) -> bool
-        ensures { IsTrue result → IsTold self.now.parts out.new lengths.new }
+        ensures fits { IsTrue result → IsTold self.now.parts out.new lengths.new }
+        ensures full { IsFalse result → HasNoRoom self.now.parts out.new lengths.new }
     {
         write_lengths(&self.parts, lengths) && write_parts(&self.parts, out)
     }

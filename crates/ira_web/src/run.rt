@@ -7,10 +7,9 @@ ghost use Rattle.ira_web.specs.Run.{RunsRing, TellsRun};
 
 use crate::asked_run::AskedRun;
 use crate::reply::{Reply, kept};
-use crate::status::Status;
 use ira_event::{MemorySink, OutOfMemory};
 use ira_ring::{Run, RunFault, ring_size, write_ends};
-use ira_view::refused_run;
+use ira_view::{Status, refused_run};
 use std::alloc::Allocator;
 
 /// How each node of a run ended, and its log.

@@ -33,19 +33,21 @@ pub(crate) fn serve<A: Allocator + Clone>(
             };
             Ok(Some(judge_log(alloc, log)?))
         }
-        Request::Logs => Ok(Some(judge_logs(alloc, files)?)),
-        Request::ExplainLog => {
+        Request::Logs { is_json } => Ok(Some(judge_logs(alloc, *is_json, files)?)),
+        Request::ExplainLog { is_json } => {
             let [log] = files else {
                 return Ok(None);
             };
-            Ok(Some(explain_log(alloc, log)?))
+            Ok(Some(explain_log(alloc, *is_json, log)?))
         }
-        Request::Explain => Ok(Some(explain_logs(alloc, files)?)),
-        Request::ExplainQuestion(case) => explain_question(alloc, *case, files),
-        Request::ExplainCertificate => explain_check_files(alloc, files),
+        Request::Explain { is_json } => Ok(Some(explain_logs(alloc, *is_json, files)?)),
+        Request::ExplainQuestion { is_json, case } => {
+            explain_question(alloc, *is_json, *case, files)
+        }
+        Request::ExplainCertificate { is_json } => explain_check_files(alloc, *is_json, files),
         Request::Show(form, moment) => show_files(alloc, *form, moment, files),
-        Request::Decide => decide_files(alloc, files),
-        Request::Check => check_files(alloc, files),
+        Request::Decide { is_json } => decide_files(alloc, *is_json, files),
+        Request::Check { is_json } => check_files(alloc, *is_json, files),
         Request::Pairs(nodes) => {
             let [] = files else {
                 return Ok(None);

@@ -3,10 +3,9 @@ ghost use Rattle.ira_view.specs.Texts.{texts_of};
 ghost use Rattle.ira_web.specs.Upgrade.{TellsUpgraded, UpgradesTexts};
 
 use crate::reply::Reply;
-use crate::status::Status;
 use ira_audit::{Answer, Refusal};
 use ira_event::{Logs, MemorySink, OutOfMemory};
-use ira_view::{take_texts, upgraded_logs};
+use ira_view::{Status, take_texts, upgraded_logs};
 use ira_view_page::NamedText;
 use std::alloc::Allocator;
 

@@ -1,12 +1,13 @@
 use Rattle.ira_audit.proofs.Deciding.{found_asked}
 use Rattle.ira_audit.specs.declared.findings.Findings.TheVariants.{Refused}
+use Rattle.ira_view.proofs.Statuses.{refusal_text}
 use Rattle.ira_web.proofs.Served.{if_ok}
 use Rattle.ira_web.specs.Decide.PrintsDecided.{no_certificate}
 use Rattle.ira_view.specs.Texts.{texts_of}
 use Rattle.ira_web.proofs.decide.decide_logs.Goals as goal
 
-pub of_answer-requires : goal.of_answer-requires
-of_answer-requires g c =
+pub of_answer_as-requires : goal.of_answer_as-requires
+of_answer_as-requires g c =
     (rw c.in-Err-No.field-0-is at (c.in-Err-No.ensures (texts_of c.args.logs.now) c.in_ok-judged.ensures)).1
 
 pub returns-in_ok-decide_counted-in-Ok : goal.returns-in_ok-decide_counted-in-Ok
@@ -23,8 +24,8 @@ returns-in_ok-decide_counted-in-Ok g c =
 pub returns-in-Err-No : goal.returns-in-Err-No
 returns-in-Err-No g c =
     let why = rw c.in-Err-No.field-0-is at (c.in-Err-No.ensures (texts_of c.args.logs.now) c.in_ok-judged.ensures) in
-    if_ok c.of_answer.result (λ reply told. record {
+    if_ok c.of_answer_as.result (λ reply told. record {
       findings = Refused c.in-Err-No.reason;
       found = why.0;
-      told = no_certificate tt told;
-    }) c.of_answer.ensures
+      told = no_certificate tt (told.0, refusal_text g.row.A.Denot c.args.is_json c.in-Err-No.reason told.0 told.1, told.2);
+    }) c.of_answer_as.ensures

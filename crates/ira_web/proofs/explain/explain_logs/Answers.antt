@@ -10,5 +10,11 @@ returns g c =
       answer = answer;
       judged = c.in_ok-view.ensures.answer;
       runs = yes_runs (texts_of c.args.logs.now) answer c.in_ok-view.ensures.answer;
-      told = told;
+      told = (
+        c.in_ok-view.view.explanation,
+        c.in_ok-judged.judged,
+        c.in_ok-judged.ensures,
+        c.in_ok-view.ensures.explained,
+        told,
+      );
     }) c.tell_view.ensures

@@ -1,5 +1,5 @@
 use Rattle.ira_audit.proofs.NeverMet.{no_case}
-use Rattle.std.proofs.Common.{subst}
+use Rattle.std.proofs.Common.{refl, subst}
 use Rattle.ira_audit.specs.CheckAnswer.{IsCheckAnswer}
 use Rattle.ira_audit.specs.declared.answer.Answer.{Answer}
 use Rattle.ira_view.specs.Texts.{texts_of}
@@ -8,8 +8,8 @@ use Rattle.ira_web.proofs.explain_check.explain_check.Goals as goal
 
 pub returns : goal.returns
 returns g c =
-    let texts = texts_of c.args.logs.now in
-    let question = c.args.question.now.text.now in
+    let texts = texts_of c.args.files.logs.now in
+    let question = c.args.files.question.now.text.now in
     let certificate = c.args.certificate.now.text.now in
     let judged = c.in_ok-view.ensures.answer in
     if_ok c.tell_view.result (λ reply told. record {
@@ -17,5 +17,16 @@ returns g c =
       judged = judged;
       never = λ e. no_case texts question certificate
           (subst (λ (a : Answer). IsCheckAnswer texts question certificate a) e judged);
-      told = told;
+      told = (
+        c.in_ok-view.view.explanation,
+        record {
+          files = c.args.files;
+          question_is = refl;
+          logs_are = refl;
+          judged = c.in_ok-judged.judged;
+          judged_is = c.in_ok-judged.ensures;
+          holds = c.in_ok-view.ensures.explained;
+        },
+        told,
+      );
     }) c.tell_view.ensures

@@ -16,7 +16,7 @@ returns g c =
           logs_are = refl;
           judged = c.in_ok-judged.judged;
           judged_is = c.in_ok-judged.ensures;
-          why = c.in_ok-view.ensures.explained;
+          holds = c.in_ok-view.ensures.explained;
         },
         told,
       );

@@ -3,7 +3,7 @@ use Rattle.ira_event.specs.Sink.{Memory}
 use Rattle.ira_pred.specs.QuestionText.{question_text}
 use Rattle.ira_web.specs.Pairs.AsksPairs.{asked}
 use Rattle.ira_web.specs.Reply.{printed}
-use Rattle.ira_web.specs.declared.status.Status.TheVariants.{Yes}
+use Rattle.ira_view.specs.declared.status.Status.TheVariants.{Yes}
 use Rattle.ira_web.proofs.pairs.ask_pairs.Goals as goal
 
 pub returns : goal.returns

@@ -3,7 +3,7 @@ use Rattle.ira_audit.specs.Report.{report_line}
 use Rattle.ira_audit.specs.declared.answer.Answer.TheVariants as answer
 use Rattle.ira_event.specs.Sink.{Memory}
 use Rattle.ira_web.specs.Reply.{printed}
-use Rattle.ira_web.specs.declared.status.Status.TheVariants.{Yes}
+use Rattle.ira_view.specs.declared.status.Status.TheVariants.{Yes}
 use Rattle.ira_web.proofs.show.tell_events.Goals as goal
 
 pub returns : goal.returns

@@ -4,11 +4,11 @@ use Rattle.ira_view.specs.CutFaultLine.{cut_fault_text}
 use Rattle.ira_web.specs.Reply.{refused}
 use Rattle.ira_web.proofs.show.tell_fault.Goals as goal
 
-pub of_answer-requires : goal.of_answer-requires
-of_answer-requires g c = rw c.in-No.is at c.requires
+pub of_answer_as-requires : goal.of_answer_as-requires
+of_answer_as-requires g c = rw c.in-No.is at c.requires
 
 pub returns-in-No : goal.returns-in-No
-returns-in-No g c = rw c.in-No.is c.of_answer.ensures
+returns-in-No g c = rw c.in-No.is c.of_answer_as.ensures
 
 pub returns-in_ok-refused-in-Cut : goal.returns-in_ok-refused-in-Cut
 returns-in_ok-refused-in-Cut g c =

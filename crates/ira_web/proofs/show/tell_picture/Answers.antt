@@ -2,7 +2,7 @@ use Rattle.std.proofs.Common.{◌∙◌, ◌++◌, List, ℕ, ap}
 use Rattle.ira_event.specs.Sink.{Memory}
 use Rattle.ira_view.specs.DrawFaultLine.{too_many_text}
 use Rattle.ira_web.specs.Reply.{Reply, printed, refused, with_file}
-use Rattle.ira_web.specs.Status.{answer_status}
+use Rattle.ira_view.specs.Status.{answer_status}
 use Rattle.ira_audit.specs.Report.{report_line}
 use Rattle.ira_web.proofs.show.tell_picture.Goals as goal
 

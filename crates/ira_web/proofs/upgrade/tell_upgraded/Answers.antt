@@ -7,7 +7,7 @@ use Rattle.ira_event.specs.Upgrade.{upgraded}
 use Rattle.ira_web.proofs.Served.{if_ok}
 use Rattle.ira_web.specs.Reply.{Reply, printed, with_files}
 use Rattle.ira_view.specs.UpgradedLine.{upgraded_text}
-use Rattle.ira_web.specs.declared.status.Status.TheVariants.{Yes}
+use Rattle.ira_view.specs.declared.status.Status.TheVariants.{Yes}
 use Rattle.ira_web.proofs.upgrade.tell_upgraded.Goals as goal
 
 pub returns : goal.returns
