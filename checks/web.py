@@ -1,10 +1,10 @@
 """Opens bin/ira.html in a headless Chromium, driven over loopback by its driver, and holds what it answers against what
 the program prints and writes of the same files, byte for byte: each row of examples/README.md and all commands of each
-folder, hostile names and texts, logs of a large ring, as far as the module has the command. Loads files as a user does,
-saves, writes questions; looks at what is said of a browser without 64-bit memory and of a damaged page; and that nothing
-is fetched.
+folder, hostile names and texts, logs of a large ring. Loads files as a user does, saves, writes questions, moves in
+the page to move in; looks at what is said of a browser without 64-bit memory and of a damaged page; and that nothing is
+fetched.
 
-    python3 checks/web.py PROGRAM [PAGE]      PAGE is bin/ira.html if not given; chromium and chromedriver are on the PATH
+    python3 checks/web.py PROGRAM [PAGE]   PAGE is bin/ira.html if not given; chromium and chromedriver are on the PATH
 """
 import base64
 import http.server
@@ -16,23 +16,30 @@ import tempfile
 import threading
 import time
 
-from page import Browser
-from pictures import HERE
+from page import KEYS, READS, Browser, holds_event
+from pictures import HERE, Ring
 
 EXAMPLES = os.path.realpath(os.path.join(HERE, '..', 'examples'))
-COMMANDS = ('the log of a node', 'logs', 'explain of a log', 'explain', 'explain --question', 'explain --cert', 'show',
-            'show --events', 'draw', 'decide', 'check', 'pairs', 'upgrade', 'mend', 'run')
-LOG, LOGS, EXPLAIN_LOG, EXPLAIN, EXPLAIN_QUESTION, EXPLAIN_CERT, SHOW, EVENTS, DRAW, DECIDE, CHECK, PAIRS, UPGRADE, MEND, \
-    RUN = range(15)
+LOG, LOGS, EXPLAIN_LOG, EXPLAIN, EXPLAIN_QUESTION, EXPLAIN_CERT, SHOW, EVENTS, DRAW, DECIDE, CHECK, PAIRS, UPGRADE, \
+    MEND, RUN, PAGE = range(16)
 ALL = (0, 2 ** 64 - 1)
 TOLD = '''
 const piece = it => ['h2', '.command', 'pre'].map(part => it.querySelector(part)?.textContent);
-return [$('answer').textContent, $('fault').textContent, [...document.querySelectorAll('#answers section')].map(piece)];'''
+const pieces = [...document.querySelectorAll('section section')].map(piece);
+return [$('answer').textContent, $('fault').textContent, pieces];'''
 ASKS = '''
 const [command, values, files, done] = arguments, bytes = text => Uint8Array.from(atob(text), c => c.charCodeAt(0));
 const written = bytes => btoa(Array.from(bytes, byte => String.fromCharCode(byte)).join(''));
 send({values: [command, ...values.map(BigInt)], files: files.map(([name, text]) => ({name, text: bytes(text)}))})
   .then(({status, parts}) => done([status, (parts || []).map(written)]), why => done([why.message]));'''
+
+
+FETCHES = '''
+globalThis.refused = [];
+addEventListener('securitypolicyviolation', ({blockedURI}) => refused.push(blockedURI));
+fetch(arguments[0]).catch(() => 0);
+new Image().src = arguments[0];
+navigator.sendBeacon(arguments[0]);'''
 
 
 def text_of(name):
@@ -47,7 +54,8 @@ def in_order(names):
 class Check:
     def __init__(self, program, page, browser, temp):
         self.program, self.page, self.browser, self.temp = program, page, browser, temp
-        self.answers, self.folders, self.has = 0, 0, set()
+        self.answers, self.folders, self.saved = 0, 0, os.path.join(temp, 'saved')
+        browser.devtools('Page.setDownloadBehavior', behavior='allow', downloadPath=self.saved)
 
     def wait(self, script, seconds=60):
         for _ in range(seconds * 10):
@@ -82,69 +90,57 @@ class Check:
         made = [os.path.join(folder, wrote)] if wrote else [os.path.join(folder, 'out', f'{i}.log') for i in range(255)]
         return told.returncode, [told.stdout, told.stderr] + [text_of(name) for name in made if os.path.exists(name)]
 
-    def same(self, what, command, values, files, run):
-        """Holds an answer of the module against what a run of the program gives."""
-        if command not in self.has:
-            return
-        found, wanted = self.ask(command, values, files), run()
-        assert found == wanted, (what, found, wanted)
+    def same(self, what, command, values, files, words, wrote=None, stdin=None):
+        """Holds an answer of the module against what the program prints and writes."""
+        found, wanted = self.ask(command, values, files), self.run(words, files, wrote, stdin)
+        assert found == wanted, (what, words, found, wanted)
         self.answers += 1
 
-    def known(self):
-        """The commands that the module has: of others it says that they are no requests."""
-        logs = [(f'{i}.log', text_of(os.path.join(EXAMPLES, 'two_node_election', f'{i}.log'))) for i in range(2)]
-        ask, cert = (('q', text_of(os.path.join(EXAMPLES, 'two_node_election', f'two_leaders.{kind}'))) for kind in ('ask', 'cert'))
-        files = {LOG: logs[:1], EXPLAIN_LOG: logs[:1], EXPLAIN_QUESTION: [ask, *logs], DECIDE: [ask, *logs], PAIRS: [], RUN: [],
-                 EXPLAIN_CERT: [ask, cert, *logs], CHECK: [ask, cert, *logs]}
-        values = {DRAW: ALL, PAIRS: [2], RUN: [2, 2, 1, 64, 99, 1], MEND: [0]}
-        self.has = {command for command in range(15) if self.ask(command, values.get(command, []), files.get(command, logs))[0] != 4}
-        lacks = [name for command, name in enumerate(COMMANDS) if command not in self.has]
-        if lacks:
-            print('skipped: web of', ', '.join(lacks), '(not in the module)')
-        assert LOGS in self.has
+    def draws(self, what, files, names, words, values):
+        """Pictures, and pages to move in."""
+        for command, out in ((DRAW, 'out/ring.svg'), (PAGE, 'out/ring.html')):
+            self.same(what, command, values, files, ['draw', *words, '--out', out, *names], out)
 
     def all_commands(self, what, logs):
         """All that can be asked of logs alone."""
         names = [name for name, _ in logs]
 
-        def ask(command, values, words, wrote=None):
-            self.same((what, words), command, values, logs, lambda: self.run(words + names, logs, wrote))
+        def ask(command, values, *words):
+            self.same(what, command, values, logs, [*words, *names])
 
-        ask(LOGS, [], ['logs'])
-        ask(EXPLAIN, [], ['explain'])
+        ask(LOGS, [], 'logs')
+        ask(EXPLAIN, [], 'explain')
         for command, words in ((SHOW, ['show']), (EVENTS, ['show', '--events'])):
-            ask(command, [], words)
+            ask(command, [], *words)
             for cut in ([0] * len(logs), [1] * len(logs), [9] * len(logs)):
-                ask(command, [1, *cut], words + ['--at', ','.join(map(str, cut))])
-        ask(DRAW, ALL, ['draw', '--out', 'out/ring.svg'], 'out/ring.svg')
-        ask(DRAW, (2, 4), ['draw', '--from', '2', '--to', '4', '--out', 'out/ring.svg'], 'out/ring.svg')
-        ones = ','.join('1' * len(logs))
-        ask(DRAW, [*ALL, 1] + [1] * len(logs), ['draw', '--at', ones, '--out', 'out/ring.svg'], 'out/ring.svg')
-        ask(UPGRADE, [], ['upgrade', '--out', 'out'])
+                ask(command, [1, *cut], *words, '--at', ','.join(map(str, cut)))
+        self.draws(what, logs, names, [], ALL)
+        self.draws(what, logs, names, ['--from', '2', '--to', '4'], (2, 4))
+        self.draws(what, logs, names, ['--at', ','.join('1' * len(logs))], [*ALL, 1] + [1] * len(logs))
+        ask(UPGRADE, [], 'upgrade', '--out', 'out')
         for start in ('passive', 'initiator'):
-            ask(MEND, [int(start == 'initiator')], ['mend', '--start', start, '--out', 'out'])
+            ask(MEND, [int(start == 'initiator')], 'mend', '--start', start, '--out', 'out')
         for name, text in logs:
-            self.same((what, name), LOG, [], [(name, text)], lambda: self.run([], [], stdin=text))
-            self.same((what, name), EXPLAIN_LOG, [], [('-', text)], lambda: self.run(['explain'], [], stdin=text))
+            self.same((what, name), LOG, [], [(name, text)], [], stdin=text)
+            self.same((what, name), EXPLAIN_LOG, [], [('-', text)], ['explain'], stdin=text)
 
     def asked(self, what, logs, question, cert=None):
         """All that can be asked of logs with a question."""
-        names, files = [name for name, _ in logs], [('q.ask', question), *logs]
+        names, files, of = [name for name, _ in logs], [('q.ask', question), *logs], ['--question', 'q.ask']
 
-        def ask(command, values, words, wrote=None):
-            self.same((what, words), command, values, files, lambda: self.run(words + names, files, wrote))
+        def ask(command, values, *words, wrote=None):
+            self.same(what, command, values, files, [*words, *names], wrote)
 
-        of = ['--question', 'q.ask']
-        ask(DECIDE, [], ['decide', *of, '--out', 'out/q.cert'], 'out/q.cert')
-        ask(EXPLAIN_QUESTION, [], ['explain', *of])
-        ask(EXPLAIN_QUESTION, [0], ['explain', *of, '--case', '0'])
-        ask(SHOW, [2], ['show', *of])
-        ask(EVENTS, [2, 0], ['show', '--events', *of, '--case', '0'])
-        ask(DRAW, [*ALL, 2], ['draw', *of, '--out', 'out/ring.svg'], 'out/ring.svg')
+        ask(DECIDE, [], 'decide', *of, '--out', 'out/q.cert', wrote='out/q.cert')
+        ask(EXPLAIN_QUESTION, [], 'explain', *of)
+        ask(EXPLAIN_QUESTION, [0], 'explain', *of, '--case', '0')
+        ask(SHOW, [2], 'show', *of)
+        ask(EVENTS, [2, 0], 'show', '--events', *of, '--case', '0')
+        self.draws(what, files, names, of, [*ALL, 2])
         if cert is not None:
             files.insert(1, ('q.cert', cert))
-            ask(CHECK, [], ['check', *of, '--cert', 'q.cert'])
-            ask(EXPLAIN_CERT, [], ['explain', *of, '--cert', 'q.cert'])
+            ask(CHECK, [], 'check', *of, '--cert', 'q.cert')
+            ask(EXPLAIN_CERT, [], 'explain', *of, '--cert', 'q.cert')
 
     def examples(self):
         for folder in sorted(os.listdir(EXAMPLES)):
@@ -158,27 +154,29 @@ class Check:
                 if name.endswith('.ask'):
                     self.asked((folder, name), logs, texts[name], texts.get(name.replace('.ask', '.cert')))
         for nodes in (2, 3, 64, 255, 0, 1, 256):
-            self.same(('pairs', nodes), PAIRS, [nodes], [], lambda: self.run(['pairs', str(nodes)], []))
+            self.same('pairs', PAIRS, [nodes], [], ['pairs', str(nodes)])
         names = ('--nodes', '--initiators', '--seed', '--draws', '--cap', '--terms')
         for values in ((2, 2, 17, 64, 10000, 2), (5, 1, 3, 64, 10000, 1), (8, 8, 2, 0, 9, 1), (3, 0, 1, 64, 99, 1)):
-            words = ['run', '--alone', '--out', 'out', *(str(word) for pair in zip(names, values) for word in pair)]
-            self.same(words, RUN, values, [], lambda: self.run(words, []))
+            words = [str(word) for pair in zip(names, values) for word in pair]
+            self.same('run', RUN, values, [], ['run', '--alone', '--out', 'out', *words])
 
     def hostile(self):
         """Names and texts that would be tags, or aren't what they should be."""
         good = [text_of(os.path.join(EXAMPLES, 'receipts_exchanged', f'{i}.log')) for i in range(2)]
         elements = None
-        names = ('plain', '<img src=x onerror=document.title=0>', '"\'&amp;<!--', 'h\u00f6he \u2028\u4e2d', 'line\nfeed\t', '-')
+        names = ('plain', '<img src=x onerror=document.title=0>', '"\'&amp;<!--', 'h\u00f6he \u2028\u4e2d',
+                 'line\nfeed\t', '-')
         for i, name in enumerate(names):
             names = [f'{name}{k}.log' for k in range(2)]
             logs = list(zip(names, good))
-            self.same(name, EXPLAIN, [], logs, lambda: self.run(['explain', '--', *names], logs))
+            self.same(name, EXPLAIN, [], logs, ['explain', '--', *names])
             self.load(logs, f'hostile{i}')
-            told = self.browser.run("return [document.title, document.querySelectorAll('body *').length, $('logs').textContent]")
+            told = self.browser.run("return [document.title, document.querySelectorAll('body *').length, "
+                                    "$('logs').textContent]")
             elements = elements or told[1]
             assert told[:2] == ['ira', elements] and all(name in told[2] for name in names), told
-        for text in (b'', b'\0', b'\xff' * 99, b'irlog 1\nnodes 2\n' + b'<b>' * 9 + b'\n', b'irlog 1\n' * 9, b'x' * 200_000,
-                     b'\r\n', good[0][:-1], good[0] + b'\0'):
+        for text in (b'', b'\0', b'\xff' * 99, b'irlog 1\nnodes 2\n' + b'<b>' * 9 + b'\n', b'irlog 1\n' * 9,
+                     b'x' * 200_000, b'\r\n', good[0][:-1], good[0] + b'\0'):
             self.all_commands(text[:40], [('0.log', text), ('1.log', good[1])])
             self.asked(text[:40], [('0.log', good[0]), ('1.log', good[1])], text, text)
 
@@ -212,10 +210,65 @@ class Check:
     def set(self, control, value):
         self.browser.run('const it = $(arguments[0]); it.value = arguments[1]; it.onchange()', control, value)
 
+    def click(self, text):
+        """Clicks the button or the link with this text."""
+        self.browser.run("[...document.querySelectorAll('#answers :is(button, a)')]"
+                         ".find(it => it.textContent == arguments[0]).click()", text)
+
+    def saves(self, name, wanted):
+        """Saves a file, with these bytes."""
+        at = os.path.join(self.saved, name)
+        self.click(name)
+        for _ in range(100):
+            if os.path.exists(at):
+                break
+            time.sleep(.1)
+        assert text_of(at) == wanted, name
+        os.remove(at)
+
+    def frame(self, which):
+        """Goes into a frame of the page, or back."""
+        element = which and self.browser.run('return document.querySelector(arguments[0])', which)
+        self.browser.call('POST', '/frame', {'id': element})
+        if which:
+            self.wait("return document.readyState == 'complete' && !!document.getElementById('view')")
+
+    def moved(self, logs, folder):
+        """The page to move in is made when it's asked for, is saved, and moves, in the page and in a tab of its own."""
+        browser, names = self.browser, [name for name, _ in logs]
+        assert not browser.run("return !!document.querySelector('iframe')")
+        self.click('Move in it')
+        self.wait("return !!document.querySelector('iframe')")
+        _, (_, _, page) = self.run(['draw', '--out', 'out/ring.html', *names], logs, 'out/ring.html')
+        self.saves('ring.html', page)
+        ring = Ring([os.path.join(folder, name) for name in names])
+        this = browser.call('GET', '/window')
+        self.frame('iframe')
+        self.moves(ring, names)
+        self.frame(None)
+        self.click('open it in a tab of its own')
+        tab = next(tab for tab in browser.call('GET', '/window/handles') if tab != this)
+        browser.call('POST', '/window', {'handle': tab})
+        self.wait("return document.readyState == 'complete' && !!document.getElementById('view')")
+        self.moves(ring, names)
+        browser.call('DELETE', '/window')
+        browser.call('POST', '/window', {'handle': this})
+
+    def moves(self, ring, names):
+        browser = self.browser
+        wide = browser.run('return view.wide')
+        browser.type('+', '.')
+        assert browser.run('return view.wide') > wide
+        holds_event(browser.run(READS), ring, names, 0, 1)
+        browser.stroke(KEYS['right'])
+        holds_event(browser.run(READS), ring, names, 0, 2)
+        browser.stroke(KEYS['down'])
+        holds_event(browser.run(READS), ring, names, 1, 3)
+
     def used(self):
         """What the page shows of files, an example, texts pasted, questions, moments, and what it saves."""
-        browser = self.browser
-        logs = [(f'{i}.log', text_of(os.path.join(EXAMPLES, 'two_node_election', f'{i}.log'))) for i in range(2)]
+        browser, folder = self.browser, os.path.join(EXAMPLES, 'two_node_election')
+        logs = [(f'{i}.log', text_of(os.path.join(folder, f'{i}.log'))) for i in range(2)]
         self.open()
         self.ready()
         self.load(logs, 'used')
@@ -225,7 +278,9 @@ class Check:
             if 'draw' not in line:
                 _, (out, _, *_) = self.run(line.split()[2:], logs)
                 assert text == out.decode().rstrip('\n'), (title, line, text, out)
-        for dropped, wanted in ((['lost_record'], 'no: link 1: receipt 2 has no sending'), (['lost_record/1.log'], 'yes, by itself'),
+        self.moved(logs, folder)
+        for dropped, wanted in ((['lost_record'], 'no: link 1: receipt 2 has no sending'),
+                                (['lost_record/1.log'], 'yes, by itself'),
                                 (['circle_of_two/1.log', 'circle_of_two/0.log'], 'no: circle')):
             files = [os.path.join(EXAMPLES, name) for name in dropped]
             for kind in ('dragEnter', 'dragOver', 'drop'):
@@ -233,43 +288,50 @@ class Check:
                                  data={'items': [], 'files': files, 'dragOperationsMask': 1})
             self.wait(f"return $('answer').textContent == {wanted!r}")
             self.ready()
-        for example, wanted in (('receipts_exchanged', 'no: link 1: receipt 1 differs'), ('killed_ring', 'no: log 1: cut'),
-                                ('circle_of_two', 'no: circle'), ('one_bad_log', 'no: node 0: event 1: draw range, by itself')):
+        for example, wanted in (('killed_ring', 'no: log 1: cut'), ('circle_of_two', 'no: circle'),
+                                ('one_bad_log', 'no: node 0: event 1: draw range, by itself'),
+                                ('receipts_exchanged', 'no: link 1: receipt 1 differs')):
             self.open(f'#{example}')
             self.wait(f"return $('answer').textContent == {wanted!r}")
             self.ready()
+        self.click('Move in it')
+        self.wait("return !!document.querySelector('iframe')")
+        self.frame('iframe')
+        seen = browser.run(READS)
+        assert (seen['heading'], seen['title']) == (wanted, 'node 0 event 3'), seen
+        self.frame(None)
         browser.run("$('pasted').value = arguments[0]; $('paste').click()", ''.join(text.decode() for _, text in logs))
         self.wait("return logs.length == 2 && $('answer').textContent == 'yes'")
         self.ready()
-        if DRAW in self.has:
-            drawn = browser.run("return document.querySelector('.picture').shadowRoot.querySelectorAll('[data-at]').length")
-            assert drawn == 8 and browser.run("return !!document.querySelector('a[download=\"ring.svg\"]')"), drawn
-        if {DECIDE, PAIRS} <= self.has:
-            self.set('kind', 'pairs')
-            self.shows('case 0: absent, 0 steps, node 1 spent')
-            assert browser.run("return !!document.querySelector('a[download=\"question.cert\"]')")
-            self.set('kind', 'leads')
-            self.shows('case 0: present at 4 4\ncase 1: absent, 0 steps, node 1 spent')
-            self.set('question', text_of(os.path.join(EXAMPLES, 'two_node_election', 'active_beside_passive.ask')).decode())
-            self.shows('case 0: present at 2 3')
-        if {DECIDE, SHOW} <= self.has:
-            self.set('moment', 'first')
-            self.shows('The first moment of case 0')
-            self.set('moment', 'at')
-            self.set('at', '1,1')
-            self.shows('--at 1,1')
-            self.set('at', '1,x')
-            self.wait("return $('fault').textContent.includes('numbers')")
-        if MEND in self.has:
-            self.set('moment', 'end')
-            self.set('examples', 'killed_ring')
-            self.wait("return $('answer').textContent == 'no: log 1: cut'")
-            self.ready()
-            browser.run("$('mend').click()")
-            self.wait("return !!document.querySelector('a[download=\"1.log\"]')")
-            browser.run("[...document.querySelectorAll('#answers button')].find(it => it.textContent.includes('Go on')).click()")
-            self.wait("return $('answer').textContent == 'yes'")
-            self.ready()
+        drawn = browser.run("return document.querySelector('.picture').shadowRoot.querySelectorAll('[data-at]').length")
+        assert drawn == 8, drawn
+        words = ['draw', '--out', 'out/ring.svg', '0.log', '1.log']
+        self.saves('ring.svg', self.run(words, logs, 'out/ring.svg')[1][2])
+        self.set('kind', 'pairs')
+        self.shows('case 0: absent, 0 steps, node 1 spent')
+        asked = [('two_leaders.ask', text_of(os.path.join(folder, 'two_leaders.ask'))), *logs]
+        words = ['decide', '--question', 'two_leaders.ask', '--out', 'out/q.cert', '0.log', '1.log']
+        self.saves('question.cert', self.run(words, asked, 'out/q.cert')[1][2])
+        self.set('kind', 'leads')
+        self.shows('case 0: present at 4 4\ncase 1: absent, 0 steps, node 1 spent')
+        self.set('question', text_of(os.path.join(folder, 'active_beside_passive.ask')).decode())
+        self.shows('case 0: present at 2 3')
+        self.set('moment', 'first')
+        self.shows('The first moment of case 0')
+        self.set('moment', 'at')
+        self.set('at', '1,1')
+        self.shows('--at 1,1')
+        self.set('at', '1,x')
+        self.wait("return $('fault').textContent.includes('numbers')")
+        self.set('moment', 'end')
+        self.set('examples', 'killed_ring')
+        self.wait("return $('answer').textContent == 'no: log 1: cut'")
+        self.ready()
+        browser.run("$('mend').click()")
+        self.wait("return !!document.querySelector('a[download=\"1.log\"]')")
+        self.click('Go on with these')
+        self.wait("return $('answer').textContent == 'yes'")
+        self.ready()
         assert not (faults := browser.faults()), faults
 
     def large(self):
@@ -280,7 +342,7 @@ class Check:
         subprocess.run([self.program, *words], check=True, stdout=subprocess.DEVNULL)
         logs = [(f'{i}.log', text_of(os.path.join(folder, f'{i}.log'))) for i in range(128)]
         for command, words in ((LOGS, ['logs']), (SHOW, ['show'])):
-            self.same(words, command, [], logs, lambda: self.run(words + [name for name, _ in logs], logs))
+            self.same('large', command, [], logs, [*words, *(name for name, _ in logs)])
 
     def refused(self):
         """A browser without 64-bit memory, and a damaged page: a line says so, and nothing else happens."""
@@ -316,14 +378,20 @@ class Check:
         self.open('#two_node_election')
         self.wait("return $('answer').textContent == 'yes'")
         self.ready()
+        self.click('Move in it')
+        self.wait("return !!document.querySelector('iframe')")
         fetched = self.browser.run("return performance.getEntriesByType('resource').map(it => it.name)")
         assert all(name.startswith('blob:') for name in fetched), fetched
+        at = f'http://127.0.0.1:{server.server_port}/'
+        for frame in (None, 'iframe'):
+            self.frame(frame)
+            self.browser.run(FETCHES, at)
+            time.sleep(1)
+            refused = self.browser.run('return refused')
+            assert not met and len(refused) >= 3 and set(refused) == {at}, (met, refused)
+        self.frame(None)
         self.browser.faults()
-        self.browser.run('fetch(arguments[0]).catch(() => 0); new Image().src = arguments[0]; navigator.sendBeacon(arguments[0])',
-                         f'http://127.0.0.1:{server.server_port}/')
-        time.sleep(1)
         server.shutdown()
-        assert not met and self.browser.faults(), met
 
 
 def main():
@@ -337,7 +405,6 @@ def main():
             check.silent()
             check.open()
             check.ready()
-            check.known()
             check.examples()
             check.hostile()
             check.large()

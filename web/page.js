@@ -56,13 +56,13 @@ function send(message) {
   return new Promise((resolve, reject) => asked.set(id, {resolve, reject}));
 }
 
-const [LOG, LOGS, EXPLAIN_LOG, EXPLAIN, EXPLAIN_QUESTION, EXPLAIN_CERT, SHOW, EVENTS, DRAW, DECIDE, CHECK, PAIRS, UPGRADE,
-  MEND, RUN] = Array(15).keys();
+const [LOG, LOGS, EXPLAIN_LOG, EXPLAIN, EXPLAIN_QUESTION, EXPLAIN_CERT, SHOW, EVENTS, DRAW, DECIDE, CHECK, PAIRS,
+  UPGRADE, MEND, RUN, PAGE] = Array(16).keys();
 
-// The status of a command, and what it prints and writes; nothing of one that the module doesn't have.
-async function ask(command, values, files) {
-  const {status, parts} = await send({values: [command, ...values], files});
-  if (status > 2) return null;
+// The status of a command, and what it prints and writes.
+async function ask(values, files) {
+  const {status, parts} = await send({values, files});
+  if (status > 2) throw new Error('The auditor has no such request.');
   return {status, out: decoder.decode(parts[0]), err: decoder.decode(parts[1]), files: parts.slice(2)};
 }
 
@@ -111,7 +111,7 @@ async function pickQuestion() {
   if (kind == 'given') question = file;
   if (kind == 'leads') question = {name: 'leads.ask', text: encoder.encode(leads(logs.length))};
   if (kind == 'pairs' && logs.length > 1) {
-    const {out} = await told(() => ask(PAIRS, [logs.length], [])) ?? {};
+    const {out} = await told(() => ask([PAIRS, logs.length], [])) ?? {};
     if (out) question = {name: 'two_leaders.ask', text: encoder.encode(out)};
   }
   if (kind == 'hand') question = {name: 'question.ask',
@@ -124,15 +124,14 @@ const leads = nodes =>
   `irask 1\nnodes ${nodes}\n${Array.from({length: nodes}, (_, i) => `case\n${i}: leader\n`).join('')}end\n`;
 
 function showGiven() {
-  const row = (file, i) => tag('li', {}, file.name, ' ', tag('small', {}, `${file.text.length} bytes`),
-    i > 0 && tag('button', {ariaLabel: `${file.name}: one place earlier`, onclick: () => {
-      logs.splice(i - 1, 2, file, logs[i - 1]);
-      judge();
-    }}, '\u2191'),
-    tag('button', {ariaLabel: `${file.name}: leave out`, onclick: () => {
-      logs.splice(i, 1);
-      judge();
-    }}, '\u00d7'));
+  const button = (file, title, sign, change) => {
+    const onclick = () => (change(), judge());
+    return tag('button', {title, ariaLabel: `${file.name}: ${title}`, onclick}, sign);
+  };
+  const row = (file, i) => tag('li', {}, tag('div', {}, tag('span', {}, file.name),
+    tag('small', {}, `${file.text.length} bytes`),
+    i > 0 && button(file, 'one place earlier', '\u2191', () => logs.splice(i - 1, 2, file, logs[i - 1])),
+    button(file, 'leave out', '\u00d7', () => logs.splice(i, 1))));
   $('logs').replaceChildren(...logs.map(row));
   $('certified').hidden = !cert;
   $('cert').textContent = cert?.name;
@@ -165,20 +164,39 @@ const namesOf = files => files.map(quoted).join(' ');
 const url = (bytes, type = 'text/plain') => URL.createObjectURL(new Blob([bytes], {type}));
 const save = (name, bytes, type) => tag('a', {href: url(bytes, type), download: name}, name);
 
-// What a command printed, under its line, and files to save.
-function piece(title, line, answer, ...more) {
-  if (!answer) return [];
-  const {out, err} = answer;
-  return tag('section', {}, tag('h2', {}, title), tag('p', {className: 'command'}, `$ ira ${line}`),
-    out && tag('pre', {tabIndex: 0}, out.replace(/\n$/, '')),
-    err && tag('pre', {className: 'bad', tabIndex: 0}, err.replace(/\n$/, '')), more);
+// What a command printed, under its line.
+const piece = (title, line, {out, err}, ...more) => tag('section', {}, tag('h2', {}, title),
+  tag('p', {className: 'command'}, `$ ira ${line}`),
+  out && tag('pre', {tabIndex: 0}, out.replace(/\n$/, '')),
+  err && tag('pre', {className: 'bad', tabIndex: 0}, err.replace(/\n$/, '')), more);
+
+// A command, and perhaps files of it to save.
+async function answered(title, line, values, files, links = () => []) {
+  const answer = await ask(values, files);
+  return piece(title, line, answer, links(answer));
 }
+
 // A picture in a tree of its own, in which its style stays.
-function picture(bytes) {
+function picture(bytes, more) {
   const place = tag('div', {className: 'picture', tabIndex: 0, role: 'group', ariaLabel: 'Picture of the ring'});
   const drawn = new DOMParser().parseFromString(decoder.decode(bytes), 'image/svg+xml').documentElement;
   place.attachShadow({mode: 'open'}).append(document.importNode(drawn, true));
-  return [place, tag('p', {}, 'Save: ', save('ring.svg', bytes, 'image/svg+xml'))];
+  return [place, tag('p', {}, 'Save: ', save('ring.svg', bytes, 'image/svg+xml'), ' ', more)];
+}
+// A button for the page to move in, which is large: it's made when it's asked for.
+function toMoveIn(line, values, files) {
+  const button = tag('button', {onclick: () => told(async () => {
+    button.disabled = true;
+    const answer = await ask(values, files), [page] = answer.files, at = url(page, 'text/html');
+    const frame = tag('iframe', {src: at, title: 'Page to move in'});
+    const tab = tag('a', {href: at, target: '_blank'}, 'open it in a tab of its own');
+    const made = piece('A page to move in', line, {...answer, out: ''}, frame,
+      tag('p', {}, 'Save: ', save('ring.html', page, 'text/html'), ', or ', tab));
+    button.closest('section').after(made);
+    frame.focus();
+    made.scrollIntoView();
+  })}, 'Move in it');
+  return button;
 }
 
 let turn = 0;
@@ -186,47 +204,48 @@ async function judge() {
   const mine = ++turn, isNow = () => mine == turn;
   fault();
   showGiven();
-  $('answers').replaceChildren();
+  for (const part of [$('judged'), $('answers')]) part.replaceChildren();
   $('answer').className = '';
   if (!logs.length) return $('answer').textContent = 'No logs yet.';
   $('answer').textContent = '\u2026';
   await told(async () => {
     if (asked.size) await begin();
-    const add = piece => isNow() && $('answers').append(...[piece].flat()), isOne = logs.length == 1;
+    const add = made => isNow() && $('answers').append(made), isOne = logs.length == 1;
     const names = namesOf(logs), moment = momentAsked();
-    const {status, out, err} = await ask(isOne ? LOG : LOGS, [], logs);
+    const {status, out, err} = await ask([isOne ? LOG : LOGS], logs);
     if (!isNow()) return;
+    $('judged').textContent = `$ ira ${isOne ? '<' : 'logs'} ${names}`;
     $('answer').textContent = (out || err).trim() + (isOne ? ', by itself' : '');
     $('answer').className = status ? 'bad' : 'yes';
-    add(piece('Why', isOne ? `explain < ${names}` : `explain ${names}`,
-      await ask(isOne ? EXPLAIN_LOG : EXPLAIN, [], logs)));
-    if (isOne) return;
+    if (isOne) return add(await answered('Why', `explain < ${names}`, [EXPLAIN_LOG], logs));
+    add(await answered('Why', `explain ${names}`, [EXPLAIN], logs));
     if (question) await answerQuestion(names, add);
     const [from, to] = [number($('from').value, 0n), number($('to').value, 2n ** 64n - 1n)];
     if (!moment) return fault('A moment is numbers with commas between them.');
     if (from == null || to == null) return fault('A column is a number.');
-    const files = [...moment.files, ...logs];
+    const files = [...moment.files, ...logs], shown = [from, to, ...moment.values];
     const columns = `${$('from').value && `--from ${from} `}${$('to').value && `--to ${to} `}`;
-    const drawn = await ask(DRAW, [from, to, ...moment.values], files);
-    if (drawn?.files[0] || drawn?.err) add(piece('Picture', `draw ${moment.words}${columns}--out ring.svg ${names}`,
-      {...drawn, out: ''}, drawn.files[0] && picture(drawn.files[0])));
+    const line = kind => `draw ${moment.words}${columns}--out ring.${kind} ${names}`;
+    const drawn = await ask([DRAW, ...shown], files), [svg] = drawn.files;
+    if (svg || drawn.err) add(piece('Picture', line('svg'), {...drawn, out: ''},
+      svg && picture(svg, toMoveIn(line('html'), [PAGE, ...shown], files))));
     if (status) return;
-    add(piece('Who leads, and what is on its way', `show ${moment.words}${names}`,
-      await ask(SHOW, moment.values, files)));
-    add(piece('An order of all events', `show --events ${moment.words}${names}`,
-      await ask(EVENTS, moment.values, files)));
+    add(await answered('Who leads, and what is on its way', `show ${moment.words}${names}`, [SHOW, ...moment.values],
+      files));
+    add(await answered('An order of all events', `show --events ${moment.words}${names}`, [EVENTS, ...moment.values],
+      files));
   });
 }
 async function answerQuestion(names, add) {
-  const decided = await ask(DECIDE, [], [question, ...logs]), found = decided?.files[0];
-  add(piece('The question', `decide --question ${quoted(question)} --out question.cert ${names}`, decided,
-    found && tag('p', {}, 'Save: ', save('question.cert', found), ', the certificate that no moment held it')));
-  add(piece('The question, explained', `explain --question ${quoted(question)} ${names}`,
-    await ask(EXPLAIN_QUESTION, [], [question, ...logs])));
+  const of = `--question ${quoted(question)}`, files = [question, ...logs];
+  add(await answered('The question', `decide ${of} --out question.cert ${names}`, [DECIDE], files,
+    ({files: [found]}) => found && tag('p', {}, 'Save: ', save('question.cert', found),
+      ', the certificate that no moment held it')));
+  add(await answered('The question, explained', `explain ${of} ${names}`, [EXPLAIN_QUESTION], files));
   if (!cert) return;
-  const line = `--question ${quoted(question)} --cert ${quoted(cert)} ${names}`, files = [question, cert, ...logs];
-  add(piece('The certificate', `check ${line}`, await ask(CHECK, [], files)));
-  add(piece('The certificate, explained', `explain ${line}`, await ask(EXPLAIN_CERT, [], files)));
+  const line = `${of} --cert ${quoted(cert)} ${names}`, certified = [question, cert, ...logs];
+  add(await answered('The certificate', `check ${line}`, [CHECK], certified));
+  add(await answered('The certificate, explained', `explain ${line}`, [EXPLAIN_CERT], certified));
 }
 
 // An archive of files, each at most 8 GB.
@@ -243,10 +262,10 @@ function archive(files) {
   return new Blob([...blocks, new Uint8Array(1024)]);
 }
 // Logs that a command wrote: to save, or to go on with.
-async function write(title, line, command, values, files) {
+async function write(title, line, values, files) {
   fault();
   await told(async () => {
-    const made = await ask(command, values, files), written = made.files.map((text, i) => ({name: `${i}.log`, text}));
+    const made = await ask(values, files), written = made.files.map((text, i) => ({name: `${i}.log`, text}));
     const links = written[0] && tag('p', {}, 'Save: ', save('logs.tar', archive(written), 'application/x-tar'),
       written.map(({name, text}) => [', ', save(name, text)]),
       ' ', tag('button', {onclick: () => take(written)}, 'Go on with these'));
@@ -311,9 +330,9 @@ $('uncertified').onclick = () => {
   judge();
 };
 for (const input of [$('moment'), $('at'), $('from'), $('to')]) input.onchange = judge;
-$('mend').onclick = () => write('Mended', `mend --start ${$('start').value} --out mended ${namesOf(logs)}`, MEND,
-  [+($('start').value == 'initiator')], logs);
-$('upgrade').onclick = () => write('Upgraded', `upgrade --out upgraded ${namesOf(logs)}`, UPGRADE, [], logs);
+$('mend').onclick = () => write('Mended', `mend --start ${$('start').value} --out mended ${namesOf(logs)}`,
+  [MEND, +($('start').value == 'initiator')], logs);
+$('upgrade').onclick = () => write('Upgraded', `upgrade --out upgraded ${namesOf(logs)}`, [UPGRADE], logs);
 $('record').onsubmit = event => {
   event.preventDefault();
   const {nodes, initiators, seed, terms} = Object.fromEntries([...$('record').elements].map(({name, value}) =>
@@ -322,27 +341,12 @@ $('record').onsubmit = event => {
     number(terms, 1n)];
   if (values.includes(null)) return fault('Nodes, initiators, seed and terms are numbers.');
   const some = `--nodes ${values[0]} --initiators ${values[1]} --seed ${values[2]} --terms ${values[5]}`;
-  write('Recorded', `run --alone ${some} --out ring`, RUN, values, []);
+  write('Recorded', `run --alone ${some} --out ring`, [RUN, ...values], []);
 };
-
-// Shows what the module can be asked for: it knows no other request.
-async function showKnown() {
-  const nodes = [0, 1].map(i =>
-    ({name: '', text: encoder.encode(`irlog 1\nnodes 2\nplace ${i}\nstart initiator\nend 0\n`)}));
-  const file = {name: '', text: encoder.encode(leads(2))};
-  const requests = [['question', [DECIDE], [file, ...nodes]], ['moment', [SHOW], nodes],
-    ['columns', [DRAW, 0, 2n ** 64n - 1n], nodes],
-    ['mending', [MEND, 0], nodes], ['recording', [RUN, 2, 2, 1, 64, 9, 1], []]];
-  for (const [name, values, files] of requests) {
-    const {status} = await send({values, files});
-    for (const part of document.querySelectorAll(`.${name}`)) part.hidden = status > 2;
-  }
-}
 
 told(async () => {
   await readModule();
   await begin();
-  await showKnown();
   const name = decodeURIComponent(location.hash.slice(1));
   if (!examples.some(file => folderOf(file.name) == `${name}/`)) return;
   $('examples').value = name;
