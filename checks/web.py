@@ -1,8 +1,8 @@
 """Opens bin/ira.html in a headless Chromium, driven over loopback by its driver, and holds what it answers against what
 the program prints and writes of the same files, byte for byte: each row of examples/README.md and all commands of each
-folder, hostile names and texts, logs of a large ring. Loads files as a user does, saves, writes questions, moves in
-the page to move in; looks at what is said of a browser without 64-bit memory and of a damaged page; and that nothing is
-fetched.
+folder, in words and as JSON, hostile names and texts, logs of a large ring. Loads files as a user does, saves, writes
+questions, moves in the page to move in; looks at what is said of a browser without 64-bit memory and of a damaged page;
+and that nothing is fetched.
 
     python3 checks/web.py PROGRAM [PAGE]   PAGE is bin/ira.html if not given; chromium and chromedriver are on the PATH
 """
@@ -21,11 +21,12 @@ from pictures import HERE, Ring
 
 EXAMPLES = os.path.realpath(os.path.join(HERE, '..', 'examples'))
 LOG, LOGS, EXPLAIN_LOG, EXPLAIN, EXPLAIN_QUESTION, EXPLAIN_CERT, SHOW, EVENTS, DRAW, DECIDE, CHECK, PAIRS, UPGRADE, \
-    MEND, RUN, PAGE = range(16)
+    MEND, RUN, PAGE, AS_JSON = range(17)
+WITH_JSON = {LOGS, EXPLAIN_LOG, EXPLAIN, EXPLAIN_QUESTION, EXPLAIN_CERT, SHOW, EVENTS, DECIDE, CHECK}
 ALL = (0, 2 ** 64 - 1)
 TOLD = '''
 const piece = it => ['h2', '.command', 'pre'].map(part => it.querySelector(part)?.textContent);
-const pieces = [...document.querySelectorAll('section section')].map(piece);
+const pieces = [...document.querySelectorAll('section section, .json')].map(piece);
 return [$('answer').textContent, $('fault').textContent, pieces];'''
 ASKS = '''
 const [command, values, files, done] = arguments, bytes = text => Uint8Array.from(atob(text), c => c.charCodeAt(0));
@@ -91,10 +92,13 @@ class Check:
         return told.returncode, [told.stdout, told.stderr] + [text_of(name) for name in made if os.path.exists(name)]
 
     def same(self, what, command, values, files, words, wrote=None, stdin=None):
-        """Holds an answer of the module against what the program prints and writes."""
+        """Holds an answer of the module against what the program prints and writes, in words and as JSON."""
         found, wanted = self.ask(command, values, files), self.run(words, files, wrote, stdin)
         assert found == wanted, (what, words, found, wanted)
-        self.answers += 1
+        found = self.ask(AS_JSON, [command, *values], files)
+        wanted = self.run([words[0], '--json', *words[1:]], files, wrote, stdin) if command in WITH_JSON else (4, [])
+        assert found == wanted, (what, words, 'as JSON', found, wanted)
+        self.answers += 1 + (command in WITH_JSON)
 
     def draws(self, what, files, names, words, values):
         """Pictures, and pages to move in."""
@@ -272,12 +276,16 @@ class Check:
         self.open()
         self.ready()
         self.load(logs, 'used')
+        browser.run("for (const lines of document.querySelectorAll('.json')) lines.open = true")
+        self.wait("return [...document.querySelectorAll('.json')].every(lines => lines.querySelector('a'))")
         answer, fault, pieces = self.told()
-        assert (answer, fault) == ('yes', ''), (answer, fault)
+        as_json = [line for _, line, _ in pieces if '--json' in line]
+        assert (answer, fault, len(as_json)) == ('yes', '', 4), (answer, fault, as_json)
         for title, line, text in pieces:
             if 'draw' not in line:
                 _, (out, _, *_) = self.run(line.split()[2:], logs)
                 assert text == out.decode().rstrip('\n'), (title, line, text, out)
+        self.saves('show_events.jsonl', self.run(['show', '--events', '--json', '0.log', '1.log'], logs)[1][0])
         self.moved(logs, folder)
         for dropped, wanted in ((['lost_record'], 'no: link 1: receipt 2 has no sending'),
                                 (['lost_record/1.log'], 'yes, by itself'),

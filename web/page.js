@@ -57,7 +57,7 @@ function send(message) {
 }
 
 const [LOG, LOGS, EXPLAIN_LOG, EXPLAIN, EXPLAIN_QUESTION, EXPLAIN_CERT, SHOW, EVENTS, DRAW, DECIDE, CHECK, PAIRS,
-  UPGRADE, MEND, RUN, PAGE] = Array(16).keys();
+  UPGRADE, MEND, RUN, PAGE, AS_JSON] = Array(17).keys();
 
 // The status of a command, and what it prints and writes.
 async function ask(values, files) {
@@ -165,15 +165,25 @@ const url = (bytes, type = 'text/plain') => URL.createObjectURL(new Blob([bytes]
 const save = (name, bytes, type) => tag('a', {href: url(bytes, type), download: name}, name);
 
 // What a command printed, under its line.
-const piece = (title, line, {out, err}, ...more) => tag('section', {}, tag('h2', {}, title),
-  tag('p', {className: 'command'}, `$ ira ${line}`),
+const printed = (line, {out, err}) => [tag('p', {className: 'command'}, `$ ira ${line}`),
   out && tag('pre', {tabIndex: 0}, out.replace(/\n$/, '')),
-  err && tag('pre', {className: 'bad', tabIndex: 0}, err.replace(/\n$/, '')), more);
+  err && tag('pre', {className: 'bad', tabIndex: 0}, err.replace(/\n$/, ''))];
+const piece = (title, line, answer, ...more) => tag('section', {}, tag('h2', {}, title), printed(line, answer), more);
 
-// A command, and perhaps files of it to save.
+// The same as lines of JSON, which are asked for when they are looked at.
+function asJson(line, values, files) {
+  const [command] = /^\w+( --events)?/.exec(line), withJson = line.replace(command, '$& --json');
+  const lines = tag('details', {className: 'json'}, tag('summary', {}, 'JSON'));
+  lines.addEventListener('toggle', () => told(async () => {
+    const answer = await ask([AS_JSON, ...values], files), name = `${command.replace(' --', '_')}.jsonl`;
+    lines.append(tag('div', {}, printed(withJson, answer), tag('p', {}, 'Save: ', save(name, answer.out))));
+  }), {once: true});
+  return lines;
+}
+// A command that has an answer in words and as JSON, and perhaps files to save.
 async function answered(title, line, values, files, links = () => []) {
   const answer = await ask(values, files);
-  return piece(title, line, answer, links(answer));
+  return piece(title, line, answer, links(answer), asJson(line, values, files));
 }
 
 // A picture in a tree of its own, in which its style stays.
@@ -204,7 +214,7 @@ async function judge() {
   const mine = ++turn, isNow = () => mine == turn;
   fault();
   showGiven();
-  for (const part of [$('judged'), $('answers')]) part.replaceChildren();
+  for (const part of [$('judged'), $('json'), $('answers')]) part.replaceChildren();
   $('answer').className = '';
   if (!logs.length) return $('answer').textContent = 'No logs yet.';
   $('answer').textContent = '\u2026';
@@ -218,6 +228,7 @@ async function judge() {
     $('answer').textContent = (out || err).trim() + (isOne ? ', by itself' : '');
     $('answer').className = status ? 'bad' : 'yes';
     if (isOne) return add(await answered('Why', `explain < ${names}`, [EXPLAIN_LOG], logs));
+    $('json').append(asJson(`logs ${names}`, [LOGS], logs));
     add(await answered('Why', `explain ${names}`, [EXPLAIN], logs));
     if (question) await answerQuestion(names, add);
     const [from, to] = [number($('from').value, 0n), number($('to').value, 2n ** 64n - 1n)];
