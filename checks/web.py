@@ -343,14 +343,20 @@ class Check:
         assert not (faults := browser.faults()), faults
 
     def large(self):
-        """A ring that needs more memory than is lent at first."""
+        """A large ring, and a page that lends too little at first."""
         folder = os.path.join(self.temp, 'large')
         os.makedirs(folder)
         words = ['run', '--alone', '--nodes', '128', '--seed', '5', '--terms', '3', '--out', folder]
         subprocess.run([self.program, *words], check=True, stdout=subprocess.DEVNULL)
         logs = [(f'{i}.log', text_of(os.path.join(folder, f'{i}.log'))) for i in range(128)]
-        for command, words in ((LOGS, ['logs']), (SHOW, ['show'])):
-            self.same('large', command, [], logs, [*words, *(name for name, _ in logs)])
+        little = os.path.join(self.temp, 'little.html')
+        with open(little, 'w') as file:
+            file.write(text_of(self.page).decode().replace('FIRST = 2 ** 26', 'FIRST = 2 ** 16'))
+        for page in (self.page, little):
+            self.open(page=page)
+            self.ready()
+            for command, words in ((LOGS, ['logs']), (SHOW, ['show']), (EVENTS, ['show', '--events'])):
+                self.same('large', command, [], logs, [*words, *(name for name, _ in logs)])
 
     def refused(self):
         """A browser without 64-bit memory, and a damaged page: a line says so, and nothing else happens."""

@@ -1,26 +1,30 @@
 // Asks the module. Memory that is lent doesn't come back, so each request has an instance of its own.
-const PAGE = 65536, FIRST = 8 * 2 ** 20, MOST = 2 ** 30, PARTS = 258;
+const PAGE = 65536, FIRST = 2 ** 26, MOST = 2 ** 30, PARTS = 258;
 const encoder = new TextEncoder;
 let compiled;
 
-// So many bytes behind what a memory has: where they begin.
-function grown(memory, bytes) {
-  const at = memory.buffer.byteLength, pages = Math.ceil((bytes + 1) / PAGE);
+// Makes a memory longer by so many bytes.
+function grow(memory, bytes) {
+  const pages = Math.ceil(bytes / PAGE);
   try {
     memory.grow(BigInt(pages));
   } catch (fault) {
     if (!(fault instanceof TypeError)) throw fault;
     memory.grow(pages);
   }
-  return at;
 }
 
 // One request with so much memory, and so much room for what comes of it.
-function served(values, pieces, lent, room) {
+function served(values, pieces, total, lent, room) {
   const {memory, ira_serve: serve} = new WebAssembly.Instance(compiled, {}).exports;
-  const total = pieces.reduce((sum, piece) => sum + piece.length, 0);
+  let end = memory.buffer.byteLength;
   const [atLent, atValues, atTexts, atLengths, atOut, atParts] =
-    [lent, 8 * values.length, total, 8 * pieces.length, room, 8 * PARTS].map(bytes => grown(memory, bytes));
+    [lent, 8 * values.length, total, 8 * pieces.length, room, 8 * PARTS].map(bytes => {
+      const at = end;
+      end += 16 * Math.ceil((bytes + 1) / 16);
+      return at;
+    });
+  grow(memory, end - memory.buffer.byteLength);
   const view = new DataView(memory.buffer), write = (at, numbers) =>
     numbers.forEach((number, k) => view.setBigUint64(at + 8 * k, BigInt(number), true));
   write(atValues, values);
@@ -35,11 +39,13 @@ function served(values, pieces, lent, room) {
   return {status, parts};
 }
 
-// Lends more where that was too little, up to what may be lent.
+// Lends at least as much as the files have, and more where that was too little, up to what may be lent. What the module
+// doesn't touch costs nothing.
 function ask(values, files) {
   const pieces = files.flatMap(({name, text}) => [encoder.encode(name), text]);
-  for (let lent = FIRST, room = 2 ** 20; lent + room <= MOST;) {
-    const answer = served(values, pieces, lent, room);
+  const total = pieces.reduce((sum, piece) => sum + piece.length, 0);
+  for (let lent = Math.max(FIRST, total), room = FIRST; lent <= MOST && room <= MOST;) {
+    const answer = served(values, pieces, total, lent, room);
     if (answer.status == 3) lent *= 2;
     else if (answer.status == 5) room *= 2;
     else return answer;
