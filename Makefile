@@ -1,24 +1,12 @@
 # What a newcomer types. `rt` is the command of the Rattle kit.
 
 PREFIX = /usr/local
-JOBS := $(shell nproc)
-START := $(shell date +%s)
-
-# The libraries that the program uses, those first for which others wait longest; those of the longest chains among
-# them; and those that one of them names.
-CHAINS := $(shell sh build/chain.sh | sed 's/ .* /:/')
-LIBRARIES := $(foreach it,$(CHAINS),$(firstword $(subst :, ,$(it))))
-LONGEST := $(patsubst %:longest,%,$(filter %:longest,$(CHAINS)))
-uses = $(filter $(LIBRARIES),$(shell sed -n 's/^$(1)://p' crates.txt))
-
-# Says something, with the seconds since `make` began.
-say = printf '%4d s  %s\n' $$(($$(date +%s) - $(START)))
 
 # Says what is missing where the toolchain isn't there.
 needs_kit = command -v rt > /dev/null && command -v rattle > /dev/null || \
 	{ echo 'The Rattle kit is missing, no rt and rattle on the PATH: README.md, "What you need", says what else is needed.'; exit 1; }
 
-.PHONY: help try ira web run install dist test checks clean
+.PHONY: help try ira web release run install dist test checks clean
 
 help:
 	@echo 'make try        builds the program with no proof, in minutes, leaves it at bin/ira-unproved, and judges examples with it'
@@ -54,38 +42,19 @@ help:
 	@echo '                The last line says which ran, and what was skipped and why'
 	@echo 'make clean      removes what was built and proved'
 
-# A crate is proved by the cores that no other crate has, one of the longest chains by two at least; all others have a lower
-# priority than these.
-least_cores_of = $(if $(filter $(1),$(LONGEST) ira),2,1)
-pace_of = $(if $(filter $(1),$(LONGEST) ira),,nice -n 5)
-
-# As many crates at a time as there are cores, and one more. `make` begins with what it is given first.
 ira:
 	@$(needs_kit)
-	@mkdir -p bin && rm -f bin/*.begun
-	@$(say) 'proving $(words $(LIBRARIES)) crates and the program, over $(JOBS) cores; what the prover says goes to bin/NAME.log'
-	@$(MAKE) --no-print-directory -j $$(($(JOBS) + 1)) START=$(START) $(LIBRARIES:%=bin/%.proved) bin/ira.proved
-	@$(say) 'proved and built: bin/ira'
+	@sh build/prove.sh
 
-# A crate is proved again where a text of its own has changed, or one of a crate that it uses.
-$(LIBRARIES:%=bin/%.proved) bin/ira.proved: bin/%.proved: build/prove.sh
-	@touch bin/$*.begun
-	@$(say) 'begun:  $*'
-	@cores=$$(($(JOBS) + 1 - $$(ls bin/*.begun | wc -l))); least=$(call least_cores_of,$*); \
-	$(call pace_of,$*) sh build/prove.sh $* $$((cores > least ? cores : least)) > bin/$*.log 2>&1 || \
-	{ tail -20 bin/$*.log; $(say) 'failed: $*'; exit 1; }
-	@mv bin/$*.begun $@
-	@$(say) 'proved: $*'
+# The page has the module for a browser.
+web:
+	@$(needs_kit)
+	@sh build/prove.sh web
 
-$(foreach it,$(LIBRARIES) ira,$(eval bin/$(it).proved: $(patsubst %,bin/%.proved,$(call uses,$(it))) \
-	$(shell find crates/$(it)/src crates/$(it)/specs crates/$(it)/proofs 2>/dev/null)))
-
-# The module for a browser, the library that it alone uses, and the page of web/ with both.
-web: ira
-	@sh build/prove.sh ira_lent $(JOBS) > bin/ira_lent.log 2>&1 || { tail -20 bin/ira_lent.log; exit 1; }
-	@sh build/prove.sh ira_web $(JOBS) > bin/ira_web.log 2>&1 || { tail -20 bin/ira_web.log; exit 1; }
-	@sh build/web_page.sh
-	@$(say) 'proved and built: bin/ira.html'
+# release/ is made of what is committed here.
+release:
+	@$(needs_kit)
+	@sh build/release.sh make
 
 # Runs the program, or the one that is named last, with some words, and compares its status and what it prints.
 judges = echo '$$ bin/$(or $(4),ira) $(1)'; \
@@ -95,9 +64,7 @@ judges = echo '$$ bin/$(or $(4),ira) $(1)'; \
 # A look before the proofs.
 try:
 	@$(needs_kit)
-	@$(say) 'building the program with no proof'
 	@sh build/try.sh
-	@$(say) 'built: bin/ira-unproved'
 	@$(call judges,logs examples/two_node_election/0.log examples/two_node_election/1.log,0,yes,ira-unproved)
 	@$(call judges,logs examples/receipts_exchanged/0.log examples/receipts_exchanged/1.log,1,no: link 1: receipt 1 differs,ira-unproved)
 	@$(call judges,< examples/one_bad_log/draw_out_of_range.log,1,no: node 0: event 1: draw range,ira-unproved)

@@ -1,33 +1,67 @@
 #!/bin/sh
-# sh build/prove.sh NAME JOBS  proves the crate NAME with so many jobs, as the gate does: from nothing, over the statements of
-# what it uses, which is proved by then. What others need of a library is left at bin/NAME.rlib, a program at bin/NAME; a
-# static library is proved as a module for a web page, for wasm64, and left at bin/ira.wasm.
+# sh build/prove.sh [web]  proves and builds the program, bin/ira, with bin/ira.o, the object file that was linked; with `web` the
+# module for a browser too, and the page that has it, bin/ira.html. bin/TREE says what they were made of (build/tree.sh).
+#
+# The libraries are proved by `rt ci`, in a copy without tests and edits: so what the gate proved of the same files is taken from
+# where the kit keeps it, and what is proved here is there for the gate. The program and the module are proved in the same way:
+# from nothing, over what the libraries state.
 set -e
-name=$1 jobs=$2 here=$PWD
+web=$1 here=$PWD
 kit=$(dirname "$(dirname "$(realpath "$(command -v rattle)")")")
+room=$(mktemp -d)
+trap 'rm -rf "$room"' EXIT
+trap 'exit 130' HUP INT TERM
 
-set -- --extern "std=$kit/rlibs/std.rlib"
-for it in $(sed -n "s/^$name\( staticlib\)\{0,1\}://p" crates.txt); do
-    if test -d "crates/$it"; then rlib=$here/bin/$it.rlib; else rlib=$kit/rlibs/$it.rlib; fi
-    set -- "$@" --extern "$it=$rlib"
-done
-set -- "$@" -L "dependency=$kit/rlibs" -L "dependency=$here/bin" --links "$name=" --jobs "$jobs" \
-    --antt-project "$kit/rattle/logic/antt-project.json" --logic-built "$kit/logic_built"
+mkdir -p bin
+tar -c --exclude=out --exclude=must-fail --exclude='test_*' crates crates.txt HANDLES build web examples | tar -x -C "$room"
+cd "$room"
+mkdir bin rlibs libraries
+sh build/tree.sh > bin/TREE
+if ! cmp -s bin/TREE "$here/bin/TREE"; then
+    rm -f "$here/bin/ira" "$here/bin/ira.html"
+elif [ -x "$here/bin/ira" ] && { [ -z "$web" ] || [ -f "$here/bin/ira.html" ]; }; then
+    echo "bin/ira${web:+ and bin/ira.html}: proved and built of these sources before"
+    exit 0
+fi
 
-cd "crates/$name"
-if grep -q "^$name staticlib:" "$here/crates.txt"; then
-    target=wasm64-unknown-unknown
-    rattle build --crate-name "$name" src/lib.rt --crate-type staticlib "$@" --toolchain "$kit/toolchain" \
-        --target "$target" -o "$here/bin/$name.a"
-    exec "$kit/bin/rattle-link" --target "$target" --toolchain "$kit/toolchain" -o "$here/bin/ira.wasm" "$here/bin/$name.a"
-fi
-if test -f src/lib.rt; then
-    exec rattle build --crate-name "$name" src/lib.rt "$@" --statements -o "$here/bin/$name.rlib"
-fi
-rattle build --crate-name "$name" src/main.rt "$@" --toolchain "$kit/toolchain" --backend llvm -o "$here/bin/$name.o"
+mv crates/ira crates/ira_web .
+mv crates HANDLES libraries
+sed '/^test_/d; /^ira:/d; /^ira_web /d' crates.txt > libraries/crates.txt
+(cd libraries && rt ci)
+mv libraries/crates/*/out/rlib/*.rlib rlibs
+
+# Proves and builds the crate that stands in a folder of its name.
+build() {
+    name=$1 root=$2
+    shift 2
+    set -- --crate-name "$name" "$root" --extern "std=$kit/rlibs/std.rlib" "$@"
+    for it in $(sed -n "s/^$name\( staticlib\)\{0,1\}://p" crates.txt); do
+        if [ -d "rlibs/$it.rlib" ]; then at=$room/rlibs; else at=$kit/rlibs; fi
+        set -- "$@" --extern "$it=$at/$it.rlib"
+    done
+    cd "$name"
+    rattle build "$@" -L "dependency=$kit/rlibs" -L "dependency=$room/rlibs" --links "$name=" --jobs "$(nproc)" \
+        --antt-project "$kit/rattle/logic/antt-project.json" --logic-built "$kit/logic_built" --toolchain "$kit/toolchain"
+    cd "$room"
+}
 
 # The machine's C library goes into the program, which then starts in three quarters of the time and needs nothing of the
-# machine that it runs on. Where there is no C library to link so, the kit links as in the gate.
-set -- -o "$here/bin/$name" "$here/bin/$name.o" "$kit/c/libos_c.a" "$kit/c/liblibc_c.a"
-"$kit/toolchain/bin/clang" -static -fuse-ld=lld "$@" ||
+# machine that it runs on. bin/LINKED has the sums of the object file and of what the machine gave. Where there is no C library
+# to link so, the kit links as in the gate.
+build ira src/main.rt --backend llvm -o "$room/bin/ira.o"
+echo "ira.o: $(sha256sum < bin/ira.o | cut -d ' ' -f 1)" > bin/LINKED
+set -- -o bin/ira bin/ira.o "$kit/c/libos_c.a" "$kit/c/liblibc_c.a"
+if "$kit/toolchain/bin/clang" -static -fuse-ld=lld -Wl,--trace "$@" > linked; then
+    echo "libc: $(sed 's/(.*//' linked | grep -v "^bin/\|^$kit/" | sort -u | xargs cat | sha256sum | cut -d ' ' -f 1)" >> bin/LINKED
+else
     "$kit/bin/rattle-link" --target x86_64-unknown-linux-gnu --toolchain "$kit/toolchain" "$@"
+fi
+
+if [ "$web" ]; then
+    target=wasm64-unknown-unknown
+    build ira_web src/lib.rt --crate-type staticlib --target $target -o "$room/ira_web.a"
+    "$kit/bin/rattle-link" --target $target --toolchain "$kit/toolchain" -o bin/ira.wasm ira_web.a
+    sh build/web_page.sh
+fi
+mv bin/* "$here/bin"
+echo "proved and built: bin/ira${web:+ and bin/ira.html}"

@@ -274,8 +274,11 @@ class Check:
         browser, folder = self.browser, os.path.join(EXAMPLES, 'two_node_election')
         logs = [(f'{i}.log', text_of(os.path.join(folder, f'{i}.log'))) for i in range(2)]
         self.open()
-        self.ready()
+        self.wait("return $('answer').textContent == 'yes' && !!document.querySelector('.picture')")
+        self.shows('Node 0 leads in round 2 with ID 3')
+        assert browser.run("return $('opened').offsetHeight > 0 && $('examples').value == 'recorded_ring'")
         self.load(logs, 'used')
+        assert browser.run("return $('opened').hidden")
         browser.run("for (const lines of document.querySelectorAll('.json')) lines.open = true")
         self.wait("return [...document.querySelectorAll('.json')].every(lines => lines.querySelector('a'))")
         answer, fault, pieces = self.told()

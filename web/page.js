@@ -75,6 +75,7 @@ const folderOf = name => name.slice(0, name.lastIndexOf('/') + 1);
 
 // Files of one folder or several. Others than logs, questions and certificates count where they were chosen one by one.
 function take(files, areChosen) {
+  $('opened').hidden = true;
   rings = new Map;
   for (const file of files.sort((a, b) => byPlace(a.name, b.name))) {
     const kind = kindOf(file) ?? (areChosen && 'log'), folder = folderOf(file.name);
@@ -358,8 +359,8 @@ $('record').onsubmit = event => {
 told(async () => {
   await readModule();
   await begin();
-  const name = decodeURIComponent(location.hash.slice(1));
-  if (!examples.some(file => folderOf(file.name) == `${name}/`)) return;
-  $('examples').value = name;
+  const name = decodeURIComponent(location.hash.slice(1)), isNamed = folders.has(name);
+  $('examples').value = isNamed ? name : 'recorded_ring';
   $('examples').onchange();
+  $('opened').hidden = isNamed;
 });
