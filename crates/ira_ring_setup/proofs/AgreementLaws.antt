@@ -1,6 +1,6 @@
 -- Full runs have the same logs, and what nodes recorded agrees with them.
 use Rattle.std.proofs.Common.{◌≡◌, ◌≢◌, ℕ, ◌<◌, ◌≤◌, List, map, length, Some, refl, sym, ◌∙◌, subst, ap, arith}
-use Rattle.std.specs.Prelude.{slice_get, Result, Ok, Err, IfOk}
+use Rattle.std.specs.Prelude.{slice_get}
 use Rattle.std.proofs.lemmas.List.{length-map}
 use Rattle.std.proofs.lemmas.Option.{slice_get_within}
 use Rattle.ira_event.specs.declared.event.Event.{Event}
@@ -15,20 +15,21 @@ use Rattle.ira_order.proofs.Runs.{prev_below}
 use Rattle.ira_order.proofs.RunsOfLogs.{run_is_order, every_order_is_run}
 use Rattle.ira_ring_setup.specs.declared.node_end.NodeEnd.{NodeEnd}
 use Rattle.ira_ring_setup.specs.declared.node_end.NodeEnd.TheVariants.{Leader, Stopped, DrawsSpent, LogFull, NoStep, Quiet}
-use Rattle.ira_ring_setup.specs.declared.run_fault.RunFault.{RunFault}
-use Rattle.ira_ring_setup.specs.Setup.{Setup, is_initiator, node_draws}
+use Rattle.ira_ring_setup.specs.Setup.{Setup, KeepsRules, is_initiator, node_draws}
 use Rattle.ira_ring_setup.specs.Terms.{YieldsBelow}
 use Rattle.ira_ring_setup.specs.Run.{Run}
 use Rattle.ira_event.specs.Messages.{drawn}
 use Rattle.ira_ring_setup.specs.FullRun.{BeginsWith, AreLogsOf, AreFullLogs}
 use Rattle.ira_ring_setup.specs.ShownEnd.{IsShown, IsLoneRun}
 use Rattle.ira_ring_setup.specs.Recording.{IsRecording}
-use Rattle.ira_ring_setup.specs.Agreement.{AreOfEachFullRun, stopped_for_quiet, HasBusyEnd, Agrees}
+use Rattle.ira_ring_setup.specs.Agreement.{AreOfEachFullRun, stopped_for_quiet, Agrees}
 use Rattle.ira_ring_setup.proofs.Agreement.{IsEnded, AreEnded, full_run_held, full_runs_same}
 use Rattle.ira_ring_setup.proofs.AgreementEnds.{shown_stays, shows_one_end}
 use Rattle.ira_ring_setup.proofs.AgreementRound.{all_round, IsWaiting, no_further}
 use Rattle.ira_ring_setup.proofs.Beginnings.{sends_begin, same_items}
+use Rattle.ira_election.proofs.AnOrder.{local_runs_have_an_order}
 use Rattle.ira_ring_setup.proofs.FullRuns.{full_run_is_run}
+use Rattle.ira_ring_setup.proofs.GoingOn.{full_runs_are_busy, recorded_runs, recording_has_own_end}
 use Rattle.ira_ring_setup.proofs.Places.{get_map, get_within}
 
 -- ---- full runs
@@ -107,7 +108,7 @@ recording_begins s run rec full a i l =
     subst P (a.events i (omega (arith, a.of_setup.number)))
     (full_run_held s (log_of run.logs) a.run a.end (two s full a.of_setup) (recording_ended s run rec) a.full i l)
 
--- ---- with a full run in which some node ended otherwise than Quiet
+-- ---- with a full run, in which some node ended otherwise than Quiet
 
 only_quiet_waits : (end : NodeEnd) → end ≢ Quiet → end ≢ Stopped → IsWaiting end → ⊥
 only_quiet_waits Leader q t w = w
@@ -125,7 +126,7 @@ told_as_it_is LogFull ne = refl
 told_as_it_is (NoStep m) ne = refl
 told_as_it_is Quiet ne = absurd (ne refl)
 
-module _ (s : Setup) (run lone : Run) (rec : IsRecording s run) (full : IsLoneRun s lone) where
+module _ (s : Setup) (run lone : Run) (keeps : KeepsRules s) (rec : IsRecording s run) (full : IsLoneRun s lone) where
   -- node i did as much
   abbrev AsMuch : ℕ → Type 0
   AsMuch i = log_of run.logs i ≡ log_of lone.logs i
@@ -148,8 +149,9 @@ module _ (s : Setup) (run lone : Run) (rec : IsRecording s run) (full : IsLoneRu
       (recording_begins s run rec lone.logs full.logs (prev s.nodes i) p))
       end begins.0 (λ w. ap sent (before w)) shown.2 begins.1
 
-  each_as_much : HasBusyEnd lone → (i : ℕ) → i < s.nodes → AsMuch i
-  each_as_much busy i l =
+  each_as_much : (i : ℕ) → i < s.nodes → AsMuch i
+  each_as_much i l =
+      let busy = full_runs_are_busy s lone keeps full in
       let end_at : (j : ℕ) → j < s.nodes → (end : NodeEnd) × (slice_get lone.ends j ≡ Some end) =
       λ j lj. get_within lone.ends j (omega (arith, full.many)) in
       let first : busy.0 < s.nodes = omega (arith, full.many, slice_get_within lone.ends busy.0 busy.1 busy.2) in
@@ -158,33 +160,28 @@ module _ (s : Setup) (run lone : Run) (rec : IsRecording s run) (full : IsLoneRu
       first l
       (as_much busy.0 busy.1 first busy.2 (λ w. absurd (only_quiet_waits busy.1 busy.3 not_stopped w)))
 
-  logs_same : HasBusyEnd lone → run.logs ≡ lone.logs
-  logs_same busy = same_logs s run.logs lone.logs rec.logs full.logs.of_setup (each_as_much busy)
+  logs_same : run.logs ≡ lone.logs
+  logs_same = same_logs s run.logs lone.logs rec.logs full.logs.of_setup each_as_much
 
-  ends_same : HasBusyEnd lone → run.ends ≡ map stopped_for_quiet lone.ends
-  ends_same busy =
+  ends_same : run.ends ≡ map stopped_for_quiet lone.ends
+  ends_same =
       same_items run.ends (map stopped_for_quiet lone.ends) (rec.many ∙ sym full.many
       ∙ sym (length-map lone.ends stopped_for_quiet))
       (λ i end other at there.
       let alone = get_map stopped_for_quiet lone.ends i other there in
       let P : List Log → Type 0 = λ ls. IsShown s ls i end in
-      let shown : IsShown s lone.logs i end = subst P (logs_same busy) (rec.ends i end at) in
+      let shown : IsShown s lone.logs i end = subst P logs_same (rec.ends i end at) in
       let not_quiet : end ≢ Quiet = λ is. rec.none_quiet i (at ∙ ap Some is) in
       sym (told_as_it_is end not_quiet) ∙ shows_one_end s lone.logs i end alone.0 shown (full.ends i alone.0 alone.1)
       ∙ alone.2)
 
-  ordered : HasBusyEnd lone → HasOrder run.logs × EveryOrderIsRun run.logs
-  ordered busy =
-      let P : List Log → Type 0 = λ ls. HasOrder ls × EveryOrderIsRun ls in
-      subst P (sym (logs_same busy)) (full_logs_ordered s lone.logs full.logs)
-
-pub recording_agrees : (s : Setup) (run : Run) → IsRecording s run → Agrees s run
-recording_agrees s run rec = record {
-  begins = recording_begins s run rec;
-  same = λ lone full busy. (logs_same s run lone rec full busy, ends_same s run lone rec full busy);
-  ordered = λ lone full busy. ordered s run lone rec full busy;
-}
-
-pub recording_agrees_if_ok : (s : Setup) (r : Result Run RunFault) → IfOk r (IsRecording s) → IfOk r (Agrees s)
-recording_agrees_if_ok s (Ok run) rec = recording_agrees s run rec
-recording_agrees_if_ok s (Err f) rec = tt
+pub recording_agrees : (s : Setup) (run : Run) → KeepsRules s → IsRecording s run → Agrees s run
+recording_agrees s run keeps rec =
+    let ring = rec.logs.ring in
+    let order = local_runs_have_an_order run.logs ring (recorded_runs s run rec).matches rec.runs in
+    record {
+      begins = recording_begins s run rec;
+      same = λ lone full. (logs_same s run lone keeps rec full, ends_same s run lone keeps rec full);
+      ordered = (order, every_order_is_run run.logs ring order.0 rec.runs);
+      own_end = recording_has_own_end s run keeps rec;
+    }

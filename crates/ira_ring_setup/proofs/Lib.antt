@@ -9,6 +9,7 @@ pub mod Collecting
 pub mod Drawing
 pub mod EndLines
 pub mod FullRuns
+pub mod GoingOn
 pub mod LogVersions
 pub mod MoreDraws
 pub mod Places

@@ -1,5 +1,5 @@
 ghost use Rattle.ira_ring_setup.specs.Agreement.{FullRunsHaveTheSameLogs, FullRunsShowEnds, LogsShowOneEnd, RecordingsAgree};
-ghost use Rattle.ira_ring_setup.specs.FullRunLaws.{FullRunsAreRuns};
+ghost use Rattle.ira_ring_setup.specs.FullRunLaws.{FullRunsAreRuns, FullRunsAreBusy, NoFullRunLacksAStep, FullRunsElectOrStop, FullRunLeadersAreAlone};
 
 /// A law: a full run of a setup is a run of its ring.
 #[tactic(auto, using(crate::proofs::FullRuns::full_run_is_run))]
@@ -22,8 +22,18 @@ pub fn logs_show_one_end()
     ensures { LogsShowOneEnd }
 {}
 
+/// A law: some node of each full run ends otherwise than as `Quiet`, and none as `NoStep`. So some node leads in
+/// the last term or in a later one, or is out of draws, or has a full log; and where one leads each other one
+/// waits for a load that doesn't come, or has a full log.
+pub fn full_runs_are_busy()
+    ensures busy { FullRunsAreBusy }
+    ensures steps { NoFullRunLacksAStep }
+    ensures elects { FullRunsElectOrStop }
+    ensures alone { FullRunLeadersAreAlone }
+{}
+
 /// A law: what the nodes of a ring recorded, each of them for itself, agrees with the full runs of their
-/// setup. It speaks of logs and ends alone.
+/// setup, where that keeps the rules. It speaks of logs and ends alone.
 pub fn recordings_agree()
     ensures { RecordingsAgree }
 {}

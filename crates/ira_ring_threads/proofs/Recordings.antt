@@ -2,13 +2,14 @@
 -- No thread occurs here.
 use Rattle.std.proofs.Common.{◌≡◌, ℕ, zero, suc, ◌<◌, ◌≤◌, Bool, List, [], ◌∷◌, ◌++◌, map, length, Option, Some, refl}
 use Rattle.std.proofs.Common.{sym, ap, ◌∙◌, subst, arith}
-use Rattle.std.specs.Prelude.{slice_get, option_map, Result, Ok, Err, IfOk}
+use Rattle.std.specs.Prelude.{slice_get, option_map}
 use Rattle.std.proofs.lemmas.List.{append-nil, length-map, map-append}
 use Rattle.std.proofs.lemmas.Option.{slice_get-map, slice_get_within}
 use mathlib.Core.List.{IsPrefix}
 use Rattle.ira_event.specs.declared.event.Event.{Event}
 use Rattle.ira_event.specs.declared.load.Load.{Load}
 use Rattle.ira_event.specs.Log.{Log}
+use Rattle.ira_event.specs.Logs.{EachLog}
 use Rattle.ira_links.specs.declared.frame.Frame.{Frame}
 use Rattle.ira_links.specs.declared.frame.Frame.TheVariants.{Load as Loaded, Stop}
 use Rattle.ira_node.specs.declared.node_state.NodeState.{NodeState}
@@ -17,10 +18,9 @@ use Rattle.ira_replay.specs.LocalRun.{LeadsTo, IsLocalRun}
 use Rattle.ira_order.specs.Ring.{prev, log_of, events_of}
 use Rattle.ira_order.specs.Matching.{sent, got}
 use Rattle.ira_ring_setup.specs.declared.node_end.NodeEnd.{NodeEnd}
-use Rattle.ira_ring_setup.specs.declared.run_fault.RunFault.{RunFault}
 use Rattle.ira_ring_setup.specs.declared.node_end.NodeEnd.TheVariants.{Leader, Stopped, DrawsSpent, LogFull, NoStep, Quiet}
 use Rattle.ira_ring_setup.specs.Terms.{version_of, YieldsBelow}
-use Rattle.ira_ring_setup.specs.Setup.{Setup, is_initiator, node_draws}
+use Rattle.ira_ring_setup.specs.Setup.{Setup, KeepsRules, is_initiator, node_draws}
 use Rattle.ira_event.specs.Messages.{drawn}
 use Rattle.ira_ring_setup.specs.FullRun.{BeginsWith}
 use Rattle.ira_ring_setup.specs.Run.{Run, IsRun}
@@ -28,6 +28,7 @@ use Rattle.ira_ring_threads.specs.NodeFrames.{frames, last_taken, frames_put, fr
 use Rattle.ira_ring_threads.specs.FinishedNode.{FinishedNode, AreFinishedOnRing, FramesPassRoundRing}
 use Rattle.ira_ring_setup.specs.ShownEnd.{Says, IsShown}
 use Rattle.ira_ring_setup.specs.Recording.{EndsAs, IsRecorded, IsRecording}
+use Rattle.ira_ring_setup.proofs.GoingOn.{AreRunsOf, linked_runs, not_all_wait}
 use Rattle.ira_ring_setup.proofs.Places.{get_map, get_within}
 use Rattle.ira_ring_threads.proofs.FinishedNodes.{finished_at, passed_at, place_count}
 
@@ -155,66 +156,88 @@ linked_at s finished_nodes run i d h =
     subst P (sym h.sendings) (got_of_put (got d.log.events) (sent h.before.log.events) (last_taken d.end) h.link.0
     h.link.1)
 
-is_recording : (s : Setup) (finished_nodes : List FinishedNode) (run : Run) → IsRun run
+finished_logs : (s : Setup) (finished_nodes : List FinishedNode) (run : Run) → AreFinishedOnRing s finished_nodes
+    → FramesPassRoundRing finished_nodes → run.logs ≡ map (λ finished. finished.log) finished_nodes → (i : ℕ) (log : Log)
+    → slice_get run.logs i ≡ Some log → (d : FinishedNode) × At s finished_nodes run i d × (d.log ≡ log)
+finished_logs s finished_nodes run ring passed logs i log there =
+    let p = get_map (λ finished. finished.log) finished_nodes i log (ap (λ ls. slice_get ls i) (sym logs) ∙ there) in
+    (p.0, all_at s finished_nodes run i p.0 ring passed logs p.1, p.2)
+
+-- what they recorded, whatever their logs are valid for
+finished_runs : (s : Setup) (finished_nodes : List FinishedNode) (run : Run) → AreFinishedOnRing s finished_nodes
+    → FramesPassRoundRing finished_nodes → run.logs ≡ map (λ finished. finished.log) finished_nodes
+    → AreRunsOf s run.logs
+    × EachLog run.logs (λ i log. BeginsWith (sent (log_of run.logs (prev s.nodes i))) (got log.events))
+finished_runs s finished_nodes run ring passed logs =
+    let many : s.nodes ≡ length finished_nodes =
+    omega (arith, place_count s 0 s.nodes ring.0 ring.0 finished_nodes ring.1) in
+    let at = finished_logs s finished_nodes run ring passed logs in
+    let number : length run.logs ≡ s.nodes =
+    ap length logs ∙ length-map finished_nodes (λ finished. finished.log) ∙ sym many in
+    let links : EachLog run.logs (λ i log. BeginsWith (sent (log_of run.logs (prev s.nodes i))) (got log.events)) =
+    λ i log there. (let p = at i log there in
+    subst (λ (x : Log). BeginsWith (sent (log_of run.logs (prev s.nodes i))) (got x.events)) p.2
+    (linked_at s finished_nodes run i p.0 p.1)) in (
+      linked_runs s run.logs number
+          (λ i log there. (let p = at i log there in subst (λ (x : Log). x.nodes ≡ s.nodes) p.2 p.1.recorded.nodes))
+          (λ i log there. (let p = at i log there in
+          subst (λ (x : Log). x.initiator ≡ is_initiator s i) p.2 p.1.recorded.kind))
+          (λ i log there. (let p = at i log there in
+          let rec = p.1.recorded in
+          subst IsLocalRun p.2 (local_run s.nodes (is_initiator s i) p.0.log rec.state rec.nodes rec.kind rec.run)))
+          links,
+      links,
+    )
+
+-- not every node ended because the one before it had
+pub not_all_stopped : (s : Setup) (finished_nodes : List FinishedNode) → KeepsRules s → AreFinishedOnRing s finished_nodes
+    → FramesPassRoundRing finished_nodes
+    → ((i : ℕ) (d : FinishedNode) → slice_get finished_nodes i ≡ Some d → d.end ≡ Stopped) → ⊥
+not_all_stopped s finished_nodes keeps ring passed stopped =
+    let run : Run = record {
+      logs = map (λ finished. finished.log) finished_nodes;
+      ends = map (λ finished. finished.end) finished_nodes;
+    } in
+    let many : s.nodes ≡ length finished_nodes =
+    omega (arith, place_count s 0 s.nodes ring.0 ring.0 finished_nodes ring.1) in
+    not_all_wait s run.logs keeps (finished_runs s finished_nodes run ring passed refl).0 (λ i li.
+    (let d = get_within finished_nodes i (omega (arith, many)) in
+    subst (λ (e : NodeEnd). IsShown s run.logs i e) (stopped i d.0 d.1)
+    (shown_at s finished_nodes run i d.0 (all_at s finished_nodes run i d.0 ring passed refl d.1))))
+
+pub is_recording : (s : Setup) (finished_nodes : List FinishedNode) (run : Run) → IsRun run
     → AreFinishedOnRing s finished_nodes → FramesPassRoundRing finished_nodes
     → run.logs ≡ map (λ finished. finished.log) finished_nodes
     → run.ends ≡ map (λ finished. finished.end) finished_nodes → IsRecording s run
 is_recording s finished_nodes run valid ring passed logs ends =
-    let many : s.nodes ≡ length finished_nodes =
-    omega (arith, place_count s 0 s.nodes ring.0 ring.0 finished_nodes ring.1) in
-    let at : (i : ℕ) (d : FinishedNode) → slice_get finished_nodes i ≡ Some d → At s finished_nodes run i d =
-    λ i d there. all_at s finished_nodes run i d ring passed logs there in
-    let log_at : (i : ℕ) (log : Log) → slice_get run.logs i ≡ Some log → (d : FinishedNode)
-    × (slice_get finished_nodes i ≡ Some d) × (d.log ≡ log) =
-    λ i log there. get_map (λ finished. finished.log) finished_nodes i log (ap (λ ls. slice_get ls i) (sym logs)
-    ∙ there) in
+    let runs = finished_runs s finished_nodes run ring passed logs in
+    let at = finished_logs s finished_nodes run ring passed logs in
     let end_at : (i : ℕ) (end : NodeEnd) → slice_get run.ends i ≡ Some end → (d : FinishedNode)
-    × (slice_get finished_nodes i ≡ Some d) × (d.end ≡ end) =
-    λ i end there. get_map (λ finished. finished.end) finished_nodes i end (ap (λ es. slice_get es i) (sym ends)
-    ∙ there) in
+    × At s finished_nodes run i d × (d.end ≡ end) =
+    λ i end there. (let p = get_map (λ finished. finished.end) finished_nodes i end
+    (ap (λ es. slice_get es i) (sym ends) ∙ there) in
+    (p.0, all_at s finished_nodes run i p.0 ring passed logs p.1, p.2)) in
     record {
       logs = record {
         ring = valid.logs;
-        number = ap length logs ∙ length-map finished_nodes (λ finished. finished.log) ∙ sym many;
-        versions = λ i log there. let p = log_at i log there in
-            let P : Log → Type 0 = λ x. x.version ≡ version_of s.nodes s.terms in
-            subst P p.2 (at i p.0 p.1).recorded.version;
-        kinds = λ i log there. let p = log_at i log there in
-            let P : Log → Type 0 = λ x. x.initiator ≡ is_initiator s i in subst P p.2 (at i p.0 p.1).recorded.kind;
+        number = runs.0.number;
+        versions = λ i log there. (let p = at i log there in
+            subst (λ (x : Log). x.version ≡ version_of s.nodes s.terms) p.2 p.1.recorded.version);
+        kinds = runs.0.kinds;
       };
-      runs = λ i log there.
-          let p = log_at i log there in
-          let rec = (at i p.0 p.1).recorded in
-          subst IsLocalRun p.2 (local_run s.nodes (is_initiator s i) p.0.log rec.state rec.nodes rec.kind rec.run);
-      counts = λ i log there. let p = log_at i log there in let P : Log → Type 0 = λ x. length x.events ≤ s.cap in
-          subst P p.2 (at i p.0 p.1).recorded.count;
-      draws = λ i log there. let p = log_at i log there in
-          let P : Log → Type 0 = λ x. BeginsWith (node_draws s i) (drawn x.events) in
-          subst P p.2 (at i p.0 p.1).recorded.draws;
-      yields = λ i log there. let p = log_at i log there in
-          let P : Log → Type 0 = λ x. YieldsBelow s.terms s.nodes (first_state (is_initiator s i)) x.events in
-          subst P p.2 (at i p.0 p.1).recorded.yields;
-      links = λ i log there.
-          let p = log_at i log there in
-          let P : Log → Type 0 = λ x. BeginsWith (sent (log_of run.logs (prev s.nodes i))) (got x.events) in
-          subst P p.2 (linked_at s finished_nodes run i p.0 (at i p.0 p.1));
-      many = ap length ends ∙ length-map finished_nodes (λ finished. finished.end) ∙ sym many;
-      ends = λ i end there.
-          let p = end_at i end there in
-          let P : NodeEnd → Type 0 = λ x. IsShown s run.logs i x in
-          subst P p.2 (shown_at s finished_nodes run i p.0 (at i p.0 p.1));
-      none_quiet = λ i there.
-          let p = end_at i Quiet there in
-          let rec = (at i p.0 p.1).recorded in
-          let P : NodeEnd → Type 0 = λ x. EndsAs s.nodes s.cap s.terms (node_draws s i) rec.state p.0.log.events x in
-          subst P p.2 rec.end;
+      runs = runs.0.local;
+      counts = λ i log there. (let p = at i log there in
+          subst (λ (x : Log). length x.events ≤ s.cap) p.2 p.1.recorded.count);
+      draws = λ i log there. (let p = at i log there in
+          subst (λ (x : Log). BeginsWith (node_draws s i) (drawn x.events)) p.2 p.1.recorded.draws);
+      yields = λ i log there. (let p = at i log there in
+          subst (λ (x : Log). YieldsBelow s.terms s.nodes (first_state (is_initiator s i)) x.events) p.2
+          p.1.recorded.yields);
+      links = runs.1;
+      many = valid.ends ∙ runs.0.number;
+      ends = λ i end there. (let p = end_at i end there in
+          subst (λ (x : NodeEnd). IsShown s run.logs i x) p.2 (shown_at s finished_nodes run i p.0 p.1));
+      none_quiet = λ i there. (let p = end_at i Quiet there in
+          let rec = p.1.recorded in
+          subst (λ (x : NodeEnd). EndsAs s.nodes s.cap s.terms (node_draws s i) rec.state p.0.log.events x) p.2 rec.end);
     }
-
--- the same where there may be no run
-pub is_recording_if_ok : (s : Setup) (finished_nodes : List FinishedNode) (r : Result Run RunFault) → IfOk r IsRun
-    → AreFinishedOnRing s finished_nodes → IfOk r (λ run. FramesPassRoundRing finished_nodes)
-    → IfOk r (λ run. run.logs ≡ map (λ finished. finished.log) finished_nodes)
-    → IfOk r (λ run. run.ends ≡ map (λ finished. finished.end) finished_nodes) → IfOk r (IsRecording s)
-is_recording_if_ok s finished_nodes (Ok run) valid ring passed logs ends =
-    is_recording s finished_nodes run valid ring passed logs ends
-is_recording_if_ok s finished_nodes (Err f) valid ring passed logs ends = tt

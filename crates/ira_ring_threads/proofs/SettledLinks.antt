@@ -1,11 +1,11 @@
 -- What the threads of a ring gave back, while their links are settled and their parts are collected.
 use Rattle.std.proofs.Common.{◌≡◌, ◌≢◌, ℕ, suc, ◌+◌, ◌<◌, ◌⊎◌, List, [], ◌∷◌, ◌++◌, map, length, set, replicate, Option}
 use Rattle.std.proofs.Common.{Some, None, inl, inr, refl, sym, ap, ◌∙◌, subst, arith, append_assoc, length-append}
-use Rattle.std.specs.Prelude.{Bool, true, false, Result, Ok, Err, IfOk, IfErr, ◌↔◌, slice_get}
-use Rattle.std.specs.List.{zip, list_all}
+use Rattle.std.specs.Prelude.{Result, Ok, IfOk, slice_get, option_map}
+use Rattle.std.specs.List.{zip}
 use Rattle.std.proofs.lemmas.List.{append-nil, length-map, length-replicate, map-append}
 use Rattle.std.proofs.lemmas.Bool.{cases_eq}
-use Rattle.std.proofs.lemmas.Option.{none-some, some_pair_parts}
+use Rattle.std.proofs.lemmas.Option.{none-some, some_pair_parts, slice_get-map}
 use Rattle.std.proofs.Math.Seq.{set-append_seam}
 use mathlib.Core.List.{IsPrefix}
 use Rattle.ira_event.specs.Log.{Log}
@@ -17,23 +17,16 @@ use Rattle.ira_ring_setup.specs.Terms.{version_of}
 use Rattle.ira_ring_setup.specs.Setup.{Setup}
 use Rattle.ira_ring_setup.specs.Run.{Run}
 use Rattle.ira_ring_setup.specs.declared.node_end.NodeEnd.TheVariants.{Stopped}
-use Rattle.ira_ring_setup.specs.declared.run_fault.RunFault.TheVariants.{Setup as SetupFault, NoEnd, Stranger, Double}
-use Rattle.ira_ring_setup.specs.NodeEnd.{is_stopped}
-use Rattle.ira_ring_setup.specs.RunFault.{run_fault_number}
-use Rattle.ira_ring_setup.specs.Recording.{HasOwnEnd}
-use Rattle.ira_ring_setup.specs.Collector.{KeepsPart, PartFaultOf, HasNoEnd, FinishFaultOf, AreParts}
+use Rattle.ira_ring_setup.specs.Collector.{KeepsPart, PartFaultOf, HasNoEnd, AreParts}
 use Rattle.ira_ring_threads.specs.FinishedNode.{FinishedNode, AreFinishedOnPlaces, AreOfOneRing, FramesPass}
 use Rattle.ira_ring_threads.specs.FinishedNode.{FramesPassRoundRing}
-use Rattle.ira_ring_setup.proofs.Collecting.{AreOfVersion, member-replicate, keeps-part, no-stranger, get-after, each-stopped}
+use Rattle.ira_ring_setup.proofs.Collecting.{AreOfVersion, member-replicate, keeps-part, no-stranger, get-after}
+use Rattle.ira_ring_setup.proofs.Places.{get_map}
 use Rattle.ira_ring_threads.proofs.FinishedNodes.{passed_more, place_count}
 
 -- the part of a node, as a collector takes it
 abbrev pub part_of : FinishedNode → Option (Log × NodeEnd)
 part_of finished = Some (finished.log, finished.end)
-
-either : (b : Bool) → (b ≡ true) ⊎ (b ≡ false)
-either true = inl refl
-either false = inr refl
 
 -- the parts of these, and nothing yet of m more
 abbrev pub taken_of : List FinishedNode → ℕ → List (Option (Log × NodeEnd))
@@ -273,62 +266,19 @@ settled_run finished_nodes run taken is parts =
     let many : length taken ≡ length finished_nodes = ap length is ∙ length-map finished_nodes part_of in
     parts_are run.logs run.ends finished_nodes (parts.logs ∙ many) (parts.ends ∙ many) (sym is ∙ parts.parts)
 
--- one of these ends isn't `Stopped`
-own_end : (ends : List NodeEnd) → list_all is_stopped ends ≡ false → (i : ℕ) × (end : NodeEnd)
-    × (slice_get ends i ≡ Some end) × (end ≢ Stopped)
-own_end [] e = absurd cc
-own_end (x ∷ xs) e = elim (either (is_stopped x)) [
-  | inl stopped ↦
-      let rest : list_all is_stopped xs ≡ false = rw stopped at e in
-      let there = own_end xs rest in
-      (suc there.0, there.1, there.2, there.3)
-  | inr goes_on ↦ (
-    0,
-    x,
-    refl,
-    λ is. let no : is_stopped Stopped
-        ≡ false = subst (λ (y : NodeEnd). is_stopped y ≡ false) is goes_on in absurd cc,
-  )
-]
+-- a collector that has finished has a run, where not every end is `Stopped`
+pub finishes : (finished_nodes : List FinishedNode) (taken : List (Option (Log × NodeEnd)))
+    → taken ≡ map part_of finished_nodes
+    → (((i : ℕ) (d : FinishedNode) → slice_get finished_nodes i ≡ Some d → d.end ≡ Stopped) → ⊥) → ¬ (HasNoEnd taken)
+finishes finished_nodes taken is some (inl missing) =
+    let there : slice_get (map part_of finished_nodes) missing.0 ≡ Some None =
+    ap (λ xs. slice_get xs missing.0) (sym is) ∙ missing.1 in
+    let p = get_map part_of finished_nodes missing.0 None there in
+    (let e : ◌≡◌ {A = Option (Log × NodeEnd)} (Some (p.0.log, p.0.end)) None = p.2 in cc)
+finishes finished_nodes taken is some (inr stopped) = some (λ i d at.
+    stopped i d.log d.end (ap (λ xs. slice_get xs i) is ∙ slice_get-map part_of finished_nodes i
+    ∙ ap (option_map part_of) at))
 
-run_has_own_end : (run : Run) (taken : List (Option (Log × NodeEnd))) → AreParts taken run → ¬ (HasNoEnd taken)
-    → HasOwnEnd run
-run_has_own_end run taken parts some = elim (either (list_all is_stopped run.ends)) [
-  | inl all ↦
-      let P : List (Option (Log × NodeEnd)) → Type 0 = λ xs. HasNoEnd xs in
-      absurd (some (subst P (sym parts.parts) (inr (each-stopped run.logs run.ends all))))
-  | inr other ↦ own_end run.ends other
-]
-
--- what a collector that has finished tells
-pub on_ok : {X E : Type 0} (r : Result X E) (P Q : X → Type 0) → ((x : X) → P x → Q x) → IfOk r P → IfOk r Q
-on_ok (Ok x) P Q f h = f x h
-on_ok (Err e) P Q f h = tt
-
+-- what a result tells
 pub ok_of : {X E : Type 0} (r : Result X E) (x : X) (P : X → Type 0) → r ≡ Ok x → IfOk r P → P x
 ok_of r x P is h = subst (λ r. IfOk r P) is h
-
-pub finished_with_end : (r : Result Run RunFault) (taken : List (Option (Log × NodeEnd)))
-    → IfOk r (λ run. AreParts taken run) → ((f : RunFault) → (r ≡ Err f) ↔ FinishFaultOf taken f) → IfOk r HasOwnEnd
-finished_with_end (Ok run) taken parts err =
-    run_has_own_end run taken parts (λ none. let no = (err NoEnd).1 (none, refl) in absurd cc)
-finished_with_end (Err f) taken parts err = tt
-
-pub unfinished : (r : Result Run RunFault) (taken : List (Option (Log × NodeEnd)))
-    → ((f : RunFault) → (r ≡ Err f) ↔ FinishFaultOf taken f) → IfErr r (λ f. f ≡ NoEnd)
-unfinished (Ok run) taken err = tt
-unfinished (Err f) taken err = ((err f).0 refl).1
-
--- the fault of a run that ended without an own end is no other one
-abbrev fault_number : Result Run RunFault → ℕ
-fault_number (Ok run) = 0
-fault_number (Err f) = run_fault_number f
-
-pub no_other_fault : (r : Result Run RunFault) → IfErr r (λ f. f ≡ NoEnd) → IfErr r (λ f. (f ≢ Stranger) × (f ≢ Double))
-no_other_fault (Ok run) err = tt
-no_other_fault (Err f) err =
-    (λ is. omega (arith, ap run_fault_number (sym err ∙ is)), λ is. omega (arith, ap run_fault_number (sym err ∙ is)))
-
-pub no_setup_fault : (r : Result Run RunFault) → IfErr r (λ f. f ≡ NoEnd) → r ≡ Err SetupFault → ⊥
-no_setup_fault (Ok run) err is = omega (arith, ap fault_number is)
-no_setup_fault (Err f) err is = omega (arith, ap fault_number is, ap run_fault_number err)

@@ -5,7 +5,7 @@ use Rattle.ira_event.specs.Log.{Log}
 use Rattle.ira_links.specs.declared.frame.Frame.{Frame}
 use Rattle.ira_links.specs.LinkEnd.{LinkName, LinkEnd}
 use Rattle.ira_ring_setup.specs.declared.node_end.NodeEnd.{NodeEnd}
-use Rattle.ira_ring_setup.specs.Setup.{Setup, is_initiator, node_draws}
+use Rattle.ira_ring_setup.specs.Setup.{Setup, KeepsRules, is_initiator, node_draws}
 use Rattle.ira_ring_threads.specs.TaskPromise.{TaskPromise}
 use Rattle.ira_ring_threads.specs.NodeFrames.{frames_put, frames_taken}
 use Rattle.ira_ring_setup.specs.Recording.{IsRecorded}
@@ -61,6 +61,6 @@ FramesPass before (finished ∷ finished_nodes) after = IsPrefix finished.input.
 abbrev pub FramesPassRoundRing : List FinishedNode → Type 0
 FramesPassRoundRing finished_nodes = (last : List Frame) × FramesPass last finished_nodes last
 
--- they are of all places of some setup's ring of n nodes
+-- they are of all places of the ring, of n nodes, of some setup that keeps the rules
 abbrev pub AreOfOneRing : ℕ → List FinishedNode → Type 0
-AreOfOneRing n finished_nodes = (s : Setup) × (s.nodes ≡ n) × AreFinishedOnRing s finished_nodes
+AreOfOneRing n finished_nodes = (s : Setup) × (s.nodes ≡ n) × AreFinishedOnRing s finished_nodes × KeepsRules s

@@ -21,20 +21,19 @@ use std::thread;
 use std::thread::Threads;
 use std::time::Clock;
 
-/// Settles each link, and gives the run of the parts.
+/// Settles each link, and gives the run of the parts. It has an end: not all nodes of a ring wait for one
+/// another.
 fn settle_all<A: Allocator>(
     mut finished_nodes: VecDeque<FinishedNode<A>, A>,
     mut collector: Collector<A>,
-) -> Result<Run<A>, RunFault>
+) -> Run<A>
     requires none { collector ≡ replicate (length collector) None }
     requires size { 1 ≤ length collector }
     requires ring { AreOfOneRing (length collector) finished_nodes.items }
-    ensures valid { IfOk result IsRun }
-    ensures logs { IfOk result (λ run. run.logs ≡ map (λ finished. finished.log) finished_nodes.items) }
-    ensures ends { IfOk result (λ run. run.ends ≡ map (λ finished. finished.end) finished_nodes.items) }
-    ensures passed { IfOk result (λ run. FramesPassRoundRing finished_nodes.items) }
-    ensures ended { IfOk result HasOwnEnd }
-    ensures err { IfErr result (λ f. f ≡ NoEnd) }
+    ensures valid { IsRun result }
+    ensures logs { result.logs ≡ map (λ finished. finished.log) finished_nodes.items }
+    ensures ends { result.ends ≡ map (λ finished. finished.end) finished_nodes.items }
+    ensures passed { FramesPassRoundRing finished_nodes.items }
 {
     let Some(first) = finished_nodes.pop_front() else {
         unreachable!()
@@ -60,21 +59,23 @@ fn settle_all<A: Allocator>(
         last = output;
     }
     settle(last, first_input);
-    collector.finish()
+    let Ok(run) = collector.finish() else {
+        unreachable!()
+    };
+    run
 }
 
 /// Runs the nodes of the setup, each in a thread of its own, with links between them that hold `2N + 2`
 /// frames. `Setup` where the setup breaks the rules; nothing is taken before they were looked at. All
 /// memory is reserved before the first thread starts.
 ///
-/// Each node's log begins with its log by `run_alone`. Where a node ends there otherwise than as `Quiet`, the
-/// logs are the same, and so are the ends, with `Stopped` for `Quiet`, however the threads were scheduled.
+/// The logs are those of `run_alone`, and so are the ends, with `Stopped` for `Quiet`, however the threads were
+/// scheduled.
 ///
 /// Threads start by rising place, each after the gate admitted it. Where the gate doesn't admit one, or it
 /// can't be started, `Stop` is put on the link to node 0, if the end that writes it wasn't given away yet; all
 /// ends that are left are dropped, the started threads are joined, and the answer is `Thread`, whatever
-/// they answer. `Closed` where all were started and one of them found its link closed, and `NoEnd` where
-/// every node says that the one before it ended.
+/// they answer. `Closed` where all were started and one of them found its link closed.
 pub fn run_ring<R, G, A>(rt: &R, alloc: A, setup: &Setup<A>, gate: &G) -> Result<Run<A>, RunFault>
 where
     R: Threads + Wait + Clock + Sync,
@@ -86,6 +87,9 @@ where
     ensures agrees { IfOk result (Agrees setup.now) }
     ensures ended { IfOk result HasOwnEnd }
     ensures faults { IfErr result (λ f. (f ≢ Stranger) × (f ≢ Double)) }
+
+    // A ring of a setup that keeps the rules never stands still.
+    ensures no_end { result ≢ Err NoEnd }
 {
     if !setup.keeps_rules() {
         return Err(RunFault::Setup);
@@ -108,5 +112,5 @@ where
                 × IfErr result (λ f. (f ≡ Thread) ⊎ (f ≡ ClosedFault)) }
         { run_tasks(rt, setup, gate, scope, tasks, started_nodes, finished_nodes) },
     )?;
-    settle_all(finished_nodes, collector)
+    Ok(settle_all(finished_nodes, collector))
 }

@@ -6,11 +6,10 @@ use mir.Syntax.{of_param}
 use denote.Exit.{unseen}
 use denote.Param.Send.{Quiet-if}
 use Rattle.ira_ring_setup.specs.Setup.{Setup, KeepsRules}
-use Rattle.ira_ring_setup.specs.Run.{IsRun}
 use Rattle.ira_ring_threads.specs.FinishedNode.{AreFinishedOnRing}
-use Rattle.ira_ring_threads.proofs.SettledLinks.{on_ok, ok_of, no_other_fault, no_setup_fault}
-use Rattle.ira_ring_threads.proofs.Recordings.{is_recording_if_ok}
-use Rattle.ira_ring_setup.proofs.AgreementLaws.{recording_agrees_if_ok}
+use Rattle.ira_ring_threads.proofs.SettledLinks.{ok_of}
+use Rattle.ira_ring_threads.proofs.Recordings.{is_recording}
+use Rattle.ira_ring_setup.proofs.AgreementLaws.{recording_agrees}
 use Rattle.ira_ring_threads.proofs.ring_run.run_ring.Goals as goal
 
 pub scoped-requires : goal.scoped-requires
@@ -59,12 +58,8 @@ settle_all-requires-clause-ring g c =
       sym (collected s.nodes c.in_ok-room.room.collector c.in_ok-room.ensures.collector),
       ok_of c.scoped.result c.in_ok-finished_nodes.finished_nodes (λ finished_nodes.
           AreFinishedOnRing s finished_nodes.items) c.in_ok-finished_nodes.was c.scoped.ensures.1.0,
+      c.if-not-keeps_rules.ensures.0 refl,
     )
-
-pub returns-clause-kept : goal.returns-clause-kept
-returns-clause-kept g c =
-    on_ok c.settle_all.result IsRun (λ run. KeepsRules c.args.setup.now) (λ run valid.
-    c.if-not-keeps_rules.ensures.0 refl) c.settle_all.ensures.valid
 
 pub returns-clause-recording : goal.returns-clause-recording
 returns-clause-recording g c =
@@ -72,20 +67,13 @@ returns-clause-recording g c =
     let ring = ok_of c.scoped.result c.in_ok-finished_nodes.finished_nodes (λ finished_nodes.
     AreFinishedOnRing s finished_nodes.items) c.in_ok-finished_nodes.was c.scoped.ensures.1.0 in
     let settled = c.settle_all.ensures in
-    is_recording_if_ok s c.in_ok-finished_nodes.finished_nodes.items c.settle_all.result settled.valid ring
-    settled.passed settled.logs settled.ends
+    is_recording s c.in_ok-finished_nodes.finished_nodes.items c.settle_all.result settled.valid ring settled.passed
+    settled.logs settled.ends
 
 pub returns-clause-agrees : goal.returns-clause-agrees
-returns-clause-agrees g c = recording_agrees_if_ok _ _ (returns-clause-recording g c)
-
-pub returns-clause-rules : goal.returns-clause-rules
-returns-clause-rules g c = (
-  λ is. absurd (no_setup_fault c.settle_all.result c.settle_all.ensures.err is),
-  λ broken. absurd (broken (c.if-not-keeps_rules.ensures.0 refl)),
-)
+returns-clause-agrees g c =
+    recording_agrees c.args.setup.now c.settle_all.result (c.if-not-keeps_rules.ensures.0 refl)
+    (returns-clause-recording g c)
 
 pub returns-clause-ended : goal.returns-clause-ended
-returns-clause-ended g c = c.settle_all.ensures.ended
-
-pub returns-clause-faults : goal.returns-clause-faults
-returns-clause-faults g c = no_other_fault c.settle_all.result c.settle_all.ensures.err
+returns-clause-ended g c = (returns-clause-agrees g c).own_end

@@ -1,11 +1,9 @@
-use Rattle.std.proofs.Common.{rules, ◌≡◌, ◌∙◌, [], length, map, sym}
+use Rattle.std.proofs.Common.{rules, ◌≡◌, ◌∙◌, [], length, sym}
 use Rattle.std.specs.VecDeque.{deque_len}
 use Rattle.std.proofs.lemmas.List.{nil_from_length}
-use Rattle.ira_ring_threads.specs.FinishedNode.{FramesPassRoundRing}
-use Rattle.ira_ring_setup.specs.Collector.{AreParts}
 use Rattle.ira_ring_threads.proofs.SettledLinks.{first_held, settling_first, settling_more, settling_takes, first_takes}
-use Rattle.ira_ring_threads.proofs.SettledLinks.{settled_round, settled_taken, settled_run, on_ok, finished_with_end}
-use Rattle.ira_ring_threads.proofs.SettledLinks.{unfinished}
+use Rattle.ira_ring_threads.proofs.SettledLinks.{settled_round, settled_taken, settled_run, finishes}
+use Rattle.ira_ring_threads.proofs.Recordings.{not_all_stopped}
 use Rattle.ira_ring_threads.proofs.ring_run.settle_all.Goals as goal
 
 pub unreachable-requires-in_default-take : goal.unreachable-requires-in_default-take
@@ -44,8 +42,8 @@ loop-finished-preserved g c =
           c.settle.ensures.prefix kept;
     }
 
-pub returns : goal.returns
-returns g c =
+pub unreachable-requires-in_default-finish : goal.unreachable-requires-in_default-finish
+unreachable-requires-in_default-finish g c =
     let finished_nodes = c.args.finished_nodes.items in
     let parts = c.loop-finished.collector in
     let settling = c.loop-finished.invariant.settling in
@@ -56,16 +54,26 @@ returns g c =
     c.first.inside.input c.loop-finished.last parts nil settling in
     let round = settled_round (length c.args.collector) finished_nodes c.loop-finished.finished_nodes.items
     c.first.inside.input c.loop-finished.last parts nil settling c.settle-2.ensures.prefix in
+    let ring = c.requires.ring in
+    let f = c.in_default-finish.field-0 in
+    finishes finished_nodes parts taken (not_all_stopped ring.0 finished_nodes ring.3 ring.2 round)
+    ((c.finish.ensures.err f).0 c.in_default-finish.is).0
+
+pub returns : goal.returns
+returns g c =
+    let finished_nodes = c.args.finished_nodes.items in
+    let parts = c.loop-finished.collector in
+    let settling = c.loop-finished.invariant.settling in
+    let none : deque_len c.loop-finished.finished_nodes ≡ 0 = search rules in
+    let nil : c.loop-finished.finished_nodes.items ≡ [] =
+    nil_from_length c.loop-finished.finished_nodes.items (sym c.loop-finished.finished_nodes.ok.0 ∙ none) in
+    let taken = settled_taken (length c.args.collector) finished_nodes c.loop-finished.finished_nodes.items
+    c.first.inside.input c.loop-finished.last parts nil settling in
+    let run = settled_run finished_nodes c.in-Ok-finish.run' parts taken c.in-Ok-finish.ensures.ok in
     record {
-      valid = c.finish.ensures.valid;
-      logs = on_ok c.finish.result (AreParts parts) (λ run. run.logs
-          ≡ map (λ finished. finished.log) finished_nodes) (λ run are.
-          (settled_run finished_nodes run parts taken are).0) c.finish.ensures.ok;
-      ends = on_ok c.finish.result (AreParts parts) (λ run. run.ends
-          ≡ map (λ finished. finished.end) finished_nodes) (λ run are.
-          (settled_run finished_nodes run parts taken are).1) c.finish.ensures.ok;
-      passed = on_ok c.finish.result (AreParts parts) (λ run. FramesPassRoundRing finished_nodes) (λ run are.
-          round) c.finish.ensures.ok;
-      ended = finished_with_end c.finish.result parts c.finish.ensures.ok c.finish.ensures.err;
-      err = unfinished c.finish.result parts c.finish.ensures.err;
+      valid = c.in-Ok-finish.ensures.valid;
+      logs = run.0;
+      ends = run.1;
+      passed = settled_round (length c.args.collector) finished_nodes c.loop-finished.finished_nodes.items
+          c.first.inside.input c.loop-finished.last parts nil settling c.settle-2.ensures.prefix;
     }

@@ -1,0 +1,4 @@
+pub mod AnOrder
+pub mod Ending
+pub mod GoingOn
+pub mod StandingStill

@@ -1,0 +1,6 @@
+//! Laws of the algorithm: no election stands still, and each ends with one leader and all else at rest.
+#![tactic(auto)]
+
+mod laws;
+
+pub use laws::{leaders_end_elections, local_runs_have_an_order, no_ring_stands_still, runs_go_on};
