@@ -3,9 +3,10 @@
 #
 #     sums             whether its files are those that were released
 #     age              a line that says how old it is
-#     compare FOLDER   whether it is what was built in a folder, as bin: byte for byte, but where the C library of this machine is
-#                      another one than was linked. There it's the object file that is compared
-#     prove            compares it with what is proved and built here, where these are its sources; else says how old it is
+#     compare FOLDER   whether it is what was built in a folder, as bin: byte for byte, but where the C library of this
+#                      machine is another one than was linked. There it's the object file that is compared
+#     prove            compares it with what is proved and built here, where these are its sources; else says how old
+#                      it is
 #     make             writes it of what stands in bin, and says what differs from the one that was there
 #     verify           proves and builds its commit anew, in a clone, and compares
 set -e
@@ -17,12 +18,14 @@ commit=$(field commit release/TREE 2> /dev/null || true)
 
 case $1 in
 sums)
-    (cd release && sha256sum --check --quiet SHA256SUMS) >&2 ||
-        { echo 'release/ is not what was released: SHA256SUMS names other bytes. `git checkout release` brings it back.' >&2; exit 1; }
+    if ! (cd release && sha256sum --check --quiet SHA256SUMS) >&2; then
+        echo 'release/ is not what was released: SHA256SUMS names other bytes. `git checkout release` brings it back.' >&2
+        exit 1
+    fi
     ;;
 age)
     count=$(git rev-list --count "$commit..HEAD" 2> /dev/null) || count='an unknown number of'
-    echo "release/ is of other sources than these, of $count commits ago: make try builds these with no proof, make ira proves them"
+    echo "release/ is of other sources, of $count commits ago: make try builds these with no proof, make ira proves them"
     ;;
 compare)
     differs=''
@@ -51,7 +54,10 @@ prove)
 make)
     git diff --quiet HEAD || { echo 'a release is made of what is committed: git status' >&2; exit 1; }
     sh build/prove.sh web
-    ! ldd bin/ira > /dev/null 2>&1 || { echo "bin/ira isn't static: install libc.a (glibc's static library), then: make clean release" >&2; exit 1; }
+    if ldd bin/ira > /dev/null 2>&1; then
+        echo "bin/ira isn't static: install libc.a (glibc's static library), then: make clean release" >&2
+        exit 1
+    fi
     mkdir -p release
     for it in ira ira.html; do
         was=$(cat release/$it 2> /dev/null | wc -c)

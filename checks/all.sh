@@ -3,10 +3,15 @@
 #
 #     sh checks/all.sh bin/ira [CHECK...]
 #
-# Those that are named run, or all. What a check skips itself it names in a line `skipped: WHAT (WHY)`.
+# Those that are named run, or all; where - stands for the program, those that need none. What a check skips itself it
+# names in a line `skipped: WHAT (WHY)`.
 
-ira=$(realpath "$1") || exit 2
-[ -x "$ira" ] || { echo "checks: no program at $1"; exit 2; }
+ira=-
+if [ "$1" != - ]; then
+    ira=$(realpath "$1") || exit 2
+    [ -x "$ira" ] || { echo "checks: no program at $1"; exit 2; }
+fi
+page=$(dirname "$ira")/ira.html
 cd "$(dirname "$0")" || exit 2
 shift
 all='definitions names examples limits pages completions version pictures page web json plain refusals recorders sweep'
@@ -20,16 +25,29 @@ for name in "$@"; do
     esac
 done
 
+# Whether there is a page of these sources.
+has_page() {
+    [ -f "$page" ] && (cd .. && sh build/tree.sh) | grep '^page: ' | grep -qxFf - "${page%/*}/TREE"
+}
+
 # What a check needs and isn't there.
 lacks() {
+    case $ira:$1 in
+    *:definitions | *:names) return ;;
+    -:*)
+        echo 'no program of these sources'
+        return
+        ;;
+    esac
     case $1 in
     pictures | page | web | json | plain | refusals | sweep) command -v python3 > /dev/null || { echo 'no python3'; return; } ;;
     esac
     case $1 in
     page | web)
         command -v chromium > /dev/null && command -v chromedriver > /dev/null || { echo 'no chromium and chromedriver'; return; }
-        [ "$1" = page ] || [ -f ../bin/ira.html ] || echo 'no bin/ira.html: make web'
+        [ "$1" = page ] || has_page || echo 'no ira.html of these sources beside the program: make web'
         ;;
+    version) "$ira" version | grep -q '(not proved' && echo 'a program that was not proved' ;;
     refusals | sweep)
         [ -f "$ira.o" ] || ldd "$ira" > /dev/null 2>&1 || { echo 'a static program, without the object file that make ira leaves'; return; }
         command -v rt > /dev/null || echo 'no Rattle kit'
@@ -48,7 +66,7 @@ check() {
     examples | limits | pages | completions | version | recorders) sh "$1.sh" "$ira" ;;
     pictures) python3 -B pictures.py "$ira" ;;
     page) python3 -B page.py "$ira" ;;
-    web) python3 -B web.py "$ira" ;;
+    web) python3 -B web.py "$ira" "$page" ;;
     json) python3 -B json_lines.py "$ira" ;;
     plain) python3 -B plain_pages.py "$ira" ;;
     refusals) python3 -B sweep.py --short "$(of_ira)" ;;
