@@ -40,7 +40,7 @@ pub fn audit_one<A: Allocator>(_alloc: A, text: &[u8]) -> Result<Answer, OutOfMe
 /// were recorded. Where they don't match, have no order, or have an event without a step, no run of the
 /// ring is a run of them.
 ///
-/// Beside the logs themselves it takes memory for one order of their events.
+/// Beside the logs themselves it takes memory for one order of their events, where one of these has no step.
 pub fn audit_logs<A: Allocator + Clone>(alloc: A, texts: &[&[u8]]) -> Result<Answer, OutOfMemory>
     ensures answer { (a : Answer)
         → UnlessErr result (record {}) ((result ≡ Ok a) ↔ IsRingAnswer (map (λ text. text.now) texts.now) a) }

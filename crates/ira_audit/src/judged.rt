@@ -46,8 +46,8 @@ pub enum Judged<A: Allocator> {
 }
 
 /// The first reason against logs, by what the search for an order of them gave and by their first events without a step.
-fn first_reason<A: Allocator>(
-    order: Result<Vec<u8, A>, OrderFault>,
+fn first_reason(
+    order: Result<(), OrderFault>,
     faulty_events: &[FaultyEvent],
 ) -> Result<Option<Reason>, OutOfMemory>
     ensures { (logs : List Log) → AreLogs logs → IsSearched logs order
@@ -60,7 +60,7 @@ fn first_reason<A: Allocator>(
             OrderFault::Circle => Ok(Some(Reason::Circle)),
             OrderFault::OutOfMemory => Err(OutOfMemory),
         },
-        Ok(_) => match faulty_events.first() {
+        Ok(()) => match faulty_events.first() {
             None => Ok(None),
             Some(event) => Ok(Some(Reason::Replay {
                 place: event.at.place,
@@ -77,7 +77,7 @@ impl<A: Allocator + Clone> Judged<A> {
     pub(crate) fn new(
         logs: Logs<A>,
         faulty_events: Vec<FaultyEvent, A>,
-        order: Result<Vec<u8, A>, OrderFault>,
+        order: Result<(), OrderFault>,
     ) -> Result<Judged<A>, OutOfMemory>
         requires ring { AreLogs logs }
         requires faulty { AreFirstFaultyEvents logs faulty_events.items }

@@ -13,6 +13,7 @@ mod good_logs;
 mod judged;
 mod laws;
 mod log_audit;
+mod order_search;
 mod partial_replay;
 mod reason;
 mod refusal;

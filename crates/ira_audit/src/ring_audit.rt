@@ -8,11 +8,12 @@ ghost use Rattle.ira_audit.specs.Refusal.{IsRingReason, MatchRefusal};
 ghost use Rattle.ira_audit.specs.RingAudit.{HasTaken};
 
 use crate::judged::Judged;
+use crate::order_search::{search_order, search_order_on_threads};
 use crate::reason::Reason;
 use crate::refusal::Refusal;
 use crate::replayed_log::{ReplayedLog, split_replayed};
 use ira_event::{LogFault, Logs, OutOfMemory};
-use ira_order::{FaultyEvent, find_order, find_order_on_threads};
+use ira_order::FaultyEvent;
 use std::alloc::Allocator;
 use std::marker::Model;
 use std::thread::Threads;
@@ -115,7 +116,8 @@ impl<A: Allocator + Clone> RingAudit<A> {
     {
         match self.gather_replayed() {
             Ok((logs, faulty_events)) => {
-                let order = find_order(faulty_events.allocator().clone()?, &logs);
+                let alloc = faulty_events.allocator().clone()?;
+                let order = search_order(alloc, &logs, &faulty_events);
                 Judged::new(logs, faulty_events, order)
             }
             Err(Refusal::No(reason)) => Ok(Judged::NoRing(reason)),
@@ -123,7 +125,7 @@ impl<A: Allocator + Clone> RingAudit<A> {
         }
     }
 
-    /// What `judge` gives. The links are matched by a thread of their own where one can be started.
+    /// What `judge` gives. Where an event has no step, an order is looked for on two threads, if one can be started.
     pub fn judge_on_threads<R>(self, rt: &R) -> Result<Judged<A>, OutOfMemory>
     where
         R: Threads,
@@ -132,7 +134,8 @@ impl<A: Allocator + Clone> RingAudit<A> {
     {
         match self.gather_replayed() {
             Ok((logs, faulty_events)) => {
-                let order = find_order_on_threads(rt, faulty_events.allocator().clone()?, &logs);
+                let alloc = faulty_events.allocator().clone()?;
+                let order = search_order_on_threads(rt, alloc, &logs, &faulty_events);
                 Judged::new(logs, faulty_events, order)
             }
             Err(Refusal::No(reason)) => Ok(Judged::NoRing(reason)),
