@@ -1,10 +1,11 @@
 #!/bin/sh
-# sh build/prove.sh [web]  proves and builds the program, bin/ira, with bin/ira.o, the object file that was linked; with `web` the
-# module for a browser too, and the page that has it, bin/ira.html. bin/TREE says what they were made of (build/tree.sh).
+# sh build/prove.sh [web]  proves and builds the program, bin/ira, with bin/ira.o, the object file that was linked; with
+# `web` the module for a browser too, and the page that has it, bin/ira.html. bin/TREE says what they were made of
+# (build/tree.sh).
 #
-# The libraries are proved by `rt ci`, in a copy without tests and edits: so what the gate proved of the same files is taken from
-# where the kit keeps it, and what is proved here is there for the gate. The program and the module are proved in the same way:
-# from nothing, over what the libraries state.
+# The libraries are proved by `rt ci`, in a copy without tests and edits: so what the gate proved of the same files is
+# taken from where the kit keeps it, and what is proved here is there for the gate. The program and the module are proved
+# in the same way: from nothing, over what the libraries state.
 set -e
 web=$1 here=$PWD
 kit=$(dirname "$(dirname "$(realpath "$(command -v rattle)")")")
@@ -46,13 +47,14 @@ build() {
 }
 
 # The machine's C library goes into the program, which then starts in three quarters of the time and needs nothing of the
-# machine that it runs on. bin/LINKED has the sums of the object file and of what the machine gave. Where there is no C library
-# to link so, the kit links as in the gate.
+# machine that it runs on. bin/LINKED has the sums of the object file and of what the machine gave. Where there is no C
+# library to link so, the kit links as in the gate.
 build ira src/main.rt --backend llvm -o "$room/bin/ira.o"
 echo "ira.o: $(sha256sum < bin/ira.o | cut -d ' ' -f 1)" > bin/LINKED
 set -- -o bin/ira bin/ira.o "$kit/c/libos_c.a" "$kit/c/liblibc_c.a"
 if "$kit/toolchain/bin/clang" -static -fuse-ld=lld -Wl,--trace "$@" > linked; then
-    echo "libc: $(sed 's/(.*//' linked | grep -v "^bin/\|^$kit/" | sort -u | xargs cat | sha256sum | cut -d ' ' -f 1)" >> bin/LINKED
+    given=$(sed 's/(.*//' linked | grep -v "^bin/\|^$kit/" | sort -u)
+    echo "libc: $(cat $given | sha256sum | cut -d ' ' -f 1)" >> bin/LINKED
 else
     "$kit/bin/rattle-link" --target x86_64-unknown-linux-gnu --toolchain "$kit/toolchain" "$@"
 fi

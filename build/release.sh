@@ -1,5 +1,5 @@
 #!/bin/sh
-# sh build/release.sh COMMAND  about release/, the program and the page as they were proved of the commit that its TREE names:
+# sh build/release.sh COMMAND  about release/, the program and the page as they were proved of the commit in its TREE:
 #
 #     sums             whether its files are those that were released
 #     age              a line that says how old it is

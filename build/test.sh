@@ -1,9 +1,9 @@
 #!/bin/sh
-# sh build/test.sh  runs the tests, and the programs that have an expected output, built with no proof, as many crates at a
-# time as there are cores; and the checks that take minutes at most. Where there is no Rattle kit it runs the checks alone.
+# sh build/test.sh  runs the tests, and the programs that have an expected output, built with no proof, as many crates at
+# a time as there are cores; and the checks that take minutes at most. Where there is no Rattle kit, the checks alone.
 #
-# With arguments it's one part of that: `tests CRATE`, `program CRATE` or `checks`. Each leaves in $room what it said, and in a
-# file .counts how many passed and how many failed.
+# With arguments it's one part of that: `tests CRATE`, `program CRATE` or `checks`. Each leaves in $room what it said, and
+# in a file .counts how many passed and how many failed, or in a file .skipped why not.
 
 # What takes longer than this, as it's built here with its accesses watched, is left to the gate.
 seconds=30
@@ -20,7 +20,6 @@ tests() {
     fi
     sed -n 's/^test result: .* \([0-9]*\) passed; \([0-9]*\) failed;.*/\1 \2/p' "$to" |
         awk -v late="$(wc -l < "$to.late")" '{ print $1, $2 - late }' > "$to.counts"
-    [ -s "$to.counts" ] || echo 0 1 > "$to.counts"
 }
 
 program() {
@@ -50,7 +49,10 @@ checks() {
     {
         if ! ira=$(sh build/program.sh); then
             ira=-
-            command -v rt > /dev/null && sh build/try.sh && ira=bin/unproved/ira
+            if command -v rt > /dev/null; then
+                sh build/try.sh || return
+                ira=bin/unproved/ira
+            fi
         fi
         sh checks/all.sh "$ira" definitions names examples limits pages completions version pictures page web json plain \
             refusals
@@ -60,12 +62,14 @@ checks() {
         failed = $2 == "none" ? 0 : split($2, names, ", ")
         print ran - failed, failed
     }' > "$room/checks.counts"
-    [ -s "$room/checks.counts" ] || echo 0 1 > "$room/checks.counts"
 }
 
 if [ $# -gt 0 ]; then
     "$@"
     part=$room/${2:-checks}
+    if [ ! -f "$part.skipped" ] && [ ! -s "$part.counts" ]; then
+        echo 0 1 > "$part.counts"
+    fi
     [ ! -f "$part.counts" ] || { read -r well badly < "$part.counts"; echo "$*: $well passed, $badly failed"; }
     [ ! -f "$part.skipped" ] || echo "$*: skipped $(cat "$part.skipped")"
     exit 0

@@ -1,6 +1,6 @@
 #!/bin/sh
-# sh build/tree.sh  prints what the program and the page are made of here: the kit's line, where there is a kit; a sum over what
-# the program is made of; and a sum over what the page has beside that.
+# sh build/tree.sh  prints what the program and the page are made of here: the kit's line, where there is a kit; a sum over
+# what the program is made of; and a sum over what the page has beside that.
 set -e
 sum() {
     LC_ALL=C sort | xargs sha256sum | sha256sum | cut -d ' ' -f 1

@@ -47,7 +47,10 @@ lacks() {
         command -v chromium > /dev/null && command -v chromedriver > /dev/null || { echo 'no chromium and chromedriver'; return; }
         [ "$1" = page ] || has_page || echo 'no ira.html of these sources beside the program: make web'
         ;;
-    limits | version) "$ira" version | grep -q '(not proved' && echo 'a program that was built with no proof' ;;
+    version | limits | json)
+        # these two take it many minutes
+        "$ira" version | grep -q '(not proved' && echo 'a program that was built with no proof'
+        ;;
     refusals | sweep)
         [ -f "$ira.o" ] || ldd "$ira" > /dev/null 2>&1 || { echo 'a static program, without the object file that make ira leaves'; return; }
         command -v rt > /dev/null || echo 'no Rattle kit'
