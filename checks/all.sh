@@ -40,16 +40,18 @@ lacks() {
         ;;
     esac
     case $1 in
+    # limits and json would take it many minutes, and it gets no memory by the C library
+    version | limits | json | refusals | sweep)
+        ! "$ira" version | grep -q '(not proved' || { echo 'a program that was built with no proof'; return; }
+        ;;
+    esac
+    case $1 in
     pictures | page | web | json | plain | refusals | sweep) command -v python3 > /dev/null || { echo 'no python3'; return; } ;;
     esac
     case $1 in
     page | web)
         command -v chromium > /dev/null && command -v chromedriver > /dev/null || { echo 'no chromium and chromedriver'; return; }
         [ "$1" = page ] || has_page || echo 'no ira.html of these sources beside the program: make web'
-        ;;
-    version | limits | json)
-        # these two take it many minutes
-        "$ira" version | grep -q '(not proved' && echo 'a program that was built with no proof'
         ;;
     refusals | sweep)
         [ -f "$ira.o" ] || ldd "$ira" > /dev/null 2>&1 || { echo 'a static program, without the object file that make ira leaves'; return; }
