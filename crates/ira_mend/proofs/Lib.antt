@@ -1,7 +1,9 @@
 pub mod Beginnings
 pub mod Begun
+pub mod CutTexts
 pub mod Lattice
 pub mod MendedRuns
+pub mod OneReason
 pub mod Pasts
 pub mod RecordedTexts
 pub mod Settling

@@ -117,7 +117,7 @@ lines_not_recorded text head rest v f few a same (inr bad) =
 -- ---- texts that are taken one by one
 
 -- a text that is cut has that fault
-cut_fault : (text : List ℕ) (log : Log) → IsCutText text log → LogTextFault text fault.Cut
+pub cut_fault : (text : List ℕ) (log : Log) → IsCutText text log → LogTextFault text fault.Cut
 cut_fault text log is = inr (
   is.few,
   past_head (head_of log) is.lines is.head (record {
@@ -229,24 +229,35 @@ module _ {A : Type 0} where
       (r, refl, subst (λ x. IsRecordOf x r) same has.0)
   record_of (r ∷ recorded) (t ∷ texts) (suc i) text has at = record_of recorded texts i text has.1 at
 
+  -- what was taken of a text that records a log is one
+  no_log_of : (text : List ℕ) (r : RecordedLog A) → IsRecordOf text r → (log : Log) → IsRecordedText text log
+      → ((l : Log) → r ≡ taken.Log l → ⊥) → ⊥
+  no_log_of text (taken.Log l) of log is none = none l refl
+  no_log_of text (taken.Short bytes) of log is none = not_recorded text log fault.Head of.1 (λ e. absurd cc) is
+  no_log_of text (taken.Faulty f) of log is none = not_recorded text log f of.0 of.1 is
+
   -- a log that was taken is recorded
   pub one_recorded : (recorded : List (RecordedLog A)) (texts : List (List ℕ)) (head : LogHead)
       → HasRecorded recorded texts → (ring : HasHeadOfLog recorded head) → RecordsLog texts ring.log
   one_recorded recorded texts head has ring =
       let it = text_of recorded texts ring.number _ has ring.at in
-      record { number = ring.number; text = it.0; at = it.1; recorded = it.2 }
+      record {
+        number = ring.number;
+        text = it.0;
+        at = it.1;
+        recorded = it.2;
+        first = λ i before other low there is.
+            (let r = record_of recorded texts i before has there in
+            no_log_of before r.0 r.2 other is (λ log same.
+            ring.first i log low (r.1 ∙ ap Some same)));
+      }
 
   -- and where none was, no text records one
   pub none_recorded : (recorded : List (RecordedLog A)) (texts : List (List ℕ)) (log : Log)
       → HasRecorded recorded texts → HasNoLog recorded → RecordsLog texts log → ⊥
   none_recorded recorded texts log has none is =
       let it = record_of recorded texts is.number is.text has is.at in
-      go it.0 it.1 it.2
-    where
-      go : (r : RecordedLog A) → slice_get recorded is.number ≡ Some r → IsRecordOf is.text r → ⊥
-      go (taken.Log l) at of = none is.number l at
-      go (taken.Short bytes) at of = not_recorded is.text log fault.Head of.1 (λ e. absurd cc) is.recorded
-      go (taken.Faulty f) at of = not_recorded is.text log f of.0 of.1 is.recorded
+      no_log_of is.text it.0 it.2 log is.recorded (λ l same. none is.number l (it.1 ∙ ap Some same))
 
   -- of each text it is said whether it begins with no head
   lost_said : (text : List ℕ) (r : RecordedLog A) → IsRecordOf text r → SaysLost text (is_lost r)

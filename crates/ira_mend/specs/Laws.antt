@@ -1,6 +1,10 @@
 -- Laws of consistent beginnings, and of what mending keeps of logs that were cut off.
-use Rattle.std.specs.Prelude.{◌≡◌, ◌≢◌, ◌≤◌, ◌↔◌, ℕ, List, [], Some, length, slice_get, slice_index}
+use Rattle.std.specs.Prelude.{◌≡◌, ◌≢◌, ◌≤◌, ◌↔◌, ◌++◌, ℕ, Bool, List, [], Some, length, slice_get, slice_index}
+use Rattle.std.specs.List.{AllZip}
+use Rattle.ira_event.specs.declared.log_head.LogHead.{LogHead}
 use Rattle.ira_event.specs.Log.{Log}
+use Rattle.ira_event.specs.LogText.{log_text}
+use Rattle.ira_event.specs.LogTextFault.{BeginsWithHead}
 use Rattle.ira_event.specs.Logs.{AreLogs}
 use Rattle.ira_order.specs.Circle.{HasOrder}
 use Rattle.ira_order.specs.Cut.{IsConsistentCut, IsJoin, IsMeet}
@@ -10,10 +14,12 @@ use Rattle.ira_order.specs.Ring.{log_of}
 use Rattle.ira_order.specs.Run.{AreLocalRuns}
 use Rattle.ira_order.specs.VectorClock.{AtOrBefore}
 use Rattle.ira_audit.specs.declared.answer.Answer.TheVariants.{Yes}
+use Rattle.ira_audit.specs.declared.reason.Reason.{Reason}
 use Rattle.ira_audit.specs.RingAnswer.{IsRingAnswer}
 use Rattle.ira_audit.specs.LogTexts.{AreLogTexts}
 use Rattle.ira_mend.specs.Beginning.{IsConsistentBeginning, IsGreatestBeginning, begun}
 use Rattle.ira_mend.specs.Mended.{HasDifference, IsGreatestOf}
+use Rattle.ira_mend.specs.RecordedLogs.{AreLeftTexts, IsRecordedReason}
 
 -- the join of two consistent beginnings is one
 abbrev pub JoinsAreBeginnings : Type 0
@@ -78,3 +84,56 @@ MendedRunsGetYes =
     (whole left mended : List Log) (cut : List ℕ) (texts : List (List ℕ)) → AreLogs whole → HasOrder whole
     → AreLocalRuns whole → AreLeft whole cut left → IsGreatestOf left mended → AreLogTexts texts mended
     → IsRingAnswer texts Yes
+
+-- What follows is said of any texts.
+
+-- they are what is left of the logs of one list alone
+abbrev pub LeftTextsAreOne : Type 0
+LeftTextsAreOne =
+    (guess : Bool) (texts : List (List ℕ)) (logs others : List Log) → AreLeftTexts guess texts logs
+    → AreLeftTexts guess texts others → logs ≡ others
+
+-- there is one reason against them
+abbrev pub RecordedReasonsAreOne : Type 0
+RecordedReasonsAreOne =
+    (guess : Bool) (texts : List (List ℕ)) (r q : Reason) → IsRecordedReason guess texts r
+    → IsRecordedReason guess texts q → r ≡ q
+
+-- and none where they are what is left of the logs of a ring
+abbrev pub NoReasonAgainstARing : Type 0
+NoReasonAgainstARing =
+    (guess : Bool) (texts : List (List ℕ)) (logs : List Log) (r : Reason) → AreLeftTexts guess texts logs → AreLogs logs
+    → ¬ (IsRecordedReason guess texts r)
+
+-- From the bytes that a crash left of a run to a yes. The text is that of the log, or some first bytes of it.
+abbrev pub IsBegunText : List ℕ → Log → Type 0
+IsBegunText text log = (rest : List ℕ) × (text ++ rest ≡ log_text log)
+
+-- a text has a whole head
+pub record HasWholeHead (texts : List (List ℕ)) : Type 0 where
+  pub number : ℕ
+  pub text : List ℕ
+  pub at : slice_get texts number ≡ Some text
+  pub head : LogHead
+  pub rest : List ℕ
+  pub begins : BeginsWithHead text head rest
+
+-- of each of the texts of a ring's logs some first bytes are left, of one of them a whole head: they are what is left of
+-- logs of a ring
+abbrev pub CutTextsAreOfLogs : Type 0
+CutTextsAreOfLogs =
+    (guess : Bool) (whole : List Log) (texts : List (List ℕ)) → AreLogs whole → AllZip IsBegunText texts whole
+    → HasWholeHead texts → (left : List Log) × AreLeftTexts guess texts left × AreLogs left
+
+-- where the whole logs match, no receipt differs from its sending
+abbrev pub CutTextsDontDiffer : Type 0
+CutTextsDontDiffer =
+    (guess : Bool) (whole left : List Log) (texts : List (List ℕ)) (f : MatchFault) → AreLogs whole → Matches whole
+    → AllZip IsBegunText texts whole → HasWholeHead texts → AreLeftTexts guess texts left → ¬ (HasDifference left f)
+
+-- where they are those of a run, the answer of the mended texts is yes
+abbrev pub CutTextsGetYes : Type 0
+CutTextsGetYes =
+    (guess : Bool) (whole left mended : List Log) (texts answered : List (List ℕ)) → AreLogs whole → HasOrder whole
+    → AreLocalRuns whole → AllZip IsBegunText texts whole → HasWholeHead texts → AreLeftTexts guess texts left
+    → IsGreatestOf left mended → AreLogTexts answered mended → IsRingAnswer answered Yes

@@ -33,12 +33,14 @@ pub record IsCutText (text : List ℕ) (log : Log) : Type 0 where
 abbrev pub IsRecordedText : List ℕ → Log → Type 0
 IsRecordedText text log = IsLogText text log ⊎ IsCutText text log
 
--- one of the texts is that of this log, or begins so and is cut
+-- the first of the texts that is that of a log, or begins so and is cut, is of this log
 pub record RecordsLog (texts : List (List ℕ)) (log : Log) : Type 0 where
   pub number : ℕ
   pub text : List ℕ
   pub at : slice_get texts number ≡ Some text
   pub recorded : IsRecordedText text log
+  pub first : (i : ℕ) (before : List ℕ) (other : Log) → i < number → slice_get texts i ≡ Some before
+      → ¬ (IsRecordedText before other)
 
 -- the log without events of the node at this place of the ring that a head names
 abbrev pub empty_log : LogHead → ℕ → Bool → Log
@@ -76,8 +78,8 @@ LeftTextsFrom place ring guess (text ∷ texts) (log ∷ logs) =
     IsLeftText ring guess place text log × LeftTextsFrom (suc place) ring guess texts logs
 LeftTextsFrom place ring guess texts logs = ⊥
 
--- what is left of these logs are these texts, one of which at least is a log's of the ring, cut or not; the start of a
--- node of whose log no head is left is guessed
+-- what is left of these logs are these texts, of which the first that is a log's, cut or not, names the ring; the start
+-- of a node of whose log no head is left is guessed
 pub record AreLeftTexts (guess : Bool) (texts : List (List ℕ)) (logs : List Log) : Type 0 where
   pub ring : Log
   pub recorded : RecordsLog texts ring
@@ -161,10 +163,11 @@ HasRecorded recorded texts = AllZip IsRecordOf texts recorded
 abbrev pub HasNoLog : {A : Type 0} → List (RecordedLog A) → Type 0
 HasNoLog recorded = (i : ℕ) (log : Log) → slice_get recorded i ≡ Some (taken.Log log) → ⊥
 
--- this is the head of a log that was taken
+-- this is the head of the first log that was taken
 pub record HasHeadOfLog {A : Type 0} (recorded : List (RecordedLog A)) (head : LogHead) : Type 0 where
   pub number : ℕ
   pub log : Log
   pub at : slice_get recorded number ≡ Some (taken.Log log)
+  pub first : (i : ℕ) (other : Log) → i < number → slice_get recorded i ≡ Some (taken.Log other) → ⊥
   pub valid : IsLog log
   pub is : head ≡ head_of log

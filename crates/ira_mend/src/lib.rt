@@ -9,7 +9,10 @@ mod mending;
 mod recorded_log;
 mod recorded_logs;
 
-pub use laws::{beginnings_are_a_lattice, mended_runs_are_runs, mending_keeps_whole_pasts};
+pub use laws::{
+    beginnings_are_a_lattice, cut_texts_of_runs_get_yes, left_texts_have_one_answer,
+    mended_runs_are_runs, mending_keeps_whole_pasts,
+};
 pub use mend_fault::MendFault;
 pub use mending::mend;
 pub use recorded_logs::RecordedLogs;

@@ -1,5 +1,5 @@
-use Rattle.std.proofs.Common.{◌≡◌, ◌∙◌, ◌↔◌, ap, Bool, true, false, Option, Some, None, List, ℕ, refl, sym}
-use Rattle.std.specs.Prelude.{IsTrue, MatchOption, is_some}
+use Rattle.std.proofs.Common.{◌≡◌, ◌↔◌, true, Option, Some, None, List, ℕ, refl}
+use Rattle.std.specs.Prelude.{MatchOption, is_some}
 use Rattle.ira_event.specs.Log.{Log}
 use Rattle.ira_event.specs.declared.log_head.LogHead.{LogHead}
 use Rattle.ira_mend.specs.RecordedLogs.{HasHeadOfLog, HasNoLog, HasRecorded, RecordsLog}

@@ -16,6 +16,8 @@ returns-in-Log g c =
       at = ap (λ rs. slice_get rs i) same
           ∙ slice_get-get_or items i c.recorded-item.result c.loop-recorded-test.true
           ∙ ap Some (sym c.recorded-item.is ∙ c.in-Log.is);
+      first = λ j other low there. c.loop-recorded.invariant j other low
+          (ap (λ rs. slice_get rs j) (sym same) ∙ there);
       valid = c.version.ensures.valid;
       is = search rules;
     }
