@@ -15,16 +15,17 @@ use Rattle.ira_view_explain_question.specs.declared.clause_stop.DueInClause.{Due
 use Rattle.ira_view_explain_question.specs.AskedFinding.{IsAt, IsCutStop, IsHeadStop, IsTrailingStop, IsWholeLine}
 use Rattle.ira_view_explain_question.specs.SaidLines.{IsNthLine}
 
--- a line shows it in the clause that it asks
-abbrev pub IsClauseStop : ℕ → AskedStop → Type 0
-IsClauseStop number stop = (byte : ℕ) × (due : DueInClause) × IsAt number byte byte (InClause due) stop
+-- a line shows it at a byte, where this is due of the clause that it asks
+abbrev pub IsClauseStop : List ℕ → ℕ → AskedStop → Type 0
+IsClauseStop line number stop =
+    (byte : ℕ) × (due : DueInClause) × (byte ≤ length line) × IsAt number byte byte (InClause due) stop
 
 -- a line where a case begins or ends or asks a clause shows it in the clause, or as a whole where it has no place
 abbrev pub IsCaseLineStop : List ℕ → ℕ → AskedStop → Type 0
 IsCaseLineStop text number stop =
     (line : List ℕ) × IsLine text number line
     × ((((place : ℕ) (clause : List ℕ) → ¬ (IsPlaced line place clause)) × IsWholeLine text number CaseLine stop)
-    ⊎ ((place : ℕ) × (clause : List ℕ) × IsPlaced line place clause × IsClauseStop number stop))
+    ⊎ ((place : ℕ) × (clause : List ℕ) × IsPlaced line place clause × IsClauseStop line number stop))
 
 -- a line that may not stand there shows it: the third, where the first case is due, as a whole
 abbrev pub IsLineStop : List ℕ → ℕ → AskedStop → Type 0
@@ -37,6 +38,12 @@ IsPlaceStop text number stop =
     (line : List ℕ) × (to : ℕ) × (1 ≤ number → IsLine text number line) × IsAt number 0 to Place stop
     × ((place : ℕ) (digits clause : List ℕ) → line ≡ digits ++ codes ": " ++ clause → IsNumeral digits place
     → to ≡ length digits)
+
+-- a line whose clause is nested too deep shows it at a byte
+abbrev pub IsDepthStop : List ℕ → ℕ → AskedStop → Type 0
+IsDepthStop text number stop =
+    (line : List ℕ) × (byte : ℕ) × (1 ≤ number → IsLine text number line) × (byte ≤ length line)
+    × IsAt number byte byte Depth stop
 
 -- a text without a case shows it in its third line, one with too many in the line that begins the first of these
 abbrev pub IsCasesStop : List ℕ → AskedStop → Type 0
@@ -51,7 +58,7 @@ IsQuestionStop text fault.TooLong stop = stop ≡ TooLong
 IsQuestionStop text fault.Head stop = IsHeadStop text (codes "irask 1") QuestionHead stop
 IsQuestionStop text (fault.Line number) stop = IsLineStop text number stop
 IsQuestionStop text (fault.Place number) stop = IsPlaceStop text number stop
-IsQuestionStop text (fault.Depth number) stop = (byte : ℕ) × IsAt number byte byte Depth stop
+IsQuestionStop text (fault.Depth number) stop = IsDepthStop text number stop
 IsQuestionStop text (fault.Empty number) stop = IsWholeLine text number NoClause stop
 IsQuestionStop text fault.Cases stop = IsCasesStop text stop
 IsQuestionStop text fault.Cut stop = IsCutStop text stop

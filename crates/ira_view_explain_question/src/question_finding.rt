@@ -1,8 +1,8 @@
-ghost use Rattle.std.specs.Prelude.{◌≡◌, ◌≢◌, ◌<◌, ◌++◌, ℕ, List, codes, length};
+ghost use Rattle.std.specs.Prelude.{◌≡◌, ◌≢◌, ◌<◌, ◌≤◌, ◌++◌, ℕ, List, codes, length};
 ghost use Rattle.ira_event.specs.Numeral.{IsNumeral};
 ghost use Rattle.ira_pred.specs.declared.ask_fault.AskFault.{AskFault};
-ghost use Rattle.ira_view_explain_question.specs.QuestionFinding.{IsCasesStop, IsClauseStop, IsLineStop, IsPlaceStop};
-ghost use Rattle.ira_view_explain_question.specs.QuestionFinding.{IsQuestionStop};
+ghost use Rattle.ira_view_explain_question.specs.QuestionFinding.{IsCasesStop, IsClauseStop, IsDepthStop, IsLineStop};
+ghost use Rattle.ira_view_explain_question.specs.QuestionFinding.{IsPlaceStop, IsQuestionStop};
 
 use crate::asked_finding::{AskedFinding, AskedStop, nth_line};
 use crate::asked_hint::AskedHint;
@@ -51,7 +51,9 @@ fn word_begun(text: &[u8]) -> Option<&'static str> {
 }
 
 /// The byte of a line at which one bracket more is open than may be.
-fn deepest(line: &[u8]) -> usize {
+fn deepest(line: &[u8]) -> usize
+    ensures { result ≤ length line.now }
+{
     let mut open = 0usize;
     for k in 0..line.len() {
         match line[k] {
@@ -112,10 +114,7 @@ impl<'a> AskedFinding<'a> {
             AskFault::Head => { AskedFinding::of_head(file, b"irask 1", AskedRemark::QuestionHead) }
             AskFault::Line(line) => AskedFinding::of_line(file, line as usize),
             AskFault::Place(line) => AskedFinding::of_place(file, line as usize),
-            AskFault::Depth(line) => {
-                let byte = deepest(file.line(line as usize));
-                AskedFinding::at(line as usize, byte, byte, AskedRemark::Depth)
-            }
+            AskFault::Depth(line) => AskedFinding::of_depth(file, line as usize),
             AskFault::Empty(line) => {
                 AskedFinding::whole_line(file, line as usize, AskedRemark::NoClause)
             }
@@ -141,13 +140,20 @@ impl<'a> AskedFinding<'a> {
 
     /// Of a line whose clause, after the place, is none.
     fn of_clause(number: usize, line: &'a [u8], clause: &'a [u8]) -> AskedFinding<'a>
-        ensures { IsClauseStop number result.stop }
+        ensures { IsClauseStop line.now number result.stop }
     {
         let stop = clause_stop(clause);
         let byte = line.len().saturating_sub(stop.rest.len());
         AskedFinding::at(number, byte, byte, AskedRemark::InClause(stop.due)).hinted(clause_hint(
             line, clause, stop.rest,
         ))
+    }
+
+    fn of_depth(file: &NamedText<'a>, number: usize) -> AskedFinding<'a>
+        ensures { IsDepthStop file.now.text.now number result.stop }
+    {
+        let byte = deepest(file.line(number));
+        AskedFinding::at(number, byte, byte, AskedRemark::Depth)
     }
 
     fn of_place(file: &NamedText<'a>, number: usize) -> AskedFinding<'a>

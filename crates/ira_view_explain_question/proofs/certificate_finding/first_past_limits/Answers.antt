@@ -43,10 +43,12 @@ loop-preserved c =
             (let same : line ≡ codes "section" =
             (bytes_decides line word).0 (sym c.eq.ensures ∙ w.if-eq.true) ∙ c.as_slice.ensures in
             rw (w.sections-is, w.steps-is) (AreBegun.section number c.loop.sections c.loop.steps before.begun
+            (omega (arith, w.sections-is, c.if-sections-gt-MAX_SECTIONS.false))
             (subst (IsLine text number) same here)))
         | else-eq+then-starts_with w ↦
             (let begins = starts_is Decides-eqb line (codes "drop ") w.starts_with.result w.starts_with.ensures.value in
-            rw (w.sections-is, w.steps-is) (AreBegun.step number c.loop.sections c.loop.steps line before.begun here
+            rw (w.sections-is, w.steps-is) (AreBegun.step number c.loop.sections c.loop.steps line before.begun
+            (omega (arith, w.steps-is, c.if-steps-gt-MAX_STEPS.false)) here
             (_, begins.0 w.if-starts_with.true)))
         | else-eq+else-starts_with w ↦
             (let begins = starts_is Decides-eqb line (codes "drop ") w.starts_with.result w.starts_with.ensures.value in
@@ -67,8 +69,6 @@ returns-in_default c =
       c.loop.sections,
       c.loop.steps,
       before.begun,
-      before.few_sections,
-      before.few_steps,
       inr (inr (past_whole c.args.file.now.text.now c.loop.number c.loop.rest.now before.from c.in_default.ensures)),
     )
 
@@ -107,4 +107,4 @@ returns-then-sections-gt-MAX_SECTIONS c =
       | else-eq+else-starts_with w ↦
           absurd (omega (arith, many, w.sections-is, w.steps-is, before.few_sections, before.few_steps))
     ] in
-    (c.loop.sections, c.loop.steps, before.begun, before.few_sections, before.few_steps, past)
+    (c.loop.sections, c.loop.steps, before.begun, past)

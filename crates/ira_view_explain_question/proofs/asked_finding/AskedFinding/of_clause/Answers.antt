@@ -1,4 +1,10 @@
+use Rattle.std.proofs.Common.{arith}
 use Rattle.ira_view_explain_question.proofs.asked_finding.AskedFinding.of_clause.Goals as goal
 
 pub returns : goal.returns
-returns c = (c.saturating_sub-byte.result, c.clause_stop-stop.result.due, rw c.hinted.ensures c.at.ensures)
+returns c = (
+  c.saturating_sub-byte.result,
+  c.clause_stop-stop.result.due,
+  omega (arith, c.saturating_sub-byte.ensures),
+  rw c.hinted.ensures c.at.ensures,
+)
