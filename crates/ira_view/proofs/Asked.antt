@@ -12,7 +12,7 @@ use Rattle.ira_audit.specs.declared.answer.Answer.TheVariants.{Yes}
 use Rattle.ira_audit.specs.declared.findings.Findings.{Findings}
 use Rattle.ira_audit.specs.declared.findings.Findings.TheVariants.{Refused, Cases}
 use Rattle.ira_audit.specs.declared.judged.Judged.{Judged}
-use Rattle.ira_view_explain.specs.Counts.{counts}
+use Rattle.ira_view_page.specs.Counts.{counts}
 use Rattle.ira_view_explain_question.specs.Explanation.{AreFindingsExplained}
 use Rattle.ira_view_explain_question.specs.declared.asked_files.AskedFiles.{AskedFiles}
 use Rattle.ira_view_page.specs.declared.named_text.NamedText.{NamedText}

@@ -21,7 +21,8 @@ findings_status findings true s absent when_absent when_met =
 findings_status findings false s absent when_absent when_met = inl (absent.0 refl, when_met refl)
 
 -- the answer of a reason is the text of a refusal
-pub refusal_text : (A : Type 0) (is_json : Bool) (reason : Reason) (text : List ℕ) → IsAnswerText is_json (No reason) text
+pub refusal_text : (A : Type 0) (is_json : Bool) (reason : Reason) (text : List ℕ)
+    → IsAnswerText is_json (No reason) text
     → IsFindingsText {A = A} is_json (Refused reason) text
 refusal_text A true reason text is = (status.No, inl (tt, refl), one_line _ text is)
 refusal_text A false reason text is = is

@@ -12,15 +12,18 @@ use Rattle.ira_audit.specs.declared.answer.Answer.TheVariants.{No, Yes}
 use Rattle.ira_audit.specs.declared.findings.Findings.{Findings}
 use Rattle.ira_audit.specs.declared.findings.Findings.TheVariants.{Refused}
 use Rattle.ira_audit.specs.declared.judged.Judged.{Judged}
+use Rattle.ira_audit.specs.declared.judged.Judged.TheVariants.{Good}
 use Rattle.ira_audit.specs.declared.reason.Reason.{Reason}
+use Rattle.ira_audit.specs.declared.reason.Reason.TheVariants.{Question, QuestionSize}
 use Rattle.ira_view_page.specs.declared.explanation.Explanation.{Explanation}
 use Rattle.ira_view_page.specs.declared.named_text.NamedText.{NamedText}
-use Rattle.ira_view_explain.specs.Counts.{counts, ring_of}
+use Rattle.ira_view_page.specs.Counts.{counts}
+use Rattle.ira_view_explain.specs.Counts.{ring_of}
 use Rattle.ira_view_explain.specs.LogTold.{IsLogTold}
 use Rattle.ira_view_explain.specs.Refused.{IsTold}
 use Rattle.ira_view_explain_question.specs.declared.asked_files.AskedFiles.{AskedFiles}
 use Rattle.ira_view_explain_question.specs.Explanation.{AreFindingsExplained, IsNoCertificateExplained}
-use Rattle.ira_view_explain_question.specs.Explanation.{IsNotAskedExplained, IsUnsoundExplained}
+use Rattle.ira_view_explain_question.specs.Explanation.{IsNoQuestionExplained, IsSizeExplained, IsUnsoundExplained}
 use Rattle.ira_view.specs.Texts.{AreFiles, texts_of}
 
 -- of the text of one log alone, which has this answer: the evidence for it
@@ -34,6 +37,15 @@ pub record IsExplanation {A : Type 0} (files : List NamedText) (judged : Judged 
     : Type 0 where
   pub ring : explanation.ring ≡ ring_of judged
   pub told : IsTold files judged explanation.state_before explanation.evidence.items
+
+-- it is explained why a question isn't asked of the ring of these logs: by its own text, or else by theirs
+abbrev pub IsNotAskedExplained : {A : Type 0} → AskedFiles → Judged A → Reason → Explanation A → Type 0
+IsNotAskedExplained files (Good logs) (Question fault) explanation =
+    IsNoQuestionExplained files.question.now fault explanation
+IsNotAskedExplained files (Good logs) QuestionSize explanation =
+    IsSizeExplained files.question.now explanation
+IsNotAskedExplained files judged reason explanation =
+    IsTold files.logs.now judged explanation.state_before explanation.evidence.items
 
 -- the same of texts for which a question isn't asked, for this reason: by the question's file where the logs are good
 pub record IsRefusal {A : Type 0} (files : AskedFiles) (judged : Judged A) (reason : Reason)
@@ -62,7 +74,8 @@ abbrev pub IsPosed : AskedFiles → List ℕ → AskedQuestion → Certificate �
 IsPosed files certificate asked read =
     IsAsked files asked × IsCertText certificate read × (read.nodes ≡ length asked.logs)
 
--- of the answer for the sections of a certificate's file of this name: nothing where they are sound, else why they aren't
+-- of the answer for the sections of a certificate's file of this name: nothing where they are sound, else why they
+-- aren't
 abbrev pub IsSectionsExplanation : {A : Type 0} → AskedFiles → AskedQuestion → List ℕ → List Section → Answer
     → Explanation A → Type 0
 IsSectionsExplanation files asked file sections Yes explanation =
@@ -72,8 +85,8 @@ IsSectionsExplanation files asked file sections (No reason) explanation =
     IsSectionsRefusal asked.logs asked.question.cases sections reason
     × IsUnsoundExplained files asked file sections reason explanation
 
--- of an answer with a certificate: what comes of its sections, or why it is none for the ring of the question, or why the
--- question isn't asked of the texts
+-- of an answer with a certificate: what comes of its sections, or why it is none for the ring of the question, or why
+-- the question isn't asked of the texts
 pub data IsCheckExplanation {A : Type 0} (files : AskedFiles) (certificate : NamedText) (judged : Judged A)
     (answer : Answer) (explanation : Explanation A) : Type 0 where
   of_sections :

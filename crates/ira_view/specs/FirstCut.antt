@@ -27,8 +27,8 @@ IsFirstCut logs cases None None = NoCutMeetsAny logs cases
 abbrev pub told_case : List (List Conjunct) → ℕ → Told
 told_case cases number = of_case number (slice_index_or cases number [])
 
--- that cut, and that it is told as the first moment of its case; or that none is told of the case that is asked for, or of
--- any
+-- that cut, and that it is told as the first moment of its case; or that none is told of the case that is asked for, or
+-- of any
 abbrev pub IsFirstMoment : List Log → List (List Conjunct) → Option ℕ → Option (List ℕ) → Told → Type 0
 IsFirstMoment logs cases (Some number) (Some cut) told =
     IsCutOfCase logs cases number (Some cut) × (told ≡ told_case cases number)

@@ -36,8 +36,8 @@ IsRingHtml ring from to = IsHtmlOf (IsPictureOf ring from to) (IsRingTold ring)
 abbrev pub AreLogLines : List (List ℕ × Log) → List ℕ → Type 0
 AreLogLines files text = AreLinesOf (map (λ file. log_value file.0 file.1.place file.1.initiator) files) text
 
--- the lines of JSON that a page tells of refused logs in files: that of the answer with its reason and what it rests on, and
--- those on the logs
+-- the lines of JSON that a page tells of refused logs in files: that of the answer with its reason and what it rests
+-- on, and those on the logs
 abbrev pub IsRefusalTold : Type 0 → List NamedText → RefusedLogs → List ℕ → Type 0
 IsRefusalTold A files refused told =
     (explanation : Explanation A) × (line : List ℕ) × (others : List ℕ)

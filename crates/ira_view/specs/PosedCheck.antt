@@ -9,8 +9,8 @@ use Rattle.ira_view.specs.Texts.{texts_of}
 use Rattle.ira_view.specs.declared.posed_check.PosedCheck.{PosedCheck}
 use Rattle.ira_view.specs.declared.posed_check.PosedCheck.TheVariants.{Posed, Refused}
 
--- the question is asked of the ring of the logs, and this is the certificate for that ring; or this is the answer of the
--- texts, with why it is so
+-- the question is asked of the ring of the logs, and this is the certificate for that ring; or this is the answer of
+-- the texts, with why it is so
 abbrev pub IsPosedCheck : {A : Type 0} → AskedFiles → NamedText → Judged A → PosedCheck A → Type 0
 IsPosedCheck files certificate judged (Posed asked read) = IsPosed files certificate.text.now asked read
 IsPosedCheck files certificate judged (Refused view) =

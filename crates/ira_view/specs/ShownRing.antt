@@ -48,8 +48,8 @@ IsNoCut logs events (No r) = ⊥
 IsNoCut logs events (Cut f) = IsCutFault logs events f
 IsNoCut logs events OutOfMemory = ⊤
 
--- the ring of these logs at the first moment that meets a case of the question of a text: of the case of a number, or of
--- any
+-- the ring of these logs at the first moment that meets a case of the question of a text: of the case of a number, or
+-- of any
 abbrev pub IsOfQuestion : List Log → List ℕ → Option ℕ → ShownRing → Type 0
 IsOfQuestion logs text case ring =
     (ring.logs ≡ logs) × ((asked : QuestionCases) × IsQuestionText text asked × (asked.nodes ≡ length logs)
@@ -109,8 +109,8 @@ TellsEventsAt logs (Some cut) (unmet number) text =
 abbrev pub AreEventsOf : ShownRing → List ℕ → Type 0
 AreEventsOf ring text = TellsEventsAt ring.logs ring.cut ring.told text
 
--- the text is lines of JSON: that of a yes, with this status, with the places that are to lead, if some are named, and with
--- the moment of the ring; and then those of all events, where these are wanted, or else on the moment
+-- the text is lines of JSON: that of a yes, with this status, with the places that are to lead, if some are named, and
+-- with the moment of the ring; and then those of all events, where these are wanted, or else on the moment
 abbrev pub AreJsonLines : Bool → Option (List ℕ) → ShownRing → Status → List ℕ → Type 0
 AreJsonLines has_events named ring status text =
     IsRingText ring.logs named (status_number status) ring.told ring.cut (AreTold has_events ring.logs ring.cut) text

@@ -21,8 +21,8 @@ abbrev pub IsAnswerText : Bool → Answer → List ℕ → Type 0
 IsAnswerText true answer text = IsLineOf (answer_value (status_number (answer_status answer)) answer) text
 IsAnswerText false answer text = text ≡ report_line answer
 
--- the text of an answer that is explained: as JSON, where that is wanted, with its status and with what it rests on; or else
--- its line, and after it the page, which is printable
+-- the text of an answer that is explained: as JSON, where that is wanted, with its status and with what it rests on; or
+-- else its line, and after it the page, which is printable
 abbrev pub IsViewText : {A : Type 0} → Bool → Answer → Explanation A → List ℕ → Type 0
 IsViewText true answer explanation text =
     IsLineOf (explained_value (status_number (answer_status answer)) answer explanation) text
@@ -36,8 +36,8 @@ IsFindingsText true findings text =
     × AreLinesOf (findings_values (status_number status) findings) text
 IsFindingsText false findings text = text ≡ findings_text findings
 
--- the text of findings that are explained: as JSON, where that is wanted, with their status and with what they rest on; or
--- else their lines, and after them the page, which is printable
+-- the text of findings that are explained: as JSON, where that is wanted, with their status and with what they rest on;
+-- or else their lines, and after them the page, which is printable
 abbrev pub IsFindingsViewText : {A : Type 0} → Bool → Findings A → Explanation A → List ℕ → Type 0
 IsFindingsViewText true findings explanation text =
     (status : Status) × IsFindingsStatus findings status

@@ -66,8 +66,8 @@ fn present_case<A: Allocator + Clone>(
     }
 }
 
-/// The case of a number, if one is asked for, or else the first that any cut meets, and the least cut that meets it, if there
-/// is such a case and such a cut.
+/// The case of a number, if one is asked for, or else the first that any cut meets, and the least cut that meets it, if
+/// there is such a case and such a cut.
 fn first_present<A: Allocator + Clone>(
     asked: &AskedQuestion<'_, A>,
     case: Option<u64>,
@@ -90,7 +90,8 @@ pub(crate) fn first_moment<A: Allocator + Clone>(
     case: Option<u64>,
 ) -> Result<ChosenMoment<A>, OutOfMemory>
     ensures first { IfOk result (λ moment.
-        IsFirstMoment asked.entry.logs asked.entry.question.cases case (cut_of asked.entry.logs moment) (told_of moment)) }
+        IsFirstMoment asked.entry.logs asked.entry.question.cases case (cut_of asked.entry.logs moment)
+        (told_of moment)) }
     ensures moment { IfOk result (IsMomentOf asked.entry.logs) }
 {
     let Some((number, cut)) = first_present(&asked, case)? else {

@@ -60,8 +60,8 @@ fn told_lines<A: Allocator + Clone>(
     Ok(lines)
 }
 
-/// A page to move in a picture of what happened at these columns, which tells of the ring at its moment, and of all events.
-/// These are the names of the files of the logs, in their order.
+/// A page to move in a picture of what happened at these columns, which tells of the ring at its moment, and of all
+/// events. These are the names of the files of the logs, in their order.
 pub fn ring_html<A: Allocator + Clone>(
     alloc: A,
     ring: &ShownRing<A>,
@@ -97,8 +97,8 @@ fn add_logs<A: Allocator + Clone>(
     Ok(())
 }
 
-/// What a page to move in tells of refused logs of a ring, in these files, as lines of JSON: why they are refused, and a line
-/// for each of them. Nothing of others.
+/// What a page to move in tells of refused logs of a ring, in these files, as lines of JSON: why they are refused, and
+/// a line for each of them. Nothing of others.
 pub fn refused_lines<A: Allocator + Clone>(
     alloc: A,
     files: &[NamedText<'_>],

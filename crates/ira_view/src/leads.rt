@@ -28,8 +28,8 @@ fn places<A: Allocator>(
     Ok(Some(places))
 }
 
-/// A line for each node of which those that are named say otherwise than the logs whether it leads at their end. Nothing
-/// where one that is named is none of the ring.
+/// A line for each node of which those that are named say otherwise than the logs whether it leads at their end.
+/// Nothing where one that is named is none of the ring.
 pub fn differences<A: Allocator + Clone>(
     alloc: A,
     logs: &GoodLogs<A>,

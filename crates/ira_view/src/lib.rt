@@ -1,5 +1,5 @@
-//! From what was judged to what a person is told: the answer and a page after its line, or a ring at a moment, as a page, as
-//! lines of JSON or as a picture.
+//! From what was judged to what a person is told: the answer and a page after its line, or a ring at a moment, as a
+//! page, as lines of JSON or as a picture.
 #![tactic(auto)]
 
 mod cut_fault_line;
@@ -10,6 +10,7 @@ mod findings_view;
 mod html;
 mod leads;
 mod mended_lines;
+mod not_asked;
 mod posed_check;
 mod question;
 mod ring_fault;

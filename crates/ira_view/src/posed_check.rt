@@ -3,17 +3,18 @@ ghost use Rattle.ira_audit.specs.CheckAnswer.{AreSound, IsCheckAnswer};
 ghost use Rattle.ira_audit.specs.Judged.{IsJudged};
 ghost use Rattle.ira_audit.specs.Refusal.{IsSectionsRefusal, MatchRefusal};
 ghost use Rattle.ira_audit.specs.Report.{IsReportable};
-ghost use Rattle.ira_view_explain.specs.Counts.{counts};
+ghost use Rattle.ira_view_page.specs.Counts.{counts};
 ghost use Rattle.ira_view.specs.Explained.{IsPosed, IsSectionsExplanation};
 ghost use Rattle.ira_view.specs.PosedCheck.{IsPosedCheck};
 ghost use Rattle.ira_view.specs.Texts.{texts_of};
 
+use crate::not_asked::explain_not_asked;
 use crate::view::View;
 use ira_audit::{Answer, AskedQuestion, Judged, Refusal};
 use ira_cert_text::Certificate;
 use ira_event::OutOfMemory;
 use ira_view_explain_question::{
-    AskedFiles, explain_no_certificate, explain_not_asked, explain_sound, explain_unsound,
+    AskedFiles, explain_no_certificate, explain_sound, explain_unsound,
 };
 use ira_view_page::NamedText;
 use std::alloc::Allocator;

@@ -11,12 +11,13 @@ ghost use Rattle.ira_view.specs.Explained.{IsCheckExplanation, IsFindingsExplana
 ghost use Rattle.ira_view.specs.Texts.{texts_of};
 
 use crate::findings_view::FindingsView;
+use crate::not_asked::explain_not_asked;
 use crate::posed_check::{PosedCheck, explain_checked, pose_check};
 use crate::view::View;
 use ira_audit::{AskedQuestion, Findings, Judged, Refusal};
 use ira_event::OutOfMemory;
 use ira_links::OpenGate;
-use ira_view_explain_question::{AskedFiles, explain_found, explain_not_asked};
+use ira_view_explain_question::{AskedFiles, explain_found};
 use ira_view_page::NamedText;
 use std::alloc::Allocator;
 use std::sync::Wait;
@@ -62,7 +63,8 @@ fn explain_asked<A: Allocator + Clone>(
     asked: &AskedQuestion<'_, A>,
     case: Option<u64>,
 ) -> Result<FindingsView<A>, OutOfMemory>
-    requires { QuestionFitsLogs (texts_of files.logs.now) files.question.now.text.now asked.now.logs asked.now.question }
+    requires { QuestionFitsLogs (texts_of files.logs.now) files.question.now.text.now
+        asked.now.logs asked.now.question }
     ensures found { IfOk result (λ view.
         AreFindings (texts_of files.entry.logs.now) files.entry.question.now.text.now view.findings) }
     ensures reportable { IfOk result (λ view. AreReportable view.findings) }

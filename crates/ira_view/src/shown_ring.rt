@@ -87,8 +87,8 @@ impl<A: Allocator + Clone> ShownRing<A> {
         show_moment(alloc, self.logs.logs(), &self.moment)
     }
 
-    /// Writes, as the lines that follow its answer, an order of all events through the moment. Nothing is cut short: it is
-    /// written block by block.
+    /// Writes, as the lines that follow its answer, an order of all events through the moment. Nothing is cut short: it
+    /// is written block by block.
     pub fn write_events<W: Sink>(&self, alloc: A, sink: &mut W) -> Result<(), ShowFault>
         ensures showed { Showed result (W.state sink.old) (W.state sink.new) }
         ensures told { OnOk result ((text : List ℕ) × AreEventsOf self.now text × IsPrintable text
@@ -98,8 +98,8 @@ impl<A: Allocator + Clone> ShownRing<A> {
     }
 
     /// Writes, as lines of JSON, the answer and what is told of the moment: an order of all events through it, or else
-    /// its rounds, its nodes and what is on its way. These are the names of the files of the logs, in their order. It is
-    /// written block by block.
+    /// its rounds, its nodes and what is on its way. These are the names of the files of the logs, in their order. It
+    /// is written block by block.
     pub fn write_json<W: Sink>(
         &self,
         alloc: A,

@@ -1,5 +1,6 @@
 ghost use Rattle.std.specs.Prelude.{◌≡◌, IsFalse, IsTrue};
-ghost use Rattle.ira_view.specs.Status.{IsElectionStatus, IsFindingsStatus, IsLeadsStatus, answer_status, status_number};
+ghost use Rattle.ira_view.specs.Status.{IsElectionStatus, IsFindingsStatus, IsLeadsStatus, answer_status};
+ghost use Rattle.ira_view.specs.Status.{status_number};
 
 use ira_audit::{Answer, Findings};
 use ira_ring::{NodeEnd, has_leader};

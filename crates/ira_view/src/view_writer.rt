@@ -115,7 +115,8 @@ fn findings_page<A: Allocator>(
     }
 }
 
-/// Writes findings with why they are so, as JSON where that is wanted, or else as a page after their lines; all of it at once.
+/// Writes findings with why they are so, as JSON where that is wanted, or else as a page after their lines; all of it
+/// at once.
 pub fn write_findings_view_as<A: Allocator + Clone, W: Sink>(
     alloc: A,
     is_json: bool,
@@ -150,7 +151,8 @@ fn decided_lines<A: Allocator>(
     }
 }
 
-/// Writes what was found for the cases of a question, as JSON where that is wanted, or else as its lines; all of it at once.
+/// Writes what was found for the cases of a question, as JSON where that is wanted, or else as its lines; all of it at
+/// once.
 pub fn write_decided_as<A: Allocator + Clone, W: Sink>(
     alloc: A,
     is_json: bool,

@@ -15,8 +15,9 @@ use Rattle.ira_view_page.specs.declared.evidence.Evidence.TheVariants.{OtherFaul
 use Rattle.ira_view_page.specs.declared.named_text.NamedText.{NamedText}
 use Rattle.ira_view_page.specs.declared.record_at.RecordAt.{RecordAt}
 use Rattle.ira_view_explain.specs.declared.steps_finding.OtherStop.{OtherStop}
-use Rattle.ira_view_explain.specs.Refused.{AreOtherStops, AreParts, AreStepsTold, IsOtherTold, IsRecordOf, more, none}
-use Rattle.ira_view_explain.proofs.Parts.{parts_all, parts_more}
+use Rattle.ira_view_explain.specs.Refused.{AreOtherStops, AreStepsTold, IsOtherTold, IsRecordOf}
+use Rattle.ira_view_page.specs.Parts.{AreParts, more, none}
+use Rattle.ira_view_page.proofs.Parts.{parts_all, parts_more}
 
 -- the fault of a node's first event without a step is its log's first
 fault_of : (logs : List Log) (log : Log) (named : FaultyEvent) → slice_get logs named.at.place ≡ Some log

@@ -1,5 +1,6 @@
 -- Lines of a word and a number.
-use Rattle.std.proofs.Common.{◌≡◌, ◌∙◌, ℕ, List, [], ◌++◌, Option, Some, append-nil, ap, arith, false, nat_eq, subst, sym, true}
+use Rattle.std.proofs.Common.{◌≡◌, ◌∙◌, ℕ, List, [], ◌++◌, Option, Some, append-nil, ap, arith, false, nat_eq, subst}
+use Rattle.std.proofs.Common.{sym, true}
 use Rattle.std.proofs.lemmas.Bool.Decides.{nat_tests}
 use Rattle.ira_event.specs.Scan.{after_word, kept, kept_at}
 use Rattle.ira_event.proofs.RecordLines.{kept-again, kept-takes, word-again, word-takes}
@@ -18,12 +19,14 @@ number_left word line rest n numbered after =
     ap kept_at (same ∙ sym (append-nil numbered.0)) ∙ kept-again numbered.0 n [] numbered.2 tt
 
 -- nothing stands after it
-pub nothing_left : (o : Option (ℕ × List ℕ)) (m n : ℕ) (rest : List ℕ) → o ≡ Some (m, rest) → o ≡ Some (n, []) → rest ≡ []
+pub nothing_left : (o : Option (ℕ × List ℕ)) (m n : ℕ) (rest : List ℕ) → o ≡ Some (m, rest) → o ≡ Some (n, [])
+    → rest ≡ []
 nothing_left o m n rest a b =
     let same : (m, rest) ≡ (n, []) = cc in ap (λ (p : ℕ × List ℕ). p.1) same
 
 -- it has the word
-pub word_there : (word line : List ℕ) (n : ℕ) (numbered : IsNumbered word line n) → after_word word line ≡ Some numbered.0
+pub word_there : (word line : List ℕ) (n : ℕ) (numbered : IsNumbered word line n)
+    → after_word word line ≡ Some numbered.0
 word_there word line n numbered = ap (after_word word) numbered.1 ∙ word-again word numbered.0
 
 -- the number that was kept of such a line
@@ -47,4 +50,5 @@ pub first_version : (version most : ℕ) → version ≡ 1 → most ≡ MAX_VERS
 first_version version most is same = (let test : nat_eq version 1 ≡ true = grind (arith, nat_tests, is) in rw test same)
 
 pub other_version : (version most : ℕ) → ¬ (version ≡ 1) → most ≡ MAX_NODES → most ≡ most_nodes version
-other_version version most not same = (let test : nat_eq version 1 ≡ false = grind (arith, nat_tests, not) in rw test same)
+other_version version most not same =
+    (let test : nat_eq version 1 ≡ false = grind (arith, nat_tests, not) in rw test same)

@@ -1,5 +1,6 @@
 -- Records of a text that is no log's, read one by one.
-use Rattle.std.proofs.Common.{◌≡◌, ◌≢◌, ◌∙◌, ◌≤◌, ℕ, List, Option, None, Some, Result, Ok, Err, ap, inl, inr, length, refl}
+use Rattle.std.proofs.Common.{◌≡◌, ◌≢◌, ◌∙◌, ◌≤◌, ℕ, List, Option, None, Some, Result, Ok, Err, ap, inl, inr, length}
+use Rattle.std.proofs.Common.{refl}
 use Rattle.std.proofs.Common.{subst, sym}
 use Rattle.ira_event.specs.declared.event.Event.{Event}
 use Rattle.ira_event.specs.declared.log_fault.LogFault.{LogFault}
@@ -14,7 +15,8 @@ use Rattle.ira_event.proofs.LogReading.{after_all, after_fault}
 use Rattle.ira_view_explain.specs.TextTold.{IsFaultAfter}
 
 -- what can't be opened has no other fault
-pub opened_not : (text : List ℕ) (f g : LogFault) → OpeningFault text g → LogTextFault text f → ¬ (OpeningFault text f) → ⊥
+pub opened_not : (text : List ℕ) (f g : LogFault) → OpeningFault text g → LogTextFault text f
+    → ¬ (OpeningFault text f) → ⊥
 opened_not text f g opening fault not =
     not (subst (OpeningFault text) (one_fault text g f (opening_fault text g opening) fault) opening)
 
@@ -23,7 +25,8 @@ pub fault_after : (text : List ℕ) (head : LogHead) (body : List ℕ) (events :
     (r : Result (Option Event) LogFault) (f : LogFault) → length text ≤ MAX_TEXT → BeginsWithHead text head body
     → HasRead body events old → old.version ≡ head.version → ReadsOn old new r → ((e : Event) → r ≢ Ok (Some e))
     → LogTextFault text f → IsFaultAfter text new.count f
-fault_after text head body events old new (Ok (Some e)) f short begins read version reads other fault = absurd (other e refl)
+fault_after text head body events old new (Ok (Some e)) f short begins read version reads other fault =
+    absurd (other e refl)
 fault_after text head body events old new (Ok None) f short begins read version reads other fault =
     let all = subst (λ (v : ℕ). AreAllRecords v body events) version (after_all body events old read reads.0) in
     absurd (log_or_fault text _ f (log_read text head body events begins all) fault)

@@ -1,14 +1,9 @@
 -- How many nodes and events an explanation says that there are.
-use Rattle.std.specs.Prelude.{List, Option, None, Some, length}
-use Rattle.std.specs.List.{sum_by}
-use Rattle.ira_event.specs.Log.{Log}
+use Rattle.std.specs.Prelude.{Option, None, Some}
 use Rattle.ira_audit.specs.declared.judged.Judged.{Judged}
 use Rattle.ira_audit.specs.declared.judged.Judged.TheVariants.{Good, Refused, NoRing}
+use Rattle.ira_view_page.specs.Counts.{counts}
 use Rattle.ira_view_page.specs.declared.ring_counts.RingCounts.{RingCounts}
-
--- those of these logs
-abbrev pub counts : List Log → RingCounts
-counts logs = record { nodes = length logs; events = sum_by (λ log. length log.events) logs }
 
 -- those of what was judged, where that is the logs of a ring
 abbrev pub ring_of : {A : Type 0} → Judged A → Option RingCounts

@@ -1,9 +1,10 @@
 -- What is told of logs that aren't those of one ring.
-use Rattle.std.specs.Prelude.{◌≡◌, ℕ, List, Some, length, map, slice_get, string_bytes}
+use Rattle.std.specs.Prelude.{◌≡◌, ℕ, List, map, string_bytes}
 use Rattle.ira_event.specs.declared.log_head.LogHead.{LogHead}
 use Rattle.ira_event.specs.Log.{Log}
 use Rattle.ira_event.specs.LogTextFault.{BeginsWithHead}
 use Rattle.ira_audit.specs.LogTexts.{AreLogTexts}
+use Rattle.ira_view_page.specs.Parts.{AreOneForEach}
 use Rattle.ira_view_page.specs.declared.evidence.Evidence.{Evidence}
 use Rattle.ira_view_page.specs.declared.evidence.Evidence.TheVariants.{Head}
 use Rattle.ira_view_page.specs.declared.head_row.HeadRow.{HeadRow}
@@ -12,11 +13,6 @@ use Rattle.ira_view_page.specs.declared.named_text.NamedText.{NamedText}
 -- each file has a log's text
 abbrev pub AreLogFiles : List NamedText → Type 0
 AreLogFiles files = (logs : List Log) × AreLogTexts (map (λ file. file.text.now) files) logs
-
--- there is one for each, in their order, and the fact holds of each pair with its number, counted from 0
-pub record AreOneForEach {X Y : Type 0} (P : ℕ → X → Y → Type 0) (xs : List X) (ys : List Y) : Type 0 where
-  pub count : length ys ≡ length xs
-  pub each : (i : ℕ) (x : X) (y : Y) → slice_get xs i ≡ Some x → slice_get ys i ≡ Some y → P i x y
 
 -- the heads with which the texts of these files begin
 abbrev pub AreHeads : List NamedText → List LogHead → Type 0

@@ -20,6 +20,7 @@ use Rattle.ira_view_evidence.specs.CircleEvidence.{IsCircleEvidence}
 use Rattle.ira_view_evidence.specs.LinkEvidence.{IsLinkEvidence}
 use Rattle.ira_view_evidence.specs.NodeEvidence.{IsNodeEvidence}
 use Rattle.ira_view_evidence.specs.Origin.{AreOrigins, HappenedBefore}
+use Rattle.ira_view_page.specs.Parts.{AreParts}
 use Rattle.ira_view_page.specs.declared.evidence.Evidence.{Evidence}
 use Rattle.ira_view_page.specs.declared.evidence.Evidence.TheVariants.{Faulty, OtherFaulty, Received, Sent}
 use Rattle.ira_view_page.specs.declared.named_text.NamedText.{NamedText}
@@ -31,13 +32,6 @@ use Rattle.ira_view_explain.specs.declared.refused_finding.RefusedFinding.TheVar
 use Rattle.ira_view_explain.specs.declared.steps_finding.OtherStop.{OtherStop}
 use Rattle.ira_view_explain.specs.declared.steps_finding.StepsFinding.{StepsFinding}
 use Rattle.ira_view_explain.specs.declared.stopped_log.StoppedLog.{StoppedLog}
-
--- of each of these there is a part, one after the other
-pub data AreParts {X Y : Type 0} (IsPart : X → List Y → Type 0) : List X → List Y → Type 0 where
-  none : AreParts IsPart [] []
-  more :
-      (xs : List X) (x : X) (ys part : List Y) → AreParts IsPart xs ys → IsPart x part
-      → AreParts IsPart (xs ++ x ∷ []) (ys ++ part)
 
 -- it is this event, with the name of the file of its node's log; a dash where there is none
 pub record IsRecordOf {A : Type 0} (files : List NamedText) (at : EventAt) (event : Event) (r : RecordAt A)

@@ -1,6 +1,6 @@
 -- What is told of a text that is no log's.
-use Rattle.std.specs.Prelude.{◌≡◌, ◌≢◌, ◌⊎◌, ℕ, ◌+◌, ◌-◌, ◌<◌, ◌≤◌, List, [], ◌∷◌, ◌++◌, Option, None, Some, String}
-use Rattle.std.specs.Prelude.{codes, length, string_bytes}
+use Rattle.std.specs.Prelude.{◌≡◌, ◌≢◌, ◌⊎◌, ℕ, ◌+◌, ◌-◌, ◌<◌, ◌≤◌, List, [], ◌∷◌, Option, None, Some}
+use Rattle.std.specs.Prelude.{length}
 use Rattle.ira_event.specs.Limits.{MAX_RECORDS}
 use Rattle.ira_event.specs.LogTextFault.{BeginsWithHead, BeginsWithRecords, RestFault}
 use Rattle.ira_event.specs.declared.event.Event.{Event}
@@ -8,8 +8,7 @@ use Rattle.ira_event.specs.declared.log_fault.LogFault.{LogFault}
 use Rattle.ira_event.specs.declared.log_fault.LogFault.TheVariants as fault
 use Rattle.ira_event.specs.declared.log_head.LogHead.{LogHead}
 use Rattle.ira_view_page.specs.Lines.{IsLine, whole_lines}
-use Rattle.ira_view_page.specs.Numbers.{number_of_text}
-use Rattle.ira_view_page.specs.Printable.{shown}
+use Rattle.ira_view_page.specs.ToldText.{IsWholeTold}
 use Rattle.ira_view_page.specs.declared.evidence.Evidence.{Evidence}
 use Rattle.ira_view_page.specs.declared.evidence.Evidence.TheVariants as evidence
 use Rattle.ira_view_page.specs.declared.named_text.NamedText.{NamedText}
@@ -19,12 +18,12 @@ use Rattle.ira_view_explain.specs.declared.head_line.HeadLine.{HeadLine}
 use Rattle.ira_view_explain.specs.declared.line_remark.LineRemark.{LineRemark}
 use Rattle.ira_view_explain.specs.declared.line_remark.LineRemark.TheVariants.{AfterEnd, End, Head, Last}
 use Rattle.ira_view_explain.specs.declared.line_remark.LineRemark.TheVariants.{LineFeed, TooMany}
-use Rattle.ira_view_explain.specs.declared.pointed_line.PointedLine.{PointedLine}
+use Rattle.ira_view_page.specs.declared.pointed_line.PointedLine.{PointedLine}
 use Rattle.ira_view_explain.specs.declared.text_finding.TextStop.{TextStop}
 use Rattle.ira_view_explain.specs.declared.text_finding.TextStop.TheVariants.{Line, ShortHead, TooLong}
 use Rattle.ira_view_explain.specs.HeadLine.{IsFirstStop, head_number}
 use Rattle.ira_view_explain.specs.LineRemark.{kind_of}
-use Rattle.ira_view_explain.specs.PointedLine.{IsPointed}
+use Rattle.ira_view_page.specs.PointedLine.{IsPointed}
 
 -- the text shows it in this line, with carets below its bytes from one up to another, and this beside them
 abbrev pub IsAt : ℕ → ℕ → ℕ → LineRemark → TextStop → Type 0
@@ -105,10 +104,6 @@ IsTextStop text fault.Count stop = IsCountStop text stop
 IsTextStop text fault.Trailing stop = IsTrailingStop text stop
 IsTextStop text fault.OutOfMemory stop = ⊥
 
--- it is the text of the file as a whole
-abbrev pub IsWholeTold : {A : Type 0} → NamedText → Evidence A → Type 0
-IsWholeTold {A} file told = (name : String A) × (told ≡ evidence.Text name) × (string_bytes name ≡ file.name.now)
-
 -- it is this line of the file, as pages quote it, with words beside its carets
 abbrev pub IsLineTold : {A : Type 0} → NamedText → PointedLine → Evidence A → Type 0
 IsLineTold {A} file pointed told =
@@ -128,9 +123,3 @@ pub record IsTextTold {A : Type 0} (file : NamedText) (fault : LogFault) (told :
   pub one : Evidence A
   pub told_is : told ≡ one ∷ []
   pub one_is : IsStopTold file stop one
-
--- that a text in a file of this name has so many whole lines, and its head as many as this word says
-abbrev pub short_head_text : List ℕ → ℕ → List ℕ → List ℕ
-short_head_text file whole due =
-    codes "  " ++ shown file ++ codes ": " ++ number_of_text whole (codes "whole line") ++ codes "; the head has "
-    ++ due ++ codes "." ++ codes "\n"

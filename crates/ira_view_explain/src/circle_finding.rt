@@ -1,5 +1,6 @@
 ghost use Rattle.std.specs.Prelude.{IfOk};
-ghost use Rattle.ira_view_explain.specs.Refused.{AreParts, AreStuckTold};
+ghost use Rattle.ira_view_page.specs.Parts.{AreParts};
+ghost use Rattle.ira_view_explain.specs.Refused.{AreStuckTold};
 
 use crate::numbered::numbered_page;
 use crate::ring_files::RingFiles;

@@ -6,14 +6,15 @@ ghost use Rattle.ira_audit.specs.Refusal.{IsRingReason};
 ghost use Rattle.ira_audit.specs.RefusedLogs.{AreRefused};
 ghost use Rattle.ira_audit.specs.Report.{IsReportable};
 ghost use Rattle.ira_replay.specs.LocalRun.{IsLocalRun};
-ghost use Rattle.ira_view_explain.specs.Counts.{counts, ring_of};
+ghost use Rattle.ira_view_page.specs.Counts.{counts};
+ghost use Rattle.ira_view_explain.specs.Counts.{ring_of};
 ghost use Rattle.ira_view_explain.specs.HeadsTold.{AreHeadsTold, AreLogFiles};
 ghost use Rattle.ira_view_explain.specs.LogTold.{IsLogTold, IsStoppedTold};
 ghost use Rattle.ira_view_explain.specs.Refused.{IsNoRingTold, IsRefusedTold, IsTold};
 ghost use Rattle.ira_view_explain.specs.TextTold.{IsTextTold};
 ghost use Rattle.ira_view_page.specs.Page.{Added, AddedSome};
 
-use crate::good_block::{print_end_alone, print_run};
+use crate::end_alone::print_end_alone;
 use crate::heads_finding::HeadsFinding;
 use crate::refused_finding::RefusedFinding;
 use crate::ring_files::RingFiles;
@@ -24,45 +25,8 @@ use ira_event::{HeadFault, LogFault, Logs, NodeLog, OutOfMemory, read_log};
 use ira_node::NodeState;
 use ira_order::EventAt;
 use ira_replay::{ReplayFault, replay};
-use ira_view_page::{Evidence, Explanation, NamedText, Page, RecordAt, RingCounts};
+use ira_view_page::{Evidence, Explanation, NamedText, Page, RecordAt, RingCounts, print_run};
 use std::alloc::Allocator;
-
-/// A page with the empty line that comes after an answer.
-pub fn page_after_answer<A: Allocator>(alloc: A) -> Page<A>
-    ensures { Added (Some []) (codes "\n") result }
-{
-    let mut page = Page::new(alloc);
-    page.blank();
-    page
-}
-
-/// What a page explains, with what it rests on, and hints that come last on the page.
-pub fn explanation<A: Allocator + Clone>(
-    alloc: &A,
-    ring: Option<RingCounts>,
-    page: Page<A>,
-    evidence: Vec<Evidence<A>, A>,
-    hints: Vec<String<A>, A>,
-) -> Result<Explanation<A>, OutOfMemory>
-    ensures ring { IfOk result (λ explanation. explanation.ring ≡ ring) }
-    ensures state { IfOk result (λ explanation. explanation.state_before ≡ None) }
-    ensures evidence { IfOk result (λ explanation. explanation.evidence.items ≡ evidence.items) }
-    ensures hints { IfOk result (λ explanation. explanation.hints.items ≡ hints.items) }
-    ensures page { IfOk result (λ explanation. AddedSome page (Some explanation.page)) }
-{
-    let mut page = page;
-    for hint in &hints {
-        page.hint(hint);
-    }
-    Ok(Explanation {
-        page: page.finish()?,
-        ring,
-        state_before: None,
-        evidence,
-        hints,
-        cases: Vec::new(alloc.clone()?),
-    })
-}
 
 /// How the run of logs stands against which there is no reason.
 fn explain_good<A: Allocator + Clone>(
@@ -73,10 +37,10 @@ fn explain_good<A: Allocator + Clone>(
     ensures state { IfOk result (λ explanation. explanation.state_before ≡ None) }
     ensures evidence { IfOk result (λ explanation. explanation.evidence.items ≡ []) }
 {
-    let mut page = page_after_answer(alloc.clone()?);
+    let mut page = Page::after_answer(alloc.clone()?);
     print_run(alloc, logs, &mut page);
     let (evidence, hints) = (Vec::new(alloc.clone()?), Vec::new(alloc.clone()?));
-    explanation(alloc, Some(RingCounts::of(logs)), page, evidence, hints)
+    Explanation::of_page(alloc, Some(RingCounts::of(logs)), page, evidence, hints)
 }
 
 /// What stands against the logs of a ring.
@@ -96,9 +60,9 @@ fn explain_refused<A: Allocator + Clone>(
         logs: refused.logs(),
     };
     let finding = RefusedFinding::find(&ring, refused)?;
-    let mut page = page_after_answer(alloc.clone()?);
+    let mut page = Page::after_answer(alloc.clone()?);
     finding.print(&ring, &mut page);
-    let mut explanation = explanation(
+    let mut explanation = Explanation::of_page(
         alloc,
         Some(RingCounts::of(refused.logs())),
         page,
@@ -121,11 +85,11 @@ fn explain_text<A: Allocator + Clone>(
     ensures told { IfOk result (λ explanation. IsTextTold file.now fault explanation.evidence.items) }
 {
     let finding = TextFinding::find(file, fault);
-    let mut page = page_after_answer(alloc.clone()?);
+    let mut page = Page::after_answer(alloc.clone()?);
     finding.print(file, &mut page);
     let mut evidence = Vec::new(alloc.clone()?);
     evidence.push(finding.evidence(alloc, file)?)?;
-    explanation(alloc, None, page, evidence, finding.hints(alloc)?)
+    Explanation::of_page(alloc, None, page, evidence, finding.hints(alloc)?)
 }
 
 /// Why logs aren't those of one ring.
@@ -140,9 +104,9 @@ fn explain_heads<A: Allocator + Clone>(
     ensures told { IfOk result (λ explanation. AreHeadsTold files.now explanation.evidence.items) }
 {
     let finding = HeadsFinding::find(alloc, files, fault)?;
-    let mut page = page_after_answer(alloc.clone()?);
+    let mut page = Page::after_answer(alloc.clone()?);
     finding.print(files, &mut page);
-    explanation(
+    Explanation::of_page(
         alloc,
         None,
         page,
@@ -172,8 +136,8 @@ fn explain_no_ring<A: Allocator + Clone>(
     }
 }
 
-/// Why the logs of a ring, or texts that should be them, are judged as they are: an empty line, and what stands in which
-/// lines of which files, what is due there, the rule, and usual causes that the files point to.
+/// Why the logs of a ring, or texts that should be them, are judged as they are: an empty line, and what stands in
+/// which lines of which files, what is due there, the rule, and usual causes that the files point to.
 pub fn explain_logs<A: Allocator + Clone>(
     alloc: A,
     files: &[NamedText<'_>],
@@ -205,7 +169,7 @@ fn explain_stopped<A: Allocator + Clone>(
     let Some(found) = StoppedLog::find(alloc, file, log)? else {
         unreachable!()
     };
-    let mut page = page_after_answer(alloc.clone()?);
+    let mut page = Page::after_answer(alloc.clone()?);
     found.print(&mut page);
     if found.hint.is_some() {
         page.blank();
@@ -217,7 +181,7 @@ fn explain_stopped<A: Allocator + Clone>(
     let event = RecordAt::new(alloc.clone()?, file, at, found.stopped.event)?;
     let mut evidence = Vec::new(alloc.clone()?);
     evidence.push(Evidence::Faulty(event))?;
-    let mut explanation = explanation(alloc, None, page, evidence, found.hints()?)?;
+    let mut explanation = Explanation::of_page(alloc, None, page, evidence, found.hints()?)?;
     explanation.state_before = Some(found.stopped.state);
     Ok(explanation)
 }
@@ -232,10 +196,10 @@ fn explain_end<A: Allocator + Clone>(
     ensures state { IfOk result (λ explanation. explanation.state_before ≡ None) }
     ensures evidence { IfOk result (λ explanation. explanation.evidence.items ≡ []) }
 {
-    let mut page = page_after_answer(alloc.clone()?);
+    let mut page = Page::after_answer(alloc.clone()?);
     print_end_alone(alloc, log, end, &mut page);
     let (evidence, hints) = (Vec::new(alloc.clone()?), Vec::new(alloc.clone()?));
-    explanation(alloc, None, page, evidence, hints)
+    Explanation::of_page(alloc, None, page, evidence, hints)
 }
 
 /// Judges the text of one log alone, and says why the answer is as it is.

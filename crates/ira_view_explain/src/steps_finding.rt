@@ -1,7 +1,8 @@
 ghost use Rattle.std.specs.Prelude.{IfOk};
 ghost use Rattle.ira_order.specs.Circle.{HasOrder};
 ghost use Rattle.ira_order.specs.FaultyEvent.{AreFirstFaultyEvents, IsFirstFaultyEvent};
-ghost use Rattle.ira_view_explain.specs.Refused.{AreOtherStops, AreParts, AreSteps, AreStepsTold, IsOtherStop};
+ghost use Rattle.ira_view_explain.specs.Refused.{AreOtherStops, AreSteps, AreStepsTold, IsOtherStop};
+ghost use Rattle.ira_view_page.specs.Parts.{AreParts};
 
 use crate::ring_files::RingFiles;
 use crate::stopped_log::StoppedLog;

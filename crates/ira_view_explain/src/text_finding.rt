@@ -8,16 +8,17 @@ ghost use Rattle.ira_view_page.specs.Printable.{IsPrintable};
 
 use crate::head_line::{HeadLine, number_of};
 use crate::line_remark::LineRemark;
+use crate::line_slip::slip_of_line;
 use crate::line_stop::LineStop;
-use crate::pointed_line::PointedLine;
-use crate::slip::Slip;
 use crate::text_hint::TextHint;
-use crate::told_text::{print_short_head, print_too_long, whole_text};
 use ira_event::{
     LogFault, MAX_NODES, MAX_RECORDS, MAX_VERSION_1_NODES, OutOfMemory, open_log, scan_number,
     skip_word,
 };
-use ira_view_page::{Evidence, NamedText, Page, Remark};
+use ira_view_page::{
+    Evidence, NamedText, Page, PointedLine, Remark, Slip, print_short_head, print_too_long,
+    whole_text,
+};
 use std::alloc::Allocator;
 
 /// What a text shows that is no log's.
@@ -211,7 +212,7 @@ impl TextFinding {
         let version = version_of(file);
         match LineStop::find(line, version) {
             LineStop::Due { byte, due } => {
-                let hint = Slip::of_line(line, byte, due, version).map(TextHint::Slip);
+                let hint = slip_of_line(line, byte, due, version).map(TextHint::Slip);
                 TextFinding::at(number, byte, byte, LineRemark::Line { due, version }, hint)
             }
             LineStop::Range {

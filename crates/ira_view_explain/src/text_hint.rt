@@ -1,6 +1,5 @@
 use crate::field::Field;
-use crate::slip::Slip;
-use ira_view_page::Page;
+use ira_view_page::{Page, Slip};
 use std::alloc::Allocator;
 
 /// A usual cause why a text is no log's.

@@ -41,8 +41,8 @@ from_line_on : (text rest more : List ℕ) (start n m : ℕ) → 1 ≤ start →
 from_line_on text rest more start n m some e from first =
     subst (λ k. IsFromLine text k rest) (omega (arith, e)) from
 from_line_on text rest more start n m some e from (next_line number line r before whole) =
-    let last = from_line_on text rest (line ++ codes "\n" ++ more) start number (m - 1) some (omega (arith, e, some)) from
-    before in
+    let last = from_line_on text rest (line ++ codes "\n" ++ more) start number (m - 1) some (omega (arith, e, some))
+    from before in
     subst (λ k. IsFromLine text k more) (omega (arith, e, some)) (next_line (m - 1) line more last whole)
 from_line_on text rest more start n m some e from (past number line before whole) =
     let last = from_line_on text rest line start number (m - 1) some (omega (arith, e, some)) from before in

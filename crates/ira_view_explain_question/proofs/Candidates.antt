@@ -1,5 +1,6 @@
 -- Candidates that are left of a node, and the states there.
-use Rattle.std.proofs.Common.{◌≡◌, ◌∙◌, ◌<◌, ℕ, ◌+◌, List, Contains, ap, arith, drop, get_or, length, length-drop, sym, take}
+use Rattle.std.proofs.Common.{◌≡◌, ◌∙◌, ◌<◌, ℕ, ◌+◌, List, Contains, ap, arith, drop, get_or, length, length-drop, sym}
+use Rattle.std.proofs.Common.{take}
 use Rattle.std.proofs.Common.{◌-◌, [], ◌≤◌, Some, false, inl, inr, min, nat_le, refl, true}
 use Rattle.std.specs.Prelude.{if◌then◌else◌, option_map, slice_get}
 use Rattle.std.proofs.lemmas.Bool.{cases_eq}
@@ -38,7 +39,8 @@ left_there positions k m i here =
     (k + i, within, get_or_default positions (k + i) x 0 within ∙ sym same)
 
 -- these are the candidates of the node that a clause asks
-pub are_candidates : (logs : List Log) (case : List Conjunct) (n node : ℕ) (f : Formula) (log : Log) (positions : List ℕ)
+pub are_candidates : (logs : List Log) (case : List Conjunct) (n node : ℕ) (f : Formula) (log : Log)
+    (positions : List ℕ)
     → option_map (λ c. c.place) (slice_get case n) ≡ Some node → option_map (λ c. c.formula) (slice_get case n) ≡ Some f
     → slice_get logs node ≡ Some log → AreCandidates log f positions → CandidatesOf logs case node positions
 are_candidates logs case n node f log positions place formula at are = record {

@@ -1,5 +1,5 @@
 -- The cases that are explained, one after the other.
-use Rattle.std.proofs.Common.{◌≡◌, ◌∙◌, ◌<◌, ◌+◌, ◌++◌, ◌∷◌, ℕ, List, [], All, ap, get_or, length, subst, sym, take}
+use Rattle.std.proofs.Common.{◌≡◌, ◌<◌, ◌+◌, ◌++◌, ◌∷◌, ℕ, List, [], All, get_or, length, subst, sym, take}
 use Rattle.std.proofs.Common.{append_assoc, Err, IfOk, Ok, Option, Result, Some, refl}
 use Rattle.std.specs.List.{AllZip}
 use Rattle.ira_view_page.proofs.Adding.{◌&◌, holds}
@@ -7,7 +7,6 @@ use Rattle.ira_view_page.specs.Page.{Added, AddedSome}
 use Rattle.std.proofs.lemmas.List.{take_more}
 use Rattle.std.proofs.lemmas.List.Elements.{All-take}
 use Rattle.ira_audit.proofs.Zipped.{zipped_more}
-use Rattle.ira_view_explain.specs.Refused.{AreParts, more}
 
 -- what follows from facts of what was made
 pub all_ok : {X E : Type 0} (P Q R S : X → Type 0) (r : Result X E) → ((x : X) → P x → Q x → R x → S x) → IfOk r P
@@ -37,21 +36,6 @@ pub zipped_next : {Y : Type 0} (R : ℕ → Y → Type 0) (xs : List ℕ) (i : �
 zipped_next {Y} R xs i y ys here so_far next =
     subst (λ (zs : List ℕ). AllZip R zs (ys ++ y ∷ [])) (sym (take_more xs i 0 here))
     (zipped_more R (take i xs) ys (get_or xs i 0) y so_far next)
-
--- an element more, and its part
-pub part_more : {X Y : Type 0} (IsPart : X → List Y → Type 0) (xs : List X) (i : ℕ) (x : X) (ys part : List Y)
-    → i < length xs → x ≡ get_or xs i x → AreParts IsPart (take i xs) ys → IsPart x part
-    → AreParts IsPart (take (i + 1) xs) (ys ++ part)
-part_more {X} {Y} IsPart xs i x ys part here is so_far next =
-    subst (λ (zs : List X). AreParts IsPart zs (ys ++ part))
-    (ap (λ (y : X). take i xs ++ y ∷ []) is ∙ sym (take_more xs i x here)) (more (take i xs) x ys part so_far next)
-
--- a number more, and its part
-pub part_next : {Y : Type 0} (IsPart : ℕ → List Y → Type 0) (xs : List ℕ) (i : ℕ) (ys part : List Y) → i < length xs
-    → AreParts IsPart (take i xs) ys → IsPart (get_or xs i 0) part → AreParts IsPart (take (i + 1) xs) (ys ++ part)
-part_next {Y} IsPart xs i ys part here so_far next =
-    subst (λ (zs : List ℕ). AreParts IsPart zs (ys ++ part)) (sym (take_more xs i 0 here))
-    (more (take i xs) (get_or xs i 0) ys part so_far next)
 
 pub regrouped : (a b c : List ℕ) → (a ++ b) ++ c ≡ a ++ (b ++ c)
 regrouped a b c = simp append_assoc

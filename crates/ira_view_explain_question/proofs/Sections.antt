@@ -1,5 +1,6 @@
 -- Sections of a certificate that aren't sound.
-use Rattle.std.proofs.Common.{◌≡◌, ◌∙◌, ◌<◌, ◌≤◌, ℕ, zero, suc, List, [], ◌∷◌, Contains, MatchOption, None, Option, Some}
+use Rattle.std.proofs.Common.{◌≡◌, ◌∙◌, ◌<◌, ◌≤◌, ℕ, zero, suc, List, [], ◌∷◌, Contains, MatchOption, None, Option}
+use Rattle.std.proofs.Common.{Some}
 use Rattle.std.proofs.Common.{ap, arith, inl, inr, length, refl, slice_get, subst, sym, take}
 use Rattle.std.proofs.lemmas.Option.{get_or_from_slice_get, slice_get_within}
 use Rattle.ira_cert_text.specs.declared.cert_step.CertStep.{CertStep}
@@ -44,13 +45,15 @@ no_fronts = []
 
 told_of : {A : Type 0} (node : ℕ) (left : Option (CandidatesLeft A)) (r : Option Front) (front : Front)
     → MatchOption left (r ≡ None) (λ l. r ≡ Some (front_of node l)) → r ≡ Some front
-    → MatchOption left (fronts {A = A} front ≡ no_fronts {A = A}) (λ l. fronts {A = A} front ≡ fronts {A = A} (front_of node l))
+    → MatchOption left (fronts {A = A} front ≡ no_fronts {A = A})
+    (λ l. fronts {A = A} front ≡ fronts {A = A} (front_of node l))
 told_of node None r front is at = absurd cc
 told_of {A} node (Some l) r front is at = (let same : front ≡ front_of node l = cc in ap (fronts {A = A}) same)
 
 not_told : {A : Type 0} (node : ℕ) (left : Option (CandidatesLeft A)) (r : Option Front)
     → MatchOption left (r ≡ None) (λ l. r ≡ Some (front_of node l)) → r ≡ None
-    → MatchOption left (no_fronts {A = A} ≡ no_fronts {A = A}) (λ l. no_fronts {A = A} ≡ fronts {A = A} (front_of node l))
+    → MatchOption left (no_fronts {A = A} ≡ no_fronts {A = A})
+    (λ l. no_fronts {A = A} ≡ fronts {A = A} (front_of node l))
 not_told node None r is at = refl
 not_told node (Some l) r is at = absurd cc
 
@@ -111,7 +114,8 @@ pub both_there : (logs : List Log) (case : List Conjunct) (section : Section) (f
     (why : Unsound) (before : ℕ) → IsStop section f (Step step why) before → IsSectionFault logs case section f
     → why ≡ NotBefore → AreStates logs step
 both_there logs case section (fault.NotSpent node) step why before stop is not = absurd stop
-both_there logs case section (fault.Step number w) step why before (n, at, same) (not_spent sound spent e) not = absurd cc
+both_there logs case section (fault.Step number w) step why before (n, at, same) (not_spent sound spent e) not =
+    absurd cc
 both_there logs case section (fault.Step number w) step why before (n, at, same) (unsound k v first e) not =
     let numbers : number ≡ k = cc in
     let whys : w ≡ v = cc in

@@ -6,8 +6,8 @@ use Rattle.ira_view_explain_question.specs.declared.asked_finding.AskedStop.{Ask
 use Rattle.ira_view_explain_question.specs.declared.asked_finding.AskedStop.TheVariants.{Line, ShortHead, TooLong}
 use Rattle.ira_view_explain_question.specs.AskedFinding.{TellsStop}
 use Rattle.ira_view_explain_question.specs.AskedRemark.{remark_text}
-use Rattle.ira_view_explain.specs.PointedLine.{pointed_end}
-use Rattle.ira_view_explain.specs.TextTold.{short_head_text}
+use Rattle.ira_view_page.specs.PointedLine.{pointed_end}
+use Rattle.ira_view_page.specs.ToldText.{short_head_text}
 
 goes_on : (x text rest more : List ℕ) → text ≡ x ++ rest → text ++ more ≡ x ++ (rest ++ more)
 goes_on x text rest more is = ap (λ t. t ++ more) is ∙ simp append_assoc

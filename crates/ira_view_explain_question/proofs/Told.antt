@@ -37,6 +37,7 @@ eliminations_told f all told i is past =
 
 -- what is found absent is shown so
 pub absence_shown : {A : Type 0} (logs : List Log) (case : List Conjunct) (f : Found A) (absence : Absence A)
-    → IsCaseFinding logs case f (finding.Absent absence) → ShowsAbsence logs case absence.eliminations.items absence.spent
+    → IsCaseFinding logs case f (finding.Absent absence)
+    → ShowsAbsence logs case absence.eliminations.items absence.spent
 absence_shown logs case (found.Absent section) absence is = is.shows
 absence_shown logs case (found.Present cut) absence is = absurd is

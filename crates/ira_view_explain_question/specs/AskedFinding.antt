@@ -5,8 +5,8 @@ use Rattle.ira_view_page.specs.declared.evidence.Evidence.TheVariants as evidenc
 use Rattle.ira_view_page.specs.declared.named_text.NamedText.{NamedText}
 use Rattle.ira_view_page.specs.declared.quoted_line.QuotedLine.{QuotedLine}
 use Rattle.ira_view_page.specs.Lines.{IsLine, whole_lines}
-use Rattle.ira_view_explain.specs.TextTold.{IsWholeTold, short_head_text}
-use Rattle.ira_view_explain.specs.PointedLine.{IsPointed, IsPointedFront, pointed_end}
+use Rattle.ira_view_page.specs.ToldText.{IsWholeTold, short_head_text}
+use Rattle.ira_view_page.specs.PointedLine.{IsPointed, IsPointedFront, pointed_end}
 use Rattle.ira_view_explain_question.specs.declared.asked_finding.AskedStop.{AskedStop}
 use Rattle.ira_view_explain_question.specs.declared.asked_finding.AskedStop.TheVariants.{Line, ShortHead, TooLong}
 use Rattle.ira_view_explain_question.specs.declared.asked_remark.AskedRemark.{AskedRemark}

@@ -42,7 +42,8 @@ eliminates all node = list_any (λ e. e.node == node) all
 -- that the spent node has no state left that meets these words
 abbrev pub spent_text : Bool → ℕ → List ℕ → List ℕ
 spent_text true node clause =
-    codes "    Each state of node " ++ decimal node ++ codes " that meets `" ++ quoted_text clause ++ codes "` is ruled out:"
+    codes "    Each state of node " ++ decimal node ++ codes " that meets `" ++ quoted_text clause
+    ++ codes "` is ruled out:"
     ++ codes "\n"
 spent_text false node clause =
     codes "    Node " ++ decimal node ++ codes " never met `" ++ quoted_text clause ++ codes "`." ++ codes "\n"

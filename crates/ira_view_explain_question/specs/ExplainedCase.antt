@@ -7,7 +7,7 @@ use Rattle.ira_view_page.specs.declared.asked_case.AskedCase.{AskedCase}
 use Rattle.ira_view_page.specs.declared.asked_case.AskedNode.{AskedNode}
 use Rattle.ira_view_page.specs.declared.named_text.NamedText.{NamedText}
 use Rattle.ira_view_page.specs.Printable.{shown}
-use Rattle.ira_view_explain.specs.HeadsTold.{AreOneForEach}
+use Rattle.ira_view_page.specs.Parts.{AreOneForEach}
 use Rattle.ira_view_explain_question.specs.declared.asked_files.AskedFiles.{AskedFiles}
 use Rattle.ira_view_explain_question.specs.declared.case_finding.CaseFinding.{CaseFinding}
 use Rattle.ira_view_explain_question.specs.AskedLines.{AreClausesTold, IsClauseAt, clause_line}

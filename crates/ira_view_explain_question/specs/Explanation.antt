@@ -2,16 +2,15 @@
 use Rattle.std.specs.Prelude.{◌≡◌, ℕ, List, [], ◌∷◌, ◌++◌, Option, None, Some, codes, length, slice_get, take}
 use Rattle.std.specs.List.{AllZip}
 use Rattle.ira_pred.specs.Case.{Conjunct}
+use Rattle.ira_pred.specs.declared.ask_fault.AskFault.{AskFault}
 use Rattle.ira_cert_text.specs.Certificate.{Section}
 use Rattle.ira_cert.specs.declared.section_fault.SectionFault.{SectionFault}
 use Rattle.ira_elim.specs.declared.found.Found.{Found}
 use Rattle.ira_audit.specs.AskedQuestion.{AskedQuestion}
-use Rattle.ira_audit.specs.declared.judged.Judged.{Judged}
-use Rattle.ira_audit.specs.declared.judged.Judged.TheVariants.{Good}
 use Rattle.ira_audit.specs.declared.findings.Findings.{Findings}
 use Rattle.ira_audit.specs.declared.findings.Findings.TheVariants.{Cases, Refused}
 use Rattle.ira_audit.specs.declared.reason.Reason.{Reason}
-use Rattle.ira_audit.specs.declared.reason.Reason.TheVariants.{Certificate, Question, QuestionSize}
+use Rattle.ira_audit.specs.declared.reason.Reason.TheVariants.{Certificate}
 use Rattle.ira_audit.specs.declared.reason.Reason.TheVariants as reason
 use Rattle.ira_view_page.specs.declared.evidence.Evidence.{Evidence}
 use Rattle.ira_view_page.specs.declared.evidence.Evidence.TheVariants.{Line}
@@ -24,9 +23,8 @@ use Rattle.ira_view_page.specs.Lines.{IsLine}
 use Rattle.ira_view_page.specs.Page.{mark_text}
 use Rattle.ira_view_page.specs.Places.{place_text}
 use Rattle.ira_view_page.specs.Quoted.{quoted_text}
-use Rattle.ira_view_explain.specs.Counts.{counts}
-use Rattle.ira_view_explain.specs.PointedLine.{IsQuoted}
-use Rattle.ira_view_explain.specs.Refused.{AreParts, IsTold}
+use Rattle.ira_view_page.specs.Counts.{counts}
+use Rattle.ira_view_page.specs.Parts.{AreParts}
 use Rattle.ira_view_explain_question.specs.declared.asked_files.AskedFiles.{AskedFiles}
 use Rattle.ira_view_explain_question.specs.declared.asked_finding.AskedStop.{AskedStop}
 use Rattle.ira_view_explain_question.specs.declared.section_finding.SectionFinding.{SectionFinding}
@@ -37,7 +35,7 @@ use Rattle.ira_view_explain_question.specs.ExplainedCase.{IsCaseOf, TellsCaseOf}
 use Rattle.ira_view_explain_question.specs.QuestionFinding.{IsQuestionStop}
 use Rattle.ira_view_explain_question.specs.SectionCount.{IsMissingTold, TellsCount}
 use Rattle.ira_view_explain_question.specs.SectionFinding.{IsSectionFinding, IsSectionTold, TellsSection}
-use Rattle.ira_view_explain.specs.PointedLine.{IsQuoted}
+use Rattle.ira_view_page.specs.PointedLine.{IsQuoted}
 
 -- the first eight chosen cases are explained, in their order, on the page and as values, and nothing else is
 pub record AreCasesExplained {A : Type 0} (files : AskedFiles) (asked : AskedQuestion) (found : List (Found A))
@@ -76,7 +74,8 @@ pub record IsStopExplained {A : Type 0} (file : NamedText) (stop : AskedStop) (e
   pub more : List ℕ
   pub page : explanation.page ≡ codes "\n" ++ lines ++ more
 
--- it is explained that a file is of a ring of another size than the logs: by its second line, after which others may come
+-- it is explained that a file is of a ring of another size than the logs: by its second line, after which others may
+-- come
 pub record IsSizeExplained {A : Type 0} (file : NamedText) (explanation : Explanation A) : Type 0 where
   pub state_before : explanation.state_before ≡ None
   pub line : QuotedLine A
@@ -89,15 +88,10 @@ pub record IsSizeExplained {A : Type 0} (file : NamedText) (explanation : Explan
   pub more : List ℕ
   pub page : explanation.page ≡ codes "\n" ++ line_text Named file.name.now 2 bytes ++ more
 
--- it is explained why a question isn't asked of the ring of these logs: by its own text, or else by theirs
-abbrev pub IsNotAskedExplained : {A : Type 0} → AskedFiles → Judged A → Reason → Explanation A → Type 0
-IsNotAskedExplained files (Good logs) (Question fault) explanation =
-    (stop : AskedStop) × IsQuestionStop files.question.now.text.now fault stop
-    × IsStopExplained files.question.now stop explanation
-IsNotAskedExplained files (Good logs) QuestionSize explanation =
-    IsSizeExplained files.question.now explanation
-IsNotAskedExplained files judged reason explanation =
-    IsTold files.logs.now judged explanation.state_before explanation.evidence.items
+-- it is explained why a file with this fault has no question
+abbrev pub IsNoQuestionExplained : {A : Type 0} → NamedText → AskFault → Explanation A → Type 0
+IsNoQuestionExplained file fault explanation =
+    (stop : AskedStop) × IsQuestionStop file.text.now fault stop × IsStopExplained file stop explanation
 
 -- it is explained why a file has no certificate for the ring of a question
 abbrev pub IsNoCertificateExplained : {A : Type 0} → NamedText → Reason → Explanation A → Type 0
@@ -131,7 +125,8 @@ pub record IsCountExplained {A : Type 0} (files : AskedFiles) (asked : AskedQues
   pub page : explanation.page ≡ codes "\n" ++ lines ++ more
 
 -- it is explained why the sections of a certificate's file of this name don't answer a question
-abbrev pub IsUnsoundExplained : {A : Type 0} → AskedFiles → AskedQuestion → List ℕ → List Section → Reason → Explanation A
+abbrev pub IsUnsoundExplained : {A : Type 0} → AskedFiles → AskedQuestion → List ℕ → List Section → Reason
+    → Explanation A
     → Type 0
 IsUnsoundExplained files asked file sections (reason.Section number fault) explanation =
     IsSectionExplained files asked file sections number fault explanation

@@ -16,7 +16,7 @@ use Rattle.ira_view_page.specs.Numbers.{number_of_text}
 use Rattle.ira_view_page.specs.Places.{place_text}
 use Rattle.ira_view_page.specs.Quoted.{quoted_text}
 use Rattle.ira_view_page.specs.Words.{state_text}
-use Rattle.ira_view_explain.specs.HeadsTold.{AreOneForEach}
+use Rattle.ira_view_page.specs.Parts.{AreOneForEach}
 use Rattle.ira_view_explain_question.specs.declared.asked_files.AskedFiles.{AskedFiles}
 use Rattle.ira_view_explain_question.specs.declared.node_left.CandidatesLeft.{CandidatesLeft}
 use Rattle.ira_view_explain_question.specs.declared.node_left.NodeLeft.{NodeLeft}
@@ -66,7 +66,8 @@ clause_first_text place clause first =
 -- a candidate of a node whose log is in this file
 abbrev pub candidate_text : List ℕ → ℕ × NodeState → List ℕ
 candidate_text file at =
-    codes "    state " ++ decimal at.0 ++ codes ", after " ++ place_text file (at.0 + 4) ++ codes ": " ++ state_text at.1
+    codes "    state " ++ decimal at.0 ++ codes ", after " ++ place_text file (at.0 + 4) ++ codes ": "
+    ++ state_text at.1
     ++ codes "\n"
 
 -- how many candidates are left, the clause and the line that ask the node, and at most five of them
@@ -87,7 +88,8 @@ IsClauseIn files asked number n place clause =
 abbrev pub TellsFirst : {A : Type 0} → AskedFiles → AskedQuestion → ℕ → NodeLeft A → List ℕ → Type 0
 TellsFirst files asked number of_node text =
     MatchOption of_node.left
-    (text ≡ codes "  node " ++ decimal of_node.node ++ codes "  " ++ codes "case " ++ decimal number ++ codes " asks nothing of it"
+    (text ≡ codes "  node " ++ decimal of_node.node ++ codes "  " ++ codes "case " ++ decimal number
+    ++ codes " asks nothing of it"
     ++ codes "\n")
     (λ left. (place clause : List ℕ) × IsClauseIn files asked number left.clause place clause
     × (text ≡ codes "  node " ++ decimal of_node.node ++ codes "  "

@@ -10,7 +10,7 @@ use Rattle.ira_view_page.specs.Places.{place_text}
 use Rattle.ira_view_page.specs.Printable.{shown}
 use Rattle.ira_view_explain_question.specs.declared.asked_files.AskedFiles.{AskedFiles}
 use Rattle.ira_view_explain_question.specs.AskedLines.{AreClausesTold, clause_line}
-use Rattle.ira_view_explain.specs.PointedLine.{IsQuoted}
+use Rattle.ira_view_page.specs.PointedLine.{IsQuoted}
 
 -- the first line of a case, as evidence
 abbrev pub IsCaseLineTold : {A : Type 0} → AskedFiles → AskedQuestion → ℕ → Evidence A → Type 0

@@ -1,5 +1,6 @@
 -- Why the section of a certificate isn't sound, and what is told of it.
-use Rattle.std.specs.Prelude.{◌≡◌, ◌≢◌, ◌⊎◌, ◌<◌, ◌≤◌, ℕ, ◌+◌, ◌-◌, ◌^◌, List, [], ◌∷◌, ◌++◌, MatchOption, Some, String, codes}
+use Rattle.std.specs.Prelude.{◌≡◌, ◌≢◌, ◌⊎◌, ◌<◌, ◌≤◌, ℕ, ◌+◌, ◌-◌, ◌^◌, List, [], ◌∷◌, ◌++◌, MatchOption, Some, String}
+use Rattle.std.specs.Prelude.{codes}
 use Rattle.std.specs.Prelude.{decimal, length, min, slice_get, string_bytes, take}
 use Rattle.ira_event.specs.Log.{Log}
 use Rattle.ira_pred.specs.Case.{Conjunct}
@@ -15,7 +16,7 @@ use Rattle.ira_audit.specs.AskedQuestion.{AskedQuestion}
 use Rattle.ira_view_page.specs.declared.evidence.Evidence.{Evidence}
 use Rattle.ira_view_page.specs.declared.evidence.Evidence.TheVariants as evidence
 use Rattle.ira_view_page.specs.Places.{place_text}
-use Rattle.ira_view_explain.specs.Refused.{AreParts}
+use Rattle.ira_view_page.specs.Parts.{AreParts}
 use Rattle.ira_view_explain_question.specs.declared.asked_files.AskedFiles.{AskedFiles}
 use Rattle.ira_view_explain_question.specs.declared.node_left.NodeLeft.{NodeLeft}
 use Rattle.ira_view_explain_question.specs.declared.section_finding.SectionFinding.{SectionFinding}
@@ -46,7 +47,8 @@ abbrev pub IsLeftOf : {A : Type 0} → List Log → List Conjunct → List CertS
 IsLeftOf logs case steps node left = (left.node ≡ node) × IsLeft logs case steps left
 
 -- what is left of the nodes of a step, or of the node that isn't spent
-abbrev pub AreLeftOf : {A : Type 0} → List Log → List Conjunct → List CertStep → SectionStop → List (NodeLeft A) → Type 0
+abbrev pub AreLeftOf : {A : Type 0} → List Log → List Conjunct → List CertStep → SectionStop → List (NodeLeft A)
+    → Type 0
 AreLeftOf {A} logs case steps (Step s why) left =
     (own : NodeLeft A) × IsLeftOf logs case steps s.node own
     × (((s.node ≡ s.other) × (left ≡ own ∷ []))
@@ -101,7 +103,8 @@ abbrev pub TellsLeft : {A : Type 0} → AskedFiles → AskedQuestion → ℕ →
 TellsLeft files asked number (Step step why) steps of_node text = TellsFirst files asked number of_node text
 TellsLeft files asked number (Spent node) steps of_node text = TellsAll files asked number steps of_node text
 
--- the lines tell a finding in a certificate's file of this name: the line, and the nodes that it names; sentences follow
+-- the lines tell a finding in a certificate's file of this name: the line, and the nodes that it names; sentences
+-- follow
 pub record TellsSection {A : Type 0} (files : AskedFiles) (asked : AskedQuestion) (number : ℕ) (file : List ℕ)
     (finding : SectionFinding A) (text : List ℕ) : Type 0 where
   pub nodes : List ℕ

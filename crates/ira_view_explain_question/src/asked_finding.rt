@@ -9,8 +9,10 @@ use crate::asked_hint::AskedHint;
 use crate::asked_lines::HEAD_LINES;
 use crate::asked_remark::AskedRemark;
 use ira_event::OutOfMemory;
-use ira_view_explain::{PointedLine, Slip, print_short_head, print_too_long, whole_text};
-use ira_view_page::{Emphasis, Evidence, NamedText, Page, split_line};
+use ira_view_page::{
+    Emphasis, Evidence, NamedText, Page, PointedLine, Slip, print_short_head, print_too_long,
+    split_line, whole_text,
+};
 use std::alloc::Allocator;
 
 /// What a text shows that is no question's or no certificate's.

@@ -1,7 +1,6 @@
 ghost use Rattle.ira_view_page.specs.Page.{AddedSome};
 
-use ira_view_explain::Slip;
-use ira_view_page::Page;
+use ira_view_page::{Page, Slip};
 use std::alloc::Allocator;
 use std::str;
 

@@ -1,31 +1,31 @@
-ghost use Rattle.std.specs.Prelude.{◌≡◌, ◌≤◌, ℕ, [], IfOk, List, None, Some, length, map};
+ghost use Rattle.std.specs.Prelude.{◌≡◌, ◌≢◌, ◌≤◌, ℕ, [], IfOk, List, None, Some, length, map};
 ghost use Rattle.std.specs.List.{AllZip};
 ghost use Rattle.ira_audit.specs.AskedQuestion.{AreFoundOf};
 ghost use Rattle.ira_audit.specs.CheckAnswer.{AreSound, IsFirstUnsound};
-ghost use Rattle.ira_audit.specs.Judged.{IsJudged};
 ghost use Rattle.ira_audit.specs.QuestionFitsLogs.{QuestionFitsLogs};
-ghost use Rattle.ira_audit.specs.Refusal.{IsCertificateRefusal, IsFindingsReason, IsSectionsRefusal};
+ghost use Rattle.ira_audit.specs.Refusal.{IsCertificateRefusal, IsSectionsRefusal};
 ghost use Rattle.ira_elim.specs.Found.{IsFound};
-ghost use Rattle.ira_view_explain.specs.Counts.{counts, ring_of};
+ghost use Rattle.ira_pred.specs.declared.ask_fault.AskFault.{AskFault};
+ghost use Rattle.ira_view_page.specs.Counts.{counts};
 ghost use Rattle.ira_view_page.specs.Lines.{IsLine};
 ghost use Rattle.ira_view_page.specs.Page.{Added, AddedSome};
 ghost use Rattle.ira_view_explain_question.specs.Explanation.{AreCasesExplained, AreFindingsExplained};
 ghost use Rattle.ira_view_explain_question.specs.Explanation.{IsCountExplained, IsNoCertificateExplained};
-ghost use Rattle.ira_view_explain_question.specs.Explanation.{IsNotAskedExplained, IsSectionExplained};
-ghost use Rattle.ira_view_explain_question.specs.Explanation.{IsSizeExplained, IsStopExplained};
-ghost use Rattle.ira_view_explain_question.specs.Explanation.{IsUnsoundExplained, line_text};
+ghost use Rattle.ira_view_explain_question.specs.Explanation.{IsNoQuestionExplained, IsSectionExplained};
+ghost use Rattle.ira_view_explain_question.specs.Explanation.{IsSizeExplained, IsStopExplained, IsUnsoundExplained};
+ghost use Rattle.ira_view_explain_question.specs.Explanation.{line_text};
 
 use crate::asked_files::AskedFiles;
 use crate::asked_finding::AskedFinding;
 use crate::asked_ring::AskedRing;
 use crate::chosen_cases::{MOST_CASES, chosen_cases};
 use crate::section_finding::SectionFinding;
-use ira_audit::{AskedQuestion, Findings, Judged, Reason};
+use ira_audit::{AskedQuestion, Findings, Reason};
 use ira_cert::{Section, SectionFault};
 use ira_elim::Found;
 use ira_event::{Logs, OutOfMemory};
-use ira_view_explain::{explain_logs, explanation, page_after_answer, print_run, quoted_line};
-use ira_view_page::{Emphasis, Evidence, Explanation, NamedText, Page, RingCounts};
+use ira_pred::AskFault;
+use ira_view_page::{Emphasis, Evidence, Explanation, NamedText, Page, RingCounts, print_run};
 use std::alloc::Allocator;
 
 /// Why what was found for a question about the logs of a ring is as it is, of one case or of the first ones: an empty
@@ -83,31 +83,20 @@ fn explain_cases<A: Allocator + Clone>(
     })
 }
 
-/// Why a question isn't asked of the ring of these logs: what stands against the logs, or else in which lines of the
-/// question's file.
-pub fn explain_not_asked<A: Allocator + Clone>(
+/// Why a text with this fault is no question's, beside how many nodes and events these logs have: in which line of its
+/// file.
+pub fn explain_no_question<A: Allocator + Clone>(
     alloc: A,
-    files: AskedFiles<'_>,
-    judged: &Judged<A>,
-    reason: Reason,
+    question: &NamedText<'_>,
+    fault: AskFault,
+    logs: &Logs<A>,
 ) -> Result<Explanation<A>, OutOfMemory>
-    requires judged { IsJudged (map (λ log. log.text.now) files.logs.now) judged.now }
-    requires reason { IsFindingsReason (map (λ log. log.text.now) files.logs.now)
-        files.question.now.text.now reason }
-    ensures ring { IfOk result (λ explanation. explanation.ring ≡ ring_of judged.now) }
-    ensures why { IfOk result (IsNotAskedExplained files.entry judged.now reason) }
+    requires { fault ≢ AskFault.OutOfMemory }
+    ensures ring { IfOk result (λ explanation. explanation.ring ≡ Some (counts logs.now)) }
+    ensures told { IfOk result (IsNoQuestionExplained question.now fault) }
 {
-    let AskedFiles { logs, question } = files;
-    match (judged, reason) {
-        (Judged::Good(good), Reason::Question(fault)) => {
-            let finding = AskedFinding::of_question(question, fault);
-            explain_text(&alloc, question, finding, good.logs())
-        }
-        (Judged::Good(good), Reason::QuestionSize) => {
-            explain_size(&alloc, logs, question, good.logs())
-        }
-        _ => explain_logs(alloc, logs, judged),
-    }
+    let finding = AskedFinding::of_question(question, fault);
+    explain_text(&alloc, question, finding, logs)
 }
 
 /// Why a certificate isn't one for the ring of a question: in which lines of its file.
@@ -128,7 +117,7 @@ pub fn explain_no_certificate<A: Allocator + Clone>(
             let finding = AskedFinding::of_certificate(certificate, fault);
             explain_text(&alloc, certificate, finding, logs)
         }
-        _ => explain_size(&alloc, files.logs, certificate, logs),
+        _ => explain_size(alloc, files.logs, certificate, logs),
     }
 }
 
@@ -178,11 +167,11 @@ pub fn explain_sound<A: Allocator + Clone>(
     text.words(", ");
     text.number_of(steps, "step");
     text.words(": no moment of any order of these events met any case.");
-    let mut page = page_after_answer(alloc.clone()?);
+    let mut page = Page::after_answer(alloc.clone()?);
     print_run(&alloc, asked.logs(), &mut page);
     page.paragraph_of(&text);
     let (evidence, hints) = (Vec::new(alloc.clone()?), Vec::new(alloc.clone()?));
-    explanation(
+    Explanation::of_page(
         &alloc,
         Some(RingCounts::of(asked.logs())),
         page,
@@ -204,9 +193,9 @@ fn explain_text<A: Allocator + Clone>(
     let mut evidence = Vec::new(alloc.clone()?);
     evidence.push(finding.evidence(alloc, file)?)?;
     let hints = finding.hints(alloc)?;
-    let mut page = page_after_answer(alloc.clone()?);
+    let mut page = Page::after_answer(alloc.clone()?);
     finding.print(file, &mut page);
-    explanation(alloc, Some(RingCounts::of(logs)), page, evidence, hints)
+    Explanation::of_page(alloc, Some(RingCounts::of(logs)), page, evidence, hints)
 }
 
 /// Adds `FILE:LINE: TEXT` to a page.
@@ -230,9 +219,9 @@ fn print_first_size<A: Allocator>(files: &[NamedText<'_>], page: &mut Page<A>)
     }
 }
 
-/// By which lines a text and the logs are of rings of different sizes.
-fn explain_size<A: Allocator + Clone>(
-    alloc: &A,
+/// By which lines a question or a certificate and the logs in these files are of rings of different sizes.
+pub fn explain_size<A: Allocator + Clone>(
+    alloc: A,
     files: &[NamedText<'_>],
     file: &NamedText<'_>,
     logs: &Logs<A>,
@@ -241,15 +230,15 @@ fn explain_size<A: Allocator + Clone>(
     ensures told { IfOk result (IsSizeExplained file.now) }
 {
     let mut evidence = Vec::new(alloc.clone()?);
-    evidence.push(Evidence::Line(quoted_line(alloc, file, 2)?))?;
+    evidence.push(Evidence::Line(file.quoted_line(&alloc, 2)?))?;
     if let Some(first) = files.first() {
-        evidence.push(Evidence::Line(quoted_line(alloc, first, 2)?))?;
+        evidence.push(Evidence::Line(first.quoted_line(&alloc, 2)?))?;
     }
     let hints = Vec::new(alloc.clone()?);
-    let mut page = page_after_answer(alloc.clone()?);
+    let mut page = Page::after_answer(alloc.clone()?);
     print_line(Emphasis::Named, file, 2, &mut page);
     print_first_size(files, &mut page);
-    explanation(alloc, Some(RingCounts::of(logs)), page, evidence, hints)
+    Explanation::of_page(&alloc, Some(RingCounts::of(logs)), page, evidence, hints)
 }
 
 /// Why the section of a case isn't sound, which is the first of these that isn't.
@@ -267,11 +256,11 @@ fn explain_section<A: Allocator + Clone>(
 {
     let case = ring.case(case);
     let finding = SectionFinding::find(&case, sections, fault)?;
-    let mut page = page_after_answer(ring.alloc.clone()?);
+    let mut page = Page::after_answer(ring.alloc.clone()?);
     finding.print(&case, certificate, &mut page);
     let evidence = finding.evidence(ring.alloc, certificate)?;
     let hints = Vec::new(ring.alloc.clone()?);
-    explanation(
+    Explanation::of_page(
         ring.alloc,
         Some(RingCounts::of(ring.logs())),
         page,
@@ -289,7 +278,7 @@ fn explain_count<A: Allocator + Clone>(
     ensures ring { IfOk result (λ explanation. explanation.ring ≡ Some (counts ring.now.asked.now.logs)) }
     ensures told { IfOk result (IsCountExplained ring.now.files ring.now.asked.now certificate.now sections) }
 {
-    let mut page = page_after_answer(ring.alloc.clone()?);
+    let mut page = Page::after_answer(ring.alloc.clone()?);
     ring.print_count(certificate, sections, &mut page);
     let mut hints = Vec::new(ring.alloc.clone()?);
     hints.push(String::from_str(
@@ -297,7 +286,7 @@ fn explain_count<A: Allocator + Clone>(
         "the certificate is of another question: `ira decide --out` writes one for this.",
     )?)?;
     let evidence = ring.missing_told(sections)?;
-    explanation(
+    Explanation::of_page(
         ring.alloc,
         Some(RingCounts::of(ring.logs())),
         page,

@@ -24,5 +24,6 @@ mod section_sentences;
 
 pub use asked_files::AskedFiles;
 pub use explain::{
-    explain_found, explain_no_certificate, explain_not_asked, explain_sound, explain_unsound,
+    explain_found, explain_no_certificate, explain_no_question, explain_size, explain_sound,
+    explain_unsound,
 };

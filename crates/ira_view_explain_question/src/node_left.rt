@@ -79,7 +79,8 @@ impl<A: Allocator + Clone> CandidatesLeft<A> {
     fn print_first(&self, case: &ExplainedCase<'_, A>, page: &mut Page<A>)
         requires { self.now.clause < length case.now.case.now }
         ensures { (place clause : List ℕ)
-            × IsClauseIn case.now.ring.now.files case.now.ring.now.asked.now case.now.number self.now.clause place clause
+            × IsClauseIn case.now.ring.now.files case.now.ring.now.asked.now case.now.number self.now.clause
+            place clause
             × Added page.old (clause_first_text place clause self.now.first.items) page.new }
     {
         page.place(case.lines.name, case.line(self.clause));
@@ -96,12 +97,13 @@ impl<A: Allocator + Clone> CandidatesLeft<A> {
         }
     }
 
-    /// Adds how many there are, the clause and the line that ask the node, and the first of them, of a node whose log is
-    /// in this file.
+    /// Adds how many there are, the clause and the line that ask the node, and the first of them, of a node whose log
+    /// is in this file.
     fn print_all(&self, case: &ExplainedCase<'_, A>, file: &str, page: &mut Page<A>)
         requires { self.now.clause < length case.now.case.now }
         ensures { (place clause : List ℕ)
-            × IsClauseIn case.now.ring.now.files case.now.ring.now.asked.now case.now.number self.now.clause place clause
+            × IsClauseIn case.now.ring.now.files case.now.ring.now.asked.now case.now.number self.now.clause
+            place clause
             × Added page.old (candidates_text file.now place clause self.now) page.new }
     {
         page.words(" has ");

@@ -11,8 +11,7 @@ use crate::asked_remark::AskedRemark;
 use crate::clause_stop::clause_stop;
 use ira_event::{scan_number, skip_word};
 use ira_pred::{AskFault, MAX_CASES, MAX_DEPTH};
-use ira_view_explain::Slip;
-use ira_view_page::NamedText;
+use ira_view_page::{NamedText, Slip};
 
 /// The words that a clause without brackets begins with.
 static WORDS: [&str; 10] = [

@@ -4,7 +4,6 @@ ghost use Rattle.ira_view_explain_question.specs.SectionCount.{IsMissingTold, Te
 
 use crate::asked_ring::AskedRing;
 use ira_event::OutOfMemory;
-use ira_view_explain::quoted_line;
 use ira_view_page::{Emphasis, Evidence, Page};
 use std::alloc::Allocator;
 
@@ -19,7 +18,7 @@ impl<'a, A: Allocator + Clone> AskedRing<'a, A> {
         let mut told = Vec::new(self.alloc.clone()?);
         if sections < self.asked.cases().len() {
             let first = self.case(sections).first;
-            let line = quoted_line(self.alloc, self.files.question, first)?;
+            let line = self.files.question.quoted_line(self.alloc, first)?;
             told.push(Evidence::Line(line))?;
         }
         Ok(told)

@@ -1,6 +1,7 @@
 -- What is added one after the other.
 use Rattle.std.proofs.Common.{◌≡◌, ℕ, zero, suc, ◌+◌, ◌<◌, List, [], ◌∷◌, ◌++◌, Option, Some, None, Result, Ok, Err}
-use Rattle.std.proofs.Common.{IfOk, add-zero, append-nil, append_assoc, ap, arith, get_or, length, subst, sym, take, ◌∙◌}
+use Rattle.std.proofs.Common.{IfOk, add-zero, append-nil, append_assoc, ap, arith, get_or, length, subst, sym, take}
+use Rattle.std.proofs.Common.{◌∙◌}
 use Rattle.std.specs.Prelude.{MatchResult, slice_get}
 use Rattle.std.specs.List.{enumerate_from, flat_map}
 use Rattle.std.proofs.lemmas.List.{take_more}

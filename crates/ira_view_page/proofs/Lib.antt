@@ -1,7 +1,10 @@
 pub mod Adding
 pub mod EventLines
 pub mod FirstLines
+pub mod ForEach
 pub mod LastLine
+pub mod Parts
 pub mod Printables
 pub mod Quotes
 pub mod Tables
+pub mod Widths

@@ -1,7 +1,7 @@
 -- How much of a long line is shown.
-use Rattle.std.proofs.Common.{◌≡◌, ℕ, zero, suc, ◌+◌, ◌-◌, ◌<◌, ◌≤◌, List, [], ◌∷◌, ◌++◌, ap, arith, get_or, length}
+use Rattle.std.proofs.Common.{◌≡◌, ℕ, zero, suc, ◌+◌, ◌-◌, ◌<◌, ◌≤◌, List, [], ◌∷◌, ap, arith, get_or, length}
 use Rattle.std.proofs.Common.{length-append, take}
-use Rattle.std.specs.Prelude.{if◌then◌else◌, nat_le, true, false}
+use Rattle.std.specs.Prelude.{nat_le, true, false}
 use Rattle.std.proofs.lemmas.Bool.Decides.{nat_tests}
 use Rattle.ira_view_page.specs.Printable.{shown, shown_byte}
 use Rattle.ira_view_page.specs.Quoted.{fitting}

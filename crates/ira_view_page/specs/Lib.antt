@@ -1,9 +1,14 @@
+pub mod Counts
 pub mod Lines
 pub mod Numbers
 pub mod Page
+pub mod Parts
 pub mod Places
+pub mod PointedLine
 pub mod Printable
 pub mod Quoted
+pub mod Slip
 pub mod Summary
 pub mod Table
+pub mod ToldText
 pub mod Words

@@ -1,7 +1,12 @@
-ghost use Rattle.std.specs.Prelude.{◌≡◌, ◌≤◌};
+ghost use Rattle.std.specs.Prelude.{◌≡◌, ◌≤◌, IfOk, None};
 ghost use Rattle.ira_view_page.specs.Lines.{IsFromLine, IsLine, whole_lines};
+ghost use Rattle.ira_view_page.specs.PointedLine.{IsQuoted};
 
 use crate::first_line::split_line;
+use crate::page::Page;
+use crate::quoted_line::QuotedLine;
+use ira_event::OutOfMemory;
+use std::alloc::Allocator;
 
 /// A text with the name of the file that it is of.
 #[derive(Clone, Copy, Debug)]
@@ -42,5 +47,23 @@ impl<'a> NamedText<'a> {
             };
         }
         rest
+    }
+    /// A line, counted from 1, as it is quoted, without carets.
+    pub fn quoted_line<A: Allocator + Clone>(
+        &self,
+        alloc: &A,
+        number: usize,
+    ) -> Result<QuotedLine<A>, OutOfMemory>
+        ensures quoted { IfOk result (IsQuoted self.now number) }
+        ensures carets { IfOk result (λ line. line.carets ≡ None) }
+    {
+        let mut text = Page::new(alloc.clone()?);
+        text.quote(self.line(number));
+        Ok(QuotedLine {
+            file: String::from_str(alloc.clone()?, self.name)?,
+            number,
+            text: text.finish()?.into_string(),
+            carets: None,
+        })
     }
 }

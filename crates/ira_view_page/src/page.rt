@@ -48,6 +48,15 @@ impl<A: Allocator> Page<A> {
         }
     }
 
+    /// A page with the empty line that comes after an answer.
+    pub fn after_answer(alloc: A) -> Page<A>
+        ensures { Added (Some []) (codes "\n") result }
+    {
+        let mut page = Page::new(alloc);
+        page.blank();
+        page
+    }
+
     /// What is on it; an error exactly where a growth was refused.
     pub fn finish(self) -> Result<PageText<A>, OutOfMemory>
         ensures { MatchResult result (λ text. self ≡ Some text) (λ _. self ≡ None) }

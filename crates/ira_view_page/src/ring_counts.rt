@@ -1,4 +1,5 @@
-ghost use Rattle.std.specs.Prelude.{◌≡◌, length, sum_by};
+ghost use Rattle.std.specs.Prelude.{◌≡◌};
+ghost use Rattle.ira_view_page.specs.Counts.{counts};
 
 use ira_event::Logs;
 use std::alloc::Allocator;
@@ -13,7 +14,7 @@ pub struct RingCounts {
 impl RingCounts {
     /// Those of the ring of these logs.
     pub fn of<A: Allocator>(logs: &Logs<A>) -> RingCounts
-        ensures { result ≡ record { nodes = length logs.now; events = sum_by (λ log. length log.events) logs.now } }
+        ensures { result ≡ counts logs.now }
     {
         RingCounts {
             nodes: usize::from(logs.size().get()),

@@ -34,7 +34,8 @@ returns g c =
     let line = string_bytes c.in_ok-told.told in
     let files = c.args.files.now in
     let added = c.in_ok-add_logs.ensures in
-    let lines = subst (λ (logs : List Log). AreLogLines (zip (map (λ (file : NamedText). file.name.now) files) logs) added.0)
+    let lines =
+    subst (λ (logs : List Log). AreLogLines (zip (map (λ (file : NamedText). file.name.now) files) logs) added.0)
     c.logs.ensures.value added.1 in
     let is : IsRefusalTold g.row.A.Denot files refused (string_bytes c.add_logs.new.told) = (
       explanation,

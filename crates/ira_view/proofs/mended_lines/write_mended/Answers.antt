@@ -1,4 +1,5 @@
-use Rattle.std.proofs.Common.{◌≡◌, ◌+◌, ◌≤◌, ◌<◌, ℕ, zero, suc, Bool, false, List, [], ◌∷◌, Some, drop, ap, arith, length, refl}
+use Rattle.std.proofs.Common.{◌≡◌, ◌+◌, ◌≤◌, ◌<◌, ℕ, zero, suc, Bool, false, List, [], ◌∷◌, Some, drop, ap, arith}
+use Rattle.std.proofs.Common.{length, refl}
 use Rattle.std.proofs.Common.{◌++◌, subst, sym}
 use Rattle.std.specs.Prelude.{slice_get, slice_index_or}
 use Rattle.std.specs.List.{flat_map, zip}
@@ -21,7 +22,8 @@ said_at (b ∷ lost) (suc i) d l = said_at lost i d (omega arith)
 -- the lines from a place on begin with the one there
 next_line : (logs mended : List Log) (lost : List Bool) (i : ℕ) (d : Bool) (log kept : Log)
     → slice_get logs i ≡ Some log → slice_get mended i ≡ Some kept → i < length lost
-    → mended_line ((log, kept), slice_index_or lost i d) ++ flat_map mended_line (drop (i + 1) (zip (zip logs mended) lost))
+    → mended_line ((log, kept), slice_index_or lost i d)
+    ++ flat_map mended_line (drop (i + 1) (zip (zip logs mended) lost))
     ≡ flat_map mended_line (drop i (zip (zip logs mended) lost))
 next_line logs mended lost i d log kept at at' l =
     let first = drop-zip (zip logs mended) lost i (log, kept) (slice_index_or lost i d)
@@ -44,7 +46,8 @@ returns-in_err-write g c =
     ≡ flat_map mended_line (drop i (zip (zip logs mended) lost))) (sym line)
     (next_line logs mended lost i false c.log.result.now
     c.log-in-loop-place.result.now c.log.ensures.value c.log-in-loop-place.ensures.value within) in
-    HasWritten-stops _ _ p.1 (mended_lines logs mended lost) (flat_map mended_line (drop i (zip (zip logs mended) lost)))
+    HasWritten-stops _ _ p.1 (mended_lines logs mended lost)
+    (flat_map mended_line (drop i (zip (zip logs mended) lost)))
     c.mended_line.result (flat_map mended_line (drop (i + 1) (zip (zip logs mended) lost))) _ _ _
     c.loop-place.invariant next c.in_err-write.ensures
 

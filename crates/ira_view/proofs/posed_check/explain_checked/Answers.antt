@@ -11,7 +11,8 @@ use Rattle.ira_view.specs.Texts.{texts_of}
 use Rattle.ira_view.proofs.posed_check.explain_checked.Goals as goal
 
 -- the reason of a refusal
-reason_of : {T : Type 0} (P : T → Type 0) (Q : Reason → Type 0) (r : Result T Refusal) (refusal : Refusal) (reason : Reason)
+reason_of : {T : Type 0} (P : T → Type 0) (Q : Reason → Type 0) (r : Result T Refusal) (refusal : Refusal)
+    (reason : Reason)
     → r ≡ Err refusal → refusal ≡ No reason → MatchRefusal r P Q → Q reason
 reason_of P Q r refusal reason is why h = rw (is, why) at h
 

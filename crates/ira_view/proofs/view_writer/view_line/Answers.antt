@@ -9,5 +9,5 @@ returns g c =
     let answer = c.args.answer.now in
     let explanation = c.args.explanation.now in
     let number = c.number.ensures ∙ ap status_number c.of_answer-status.ensures in
-    subst (λ n. IfOk c.explained_line.result (λ line. IsLineOf (explained_value n answer explanation) (string_bytes line)))
-    number c.explained_line.ensures
+    subst (λ n. IfOk c.explained_line.result
+    (λ line. IsLineOf (explained_value n answer explanation) (string_bytes line))) number c.explained_line.ensures

@@ -25,5 +25,6 @@ returns g c =
 
 pub returns-in_err-write_report : goal.returns-in_err-write_report
 returns-in_err-write_report g c =
-    let p = err_from_is_err_and c.from_residual-in_err-write_report.result c.from_residual-in_err-write_report.ensures.1 in
+    let p = err_from_is_err_and c.from_residual-in_err-write_report.result
+    c.from_residual-in_err-write_report.ensures.1 in
     rw (c.if-is_json.false, p.1, p.2) (report_line c.args.answer.now, refl, c.in_err-write_report.ensures)

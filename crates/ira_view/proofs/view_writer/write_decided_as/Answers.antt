@@ -20,9 +20,10 @@ returns-then-is_json g c = λ certify findings are.
     c.of_absent-status.ensures.no in
     let lines = subst (λ values. AreLinesOf values (string_bytes c.in_ok-lines.lines))
     (values_are findings d.nodes c.number.result d.cases.items are.cases) c.in_ok-lines.ensures in
-    let numbered = subst (λ n. AreLinesOf (findings_values n findings) (string_bytes c.in_ok-lines.lines)) c.number.ensures
-    lines in
-    let lent = subst (AreLinesOf (findings_values (status_number status) findings)) (sym c.as_bytes.ensures.value) numbered in
+    let numbered = subst (λ n. AreLinesOf (findings_values n findings) (string_bytes c.in_ok-lines.lines))
+    c.number.ensures lines in
+    let lent = subst (AreLinesOf (findings_values (status_number status) findings)) (sym c.as_bytes.ensures.value)
+    numbered in
     rw c.if-is_json.true (text_written (IsFindingsText true findings) c.as_bytes.result.now c.write_text.result s t
     (status, is, lent) c.write_text.ensures)
 
@@ -33,5 +34,5 @@ returns g c = λ certify findings are.
     let t = g.W.Sink.state c.write_text-2.new.sink in
     let text : c.bytes.result.now ≡ findings_text findings =
     c.bytes.ensures ∙ c.in_ok-lines-2.ensures ∙ lines_are findings d.nodes d.cases.items are.cases in
-    rw c.if-is_json.false (text_written (IsFindingsText false findings) c.bytes.result.now c.write_text-2.result s t text
-    c.write_text-2.ensures)
+    rw c.if-is_json.false (text_written (IsFindingsText false findings) c.bytes.result.now c.write_text-2.result s t
+    text c.write_text-2.ensures)

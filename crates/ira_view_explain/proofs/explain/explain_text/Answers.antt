@@ -5,7 +5,7 @@ use Rattle.ira_view_explain.proofs.explain.explain_text.Goals as goal
 
 pub returns-clause-told : goal.returns-clause-told
 returns-clause-told g c =
-    told_as (IsTextTold c.args.file.now c.args.fault) c.explanation.result _ c.explanation.ensures.evidence (record {
+    told_as (IsTextTold c.args.file.now c.args.fault) c.of_page.result _ c.of_page.ensures.evidence (record {
       stop = c.find-finding.result.stop;
       is_stop = c.find-finding.ensures;
       one = c.in_ok-evidence.field-0;

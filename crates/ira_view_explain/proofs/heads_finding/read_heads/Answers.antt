@@ -1,5 +1,5 @@
 use Rattle.std.proofs.lemmas.Option.{slice_get-get_or}
-use Rattle.ira_view_explain.proofs.ForEach.{one_more}
+use Rattle.ira_view_page.proofs.ForEach.{one_more}
 use Rattle.ira_view_explain.proofs.LogFiles.{opened}
 use Rattle.ira_view_explain.proofs.heads_finding.read_heads.Goals as goal
 

@@ -2,7 +2,7 @@ use Rattle.std.proofs.Common.{ℕ, List}
 use Rattle.ira_event.specs.declared.log_head.LogHead.{LogHead}
 use Rattle.ira_event.specs.LogTextFault.{BeginsWithHead}
 use Rattle.ira_view_page.specs.declared.named_text.NamedText.{NamedText}
-use Rattle.ira_view_explain.proofs.ForEach.{AreSoFar}
+use Rattle.ira_view_page.proofs.ForEach.{AreSoFar}
 use Rattle.ira_view_explain.proofs.heads_finding.read_heads.Given as goal
 
 abbrev pub invariant-loop-file : goal.invariant-loop-file

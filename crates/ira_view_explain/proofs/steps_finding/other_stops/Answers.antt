@@ -1,8 +1,9 @@
 use Rattle.std.proofs.Common.{inl, inr, [], ◌∷◌, arith, refl, sym}
 use Rattle.std.proofs.lemmas.List.{append-nil}
 use Rattle.ira_view_evidence.proofs.OriginLists.{listed}
-use Rattle.ira_view_explain.specs.Refused.{AreOtherStops, none}
-use Rattle.ira_view_explain.proofs.Parts.{parts_all, parts_more}
+use Rattle.ira_view_explain.specs.Refused.{AreOtherStops}
+use Rattle.ira_view_page.specs.Parts.{none}
+use Rattle.ira_view_page.proofs.Parts.{parts_all, parts_more}
 use Rattle.ira_view_explain.proofs.steps_finding.other_stops.Goals as goal
 use Rattle.ira_view_explain.proofs.steps_finding.other_stops.Goals.{then-stop-named+in_ok-push, else-stop-named}
 

@@ -1,5 +1,6 @@
 use Rattle.std.proofs.Common.{take}
-use Rattle.ira_view_explain.specs.Refused.{AreOtherStops, AreParts}
+use Rattle.ira_view_explain.specs.Refused.{AreOtherStops}
+use Rattle.ira_view_page.specs.Parts.{AreParts}
 use Rattle.ira_view_explain.proofs.steps_finding.other_stops.Given as goal
 
 abbrev pub invariant-loop-stop : goal.invariant-loop-stop

@@ -48,7 +48,11 @@ returns-in_default-clause-nth c =
     let before = c.loop.invariant in (
       c.loop.found,
       before.said,
-      inr (before.few, past_whole c.args.file.now.text.now c.loop.number c.loop.rest.now before.from c.in_default.ensures),
+      inr (
+        before.few,
+        past_whole c.args.file.now.text.now c.loop.number c.loop.rest.now before.from
+            c.in_default.ensures,
+      ),
     )
 
 pub returns-then-found-k-clause-nth : goal.returns-then-found-k-clause-nth

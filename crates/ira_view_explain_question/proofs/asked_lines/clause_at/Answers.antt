@@ -12,7 +12,8 @@ loop-n-preserved g c = λ k d l at here. elim (cases_eq k c.loop-n.n) [
 
 pub returns-then-place : goal.returns-then-place
 returns-then-place g c =
-    let h = conjunct_there c.args.case.now c.loop-n.n c.place.result c.place.ensures in (h.0, h.1, h.2 ∙ c.if-place.true)
+    let h = conjunct_there c.args.case.now c.loop-n.n c.place.result c.place.ensures in
+    (h.0, h.1, h.2 ∙ c.if-place.true)
 
 pub returns : goal.returns
 returns g c =

@@ -95,7 +95,11 @@ returns-then-sections-gt-MAX_SECTIONS c =
       | then-eq w ↦
           (let same : line ≡ codes "section" =
           (bytes_decides line word).0 (sym c.eq.ensures ∙ w.if-eq.true) ∙ c.as_slice.ensures in
-          inl (omega (arith, many, w.sections-is, w.steps-is, before.few_sections), subst (IsLine text number) same here))
+          inl (
+            omega (arith, many, w.sections-is, w.steps-is, before.few_sections),
+            subst (IsLine text number) same
+                here,
+          ))
       | else-eq+then-starts_with w ↦
           (let begins = starts_is Decides-eqb line (codes "drop ") w.starts_with.result w.starts_with.ensures.value in
           inr (inl (

@@ -22,8 +22,8 @@ loop-number-preserved g c =
           )
       | in_default w ↦
           rw w.numbers-is (
-            sym (append-nil before) ∙ present_more found n (Absent w.in_default.field-0) before (here ∙ ap Some w.in_default.is)
-                c.loop-number.invariant.0,
+            sym (append-nil before) ∙ present_more found n (Absent w.in_default.field-0) before
+                (here ∙ ap Some w.in_default.is) c.loop-number.invariant.0,
             c.loop-number.invariant.1,
           )
     ]

@@ -7,11 +7,12 @@ use Rattle.ira_elim.specs.Found.{IsFound}
 use Rattle.ira_audit.proofs.Zipped.{zipped_at, zipped_length}
 use Rattle.ira_audit.specs.AskedQuestion.{AskedQuestion}
 use Rattle.ira_view_page.proofs.Adding.{◌&◌, holds, nothing_added}
-use Rattle.ira_view_explain.specs.Counts.{counts}
-use Rattle.ira_view_explain.specs.Refused.{AreParts, none}
+use Rattle.ira_view_page.specs.Counts.{counts}
+use Rattle.ira_view_page.specs.Parts.{AreParts, none}
 use Rattle.ira_view_explain_question.specs.ChosenCases.{chosen_cases, rest_text}
 use Rattle.ira_view_explain_question.specs.ExplainedCase.{IsCaseOf, TellsCaseOf}
-use Rattle.ira_view_explain_question.proofs.Explained.{listed_within, part_next, zipped_next}
+use Rattle.ira_view_explain_question.proofs.Explained.{listed_within, zipped_next}
+use Rattle.ira_view_page.proofs.Parts.{part_more}
 use Rattle.ira_view_explain_question.proofs.Told.{take_first}
 use Rattle.ira_view_explain_question.proofs.explain.explain_cases.Goals as goal
 
@@ -72,14 +73,15 @@ loop-number-preserved g c =
     let is_case : IsCaseOf files.question.now asked number value = (
       c.case-case.result.case.now,
       c.case-case.ensures.case,
-      rw (c.case-case.ensures.files, c.case-case.ensures.asked, c.case-case.ensures.number) at c.in_ok-asked_case.ensures,
+      rw (c.case-case.ensures.files, c.case-case.ensures.asked, c.case-case.ensures.number) at
+          c.in_ok-asked_case.ensures,
     ) in
     record {
-      cases = rw c.in_ok-push.ensures.items (zipped_next (IsCaseOf files.question.now asked) told i value c.loop-number.cases.items
-          c.loop-number-test.true so_far.cases is_case);
+      cases = rw c.in_ok-push.ensures.items (zipped_next (IsCaseOf files.question.now asked) told i value
+          c.loop-number.cases.items c.loop-number-test.true so_far.cases is_case);
       lines = so_far.lines ++ printed.0;
-      told = part_next (TellsCaseOf files asked found) told i so_far.lines printed.0 c.loop-number-test.true
-          so_far.told (c.index-found-number.result, at, printed.1);
+      told = part_more (TellsCaseOf files asked found) told i number 0 so_far.lines printed.0
+          c.loop-number-test.true refl so_far.told (c.index-found-number.result, at, printed.1);
       added = so_far.added & printed.2;
     }
 
@@ -104,8 +106,10 @@ returns g c =
       state_before = refl;
       evidence = c.new.ensures.items;
       hints = c.new-2.ensures.items;
-      cases = subst (λ (ns : List ℕ). AllZip (IsCaseOf files.question.now asked) ns c.loop-number.cases.items) same so_far.cases;
+      cases = subst (λ (ns : List ℕ). AllZip (IsCaseOf files.question.now asked) ns c.loop-number.cases.items) same
+          so_far.cases;
       lines = so_far.lines;
-      told = subst (λ (ns : List ℕ). AreParts (TellsCaseOf files asked c.args.found.now) ns so_far.lines) same so_far.told;
+      told = subst (λ (ns : List ℕ). AreParts (TellsCaseOf files asked c.args.found.now) ns so_far.lines) same
+          so_far.told;
       page = page ∙ ap (λ n. so_far.lines ++ rest_text c.args.named n (length asked.question.cases)) count;
     }

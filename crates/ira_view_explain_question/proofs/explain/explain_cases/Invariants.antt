@@ -1,7 +1,7 @@
 use Rattle.std.proofs.Common.{ℕ, List, take}
 use Rattle.std.specs.List.{AllZip}
 use Rattle.ira_view_page.specs.Page.{Added}
-use Rattle.ira_view_explain.specs.Refused.{AreParts}
+use Rattle.ira_view_page.specs.Parts.{AreParts}
 use Rattle.ira_view_explain_question.specs.ExplainedCase.{IsCaseOf, TellsCaseOf}
 use Rattle.ira_view_explain_question.proofs.explain.explain_cases.Given as goal
 

@@ -6,15 +6,15 @@ use Rattle.ira_view_explain_question.proofs.Explained.{all_ok, page_is}
 use Rattle.ira_view_explain_question.proofs.explain.explain_count.Goals as goal
 
 pub returns-clause-ring : goal.returns-clause-ring
-returns-clause-ring g c = rw (c.of.ensures, c.logs.ensures.value) at c.explanation.ensures.ring
+returns-clause-ring g c = rw (c.of.ensures, c.logs.ensures.value) at c.of_page.ensures.ring
 
 pub returns-clause-told : goal.returns-clause-told
 returns-clause-told g c =
     let ring = c.args.ring.now in
     let told = c.print_count.ensures in
     all_ok (λ x. x.state_before ≡ None) _ (λ x. AddedSome _ (Some x.page))
-    (IsCountExplained ring.files ring.asked.now c.args.certificate.now c.args.sections) c.explanation.result (λ x s e p.
-    let more = page_is x.page _ _ (c.page_after_answer-page.ensures & told.2) p in
+    (IsCountExplained ring.files ring.asked.now c.args.certificate.now c.args.sections) c.of_page.result (λ x s e p.
+    let more = page_is x.page _ _ (c.after_answer-page.ensures & told.2) p in
     record {
       state_before = s;
       told = rw e c.in_ok-evidence.ensures;
@@ -22,4 +22,4 @@ returns-clause-told g c =
       tells = told.1;
       more = more.0;
       page = more.1;
-    }) c.explanation.ensures.state c.explanation.ensures.evidence c.explanation.ensures.page
+    }) c.of_page.ensures.state c.of_page.ensures.evidence c.of_page.ensures.page

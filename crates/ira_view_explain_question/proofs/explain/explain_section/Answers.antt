@@ -6,7 +6,7 @@ use Rattle.ira_view_explain_question.proofs.Explained.{four_ok, page_is}
 use Rattle.ira_view_explain_question.proofs.explain.explain_section.Goals as goal
 
 pub returns-clause-ring : goal.returns-clause-ring
-returns-clause-ring g c = rw (c.of.ensures, c.logs.ensures.value) at c.explanation.ensures.ring
+returns-clause-ring g c = rw (c.of.ensures, c.logs.ensures.value) at c.of_page.ensures.ring
 
 pub returns-clause-told : goal.returns-clause-told
 returns-clause-told g c =
@@ -15,8 +15,8 @@ returns-clause-told g c =
     let told = rw (case.ensures.files, case.ensures.asked, case.ensures.number) at c.print.ensures in
     four_ok (λ x. x.state_before ≡ None) _ _ (λ x. AddedSome _ (Some x.page))
     (IsSectionExplained ring.files ring.asked.now c.args.certificate.now c.args.sections.now c.args.case c.args.fault)
-    c.explanation.result (λ x s e h p.
-    let more = page_is x.page _ _ (c.page_after_answer-page.ensures & told.2) p in
+    c.of_page.result (λ x s e h p.
+    let more = page_is x.page _ _ (c.after_answer-page.ensures & told.2) p in
     record {
       state_before = s;
       case = case.result.case.now;
@@ -29,4 +29,4 @@ returns-clause-told g c =
       tells = told.1;
       more = more.0;
       page = more.1;
-    }) c.explanation.ensures.state c.explanation.ensures.evidence c.explanation.ensures.hints c.explanation.ensures.page
+    }) c.of_page.ensures.state c.of_page.ensures.evidence c.of_page.ensures.hints c.of_page.ensures.page

@@ -24,8 +24,8 @@ returns-clause-told g c =
     ] in
     let printed = c.print_line.ensures in
     four_ok (λ x. x.state_before ≡ None) _ _ (λ x. AddedSome _ (Some x.page)) (IsSizeExplained c.args.file.now)
-    c.explanation.result (λ x s e h p.
-    let more = page_is x.page _ _ (c.page_after_answer-page.ensures & printed.2 & c.print_first_size.ensures.1) p in
+    c.of_page.result (λ x s e h p.
+    let more = page_is x.page _ _ (c.after_answer-page.ensures & printed.2 & c.print_first_size.ensures.1) p in
     record {
       state_before = s;
       line = line;
@@ -39,4 +39,4 @@ returns-clause-told g c =
       page = more.1
           ∙ regrouped (codes "\n" ++ line_text Named c.args.file.now.name.now 2 printed.0) c.print_first_size.ensures.0
           more.0;
-    }) c.explanation.ensures.state c.explanation.ensures.evidence c.explanation.ensures.hints c.explanation.ensures.page
+    }) c.of_page.ensures.state c.of_page.ensures.evidence c.of_page.ensures.hints c.of_page.ensures.page

@@ -10,8 +10,8 @@ returns-clause-told g c =
     let told = c.print.ensures in
     let one = c.in_ok-evidence.field-0 in
     all_ok (λ x. x.state_before ≡ None) _ (λ x. AddedSome _ (Some x.page))
-    (IsStopExplained c.args.file.now c.args.finding.stop) c.explanation.result (λ x s e p.
-    let more = page_is x.page _ _ (c.page_after_answer-page.ensures & told.2) p in
+    (IsStopExplained c.args.file.now c.args.finding.stop) c.of_page.result (λ x s e p.
+    let more = page_is x.page _ _ (c.after_answer-page.ensures & told.2) p in
     record {
       state_before = s;
       one = one;
@@ -21,4 +21,4 @@ returns-clause-told g c =
       tells = told.1;
       more = more.0;
       page = more.1;
-    }) c.explanation.ensures.state c.explanation.ensures.evidence c.explanation.ensures.page
+    }) c.of_page.ensures.state c.of_page.ensures.evidence c.of_page.ensures.page

@@ -2,7 +2,7 @@ use Rattle.std.proofs.Common.{◌≡◌, ℕ, Some, arith, length, refl, subst}
 use Rattle.std.specs.Prelude.{◌<◌, slice_get, slice_index_or}
 use Rattle.std.proofs.lemmas.Option.{slice_get-get_or, slice_get_read}
 use Rattle.ira_view_explain.specs.HeadsTold.{IsHeadTold}
-use Rattle.ira_view_explain.proofs.ForEach.{none_so_far, one_more}
+use Rattle.ira_view_page.proofs.ForEach.{none_so_far, one_more}
 use Rattle.ira_view_explain.proofs.heads_finding.HeadsFinding.evidence.Goals as goal
 
 pub loop-file-init : goal.loop-file-init

@@ -1,8 +1,9 @@
 use Rattle.std.proofs.Common.{refl}
 use Rattle.std.proofs.lemmas.List.{append_assoc}
 use Rattle.std.proofs.lemmas.Option.{slice_get-get_or}
-use Rattle.ira_view_explain.specs.Refused.{AreStuckTold, none}
-use Rattle.ira_view_explain.proofs.Parts.{parts_all, parts_more}
+use Rattle.ira_view_explain.specs.Refused.{AreStuckTold}
+use Rattle.ira_view_page.specs.Parts.{none}
+use Rattle.ira_view_page.proofs.Parts.{parts_all, parts_more}
 use Rattle.ira_view_explain.proofs.ring_files.RingFiles.stuck_evidence.Goals as goal
 
 pub loop-at-init : goal.loop-at-init

@@ -2,7 +2,8 @@ use Rattle.std.proofs.Common.{◌∙◌, List, [], ◌∷◌, ◌++◌, ap, subs
 use Rattle.std.proofs.lemmas.Option.{slice_get-get_or}
 use Rattle.ira_view_page.specs.declared.evidence.Evidence.TheVariants.{Faulty}
 use Rattle.ira_view_explain.specs.declared.steps_finding.OtherStop.{OtherStop}
-use Rattle.ira_view_explain.specs.Refused.{AreStepsTold, none}
+use Rattle.ira_view_explain.specs.Refused.{AreStepsTold}
+use Rattle.ira_view_page.specs.Parts.{none}
 use Rattle.ira_view_explain.proofs.Findings.{steps_all, steps_more}
 use Rattle.ira_view_explain.proofs.steps_finding.StepsFinding.evidence.Goals as goal
 

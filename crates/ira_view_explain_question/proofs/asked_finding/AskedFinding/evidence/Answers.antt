@@ -1,6 +1,6 @@
 use Rattle.std.proofs.Common.{ℕ, List, refl, subst}
 use Rattle.ira_view_page.proofs.Adding.{holds}
-use Rattle.ira_view_explain.specs.PointedLine.{IsPointed}
+use Rattle.ira_view_page.specs.PointedLine.{IsPointed}
 use Rattle.ira_view_explain_question.proofs.asked_finding.AskedFinding.evidence.Goals as goal
 
 pub returns-in_ok-quoted-in-Line : goal.returns-in_ok-quoted-in-Line

@@ -1,6 +1,6 @@
 use Rattle.std.proofs.Common.{◌≡◌, ◌<◌, ◌≤◌, ap, arith, inl, inr, length, refl, subst}
 use Rattle.ira_view_explain_question.specs.AskedLines.{clause_line}
-use Rattle.ira_view_explain.specs.PointedLine.{IsQuoted}
+use Rattle.ira_view_page.specs.PointedLine.{IsQuoted}
 use Rattle.ira_view_explain_question.proofs.asked_ring.AskedRing.missing_told.Goals as goal
 use Rattle.ira_view_explain_question.proofs.asked_ring.AskedRing.missing_told.Goals.{else-sections-cases}
 use Rattle.ira_view_explain_question.proofs.asked_ring.AskedRing.missing_told.Goals.{then-sections-cases+in_ok-line+in_ok-push}

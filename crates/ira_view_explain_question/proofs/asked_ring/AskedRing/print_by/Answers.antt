@@ -16,6 +16,7 @@ returns g c =
     let e = c.args.elimination in
     let nodes = c.get-nodes.ensures.value ∙ c.size.ensures.value ∙ ap length c.logs.ensures.value in
     let messages = c.links_between.ensures ∙ ap (λ n. links_between n e.node e.other) nodes in
-    c.begin.ensures & c.numbered.ensures & c.words.ensures & c.number.ensures & c.print_event.ensures & c.words-2.ensures
+    c.begin.ensures & c.numbered.ensures & c.words.ensures & c.number.ensures & c.print_event.ensures
+    & c.words-2.ensures
     & added_as (ap (λ n. number_of_text n (codes "message")) messages) c.number_of.ensures
     & c.end.ensures

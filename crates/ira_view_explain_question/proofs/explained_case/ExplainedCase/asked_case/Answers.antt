@@ -1,5 +1,5 @@
 use Rattle.std.proofs.Common.{arith, refl}
-use Rattle.ira_view_explain.proofs.ForEach.{all_are, none_so_far, one_more}
+use Rattle.ira_view_page.proofs.ForEach.{all_are, none_so_far, one_more}
 use Rattle.ira_view_explain_question.proofs.explained_case.ExplainedCase.asked_case.Goals as goal
 
 pub loop-n-init : goal.loop-n-init

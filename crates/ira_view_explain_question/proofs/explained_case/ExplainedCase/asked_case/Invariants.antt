@@ -1,4 +1,4 @@
-use Rattle.ira_view_explain.proofs.ForEach.{AreSoFar}
+use Rattle.ira_view_page.proofs.ForEach.{AreSoFar}
 use Rattle.ira_view_explain_question.specs.ExplainedCase.{IsAskedNode}
 use Rattle.ira_view_explain_question.proofs.explained_case.ExplainedCase.asked_case.Given as goal
 

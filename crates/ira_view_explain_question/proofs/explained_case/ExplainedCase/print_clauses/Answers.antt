@@ -14,8 +14,8 @@ loop-n-preserved g c =
     let case = c.args.self.now in
     let so_far = c.loop-n.invariant in
     let line = c.spelling.result.now in
-    let more = clauses_more case.ring.now.files.question.now case.ring.now.asked.now.question.cases case.number c.loop-n.n
-    so_far.0 line so_far.1 c.spelling.ensures in
+    let more = clauses_more case.ring.now.files.question.now case.ring.now.asked.now.question.cases case.number
+    c.loop-n.n so_far.0 line so_far.1 c.spelling.ensures in
     elim c.if-n-gt0.branch [
       | then-n-gt0 w ↦ (
         so_far.0 ++ line ∷ [],

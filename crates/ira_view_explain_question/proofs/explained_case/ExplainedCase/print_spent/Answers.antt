@@ -16,8 +16,8 @@ returns g c =
     ∙ sym c.eliminates.ensures in
     let at = c.in-Some.ensures in
     let case = c.args.self.now in
-    let asked : IsAskedOf case.ring.now.files.question.now case.ring.now.asked.now.question.cases case.number case.case.now
-    c.args.absence.now.spent c.clause-asked.result.now = record {
+    let asked : IsAskedOf case.ring.now.files.question.now case.ring.now.asked.now.question.cases case.number
+    case.case.now c.args.absence.now.spent c.clause-asked.result.now = record {
       n = c.in-Some.n;
       conjunct = at.0;
       is_there = at.1;

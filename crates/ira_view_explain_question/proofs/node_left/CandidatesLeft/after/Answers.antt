@@ -7,9 +7,9 @@ use Rattle.ira_pred.specs.Clause.{formula}
 use Rattle.ira_cert.proofs.CaseQueues.{conjunct_there}
 use Rattle.ira_cert.specs.Conjuncts.{CandidatesOf}
 use Rattle.ira_cert.specs.Front.{made}
-use Rattle.ira_view_explain.specs.HeadsTold.{AreOneForEach}
+use Rattle.ira_view_page.specs.Parts.{AreOneForEach}
 use Rattle.ira_view_explain_question.proofs.Candidates.{are_candidates, left_is, left_there, state_there}
-use Rattle.ira_view_explain.proofs.ForEach.{all_are, one_more}
+use Rattle.ira_view_page.proofs.ForEach.{all_are, one_more}
 use Rattle.ira_view_explain_question.proofs.Told.{take_first}
 use Rattle.ira_view_explain_question.specs.NodeLeft.{AreLeft, IsStateAfter}
 use Rattle.ira_view_explain_question.proofs.node_left.CandidatesLeft.after.Goals as goal

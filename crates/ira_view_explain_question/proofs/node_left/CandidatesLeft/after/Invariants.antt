@@ -1,5 +1,5 @@
 use Rattle.std.proofs.Common.{◌≡◌}
-use Rattle.ira_view_explain.proofs.ForEach.{AreSoFar}
+use Rattle.ira_view_page.proofs.ForEach.{AreSoFar}
 use Rattle.ira_view_explain_question.specs.NodeLeft.{IsStateAfter}
 use Rattle.ira_view_explain_question.proofs.node_left.CandidatesLeft.after.Given as goal
 

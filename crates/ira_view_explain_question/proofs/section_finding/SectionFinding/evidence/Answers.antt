@@ -1,10 +1,10 @@
 use Rattle.std.proofs.Common.{◌∙◌, ◌++◌, ◌∷◌, [], List, ap, append-nil, refl, subst, sym}
 use Rattle.std.proofs.lemmas.List.{take_all}
 use Rattle.ira_view_page.specs.declared.evidence.Evidence.TheVariants.{Front}
-use Rattle.ira_view_explain.specs.Refused.{AreParts, none}
+use Rattle.ira_view_page.specs.Parts.{AreParts, none}
 use Rattle.ira_view_explain_question.specs.declared.node_left.NodeLeft.{NodeLeft}
 use Rattle.ira_view_explain_question.specs.SectionFinding.{IsFrontTold, line_told}
-use Rattle.ira_view_explain_question.proofs.Explained.{part_more}
+use Rattle.ira_view_page.proofs.Parts.{part_more}
 use Rattle.ira_view_explain_question.proofs.Sections.{front_told, no_front_told}
 use Rattle.ira_view_explain_question.proofs.section_finding.SectionFinding.evidence.Goals as goal
 use Rattle.ira_view_explain_question.proofs.section_finding.SectionFinding.evidence.Goals.{in_default}
@@ -27,8 +27,8 @@ loop-left-preserved g c =
             so_far.0,
             so_far.1,
             so_far.2 ++ Front w.in-Some.front ∷ [],
-            part_more IsFrontTold items c.loop-left.left-index left so_far.2 _ c.loop-left-test.true c.left-item.is so_far.3
-                told,
+            part_more IsFrontTold items c.loop-left.left-index left left so_far.2 _ c.loop-left-test.true c.left-item.is
+                so_far.3 told,
             rw w.told-is (w.in_ok-push-2.ensures.items ∙ ap (λ es. es ++ Front w.in-Some.front ∷ []) so_far.4),
           ))
       | in_default w ↦
@@ -36,8 +36,8 @@ loop-left-preserved g c =
             so_far.0,
             so_far.1,
             so_far.2 ++ [],
-            part_more IsFrontTold items c.loop-left.left-index left so_far.2 [] c.loop-left-test.true c.left-item.is so_far.3
-                told,
+            part_more IsFrontTold items c.loop-left.left-index left left so_far.2 [] c.loop-left-test.true c.left-item.is
+                so_far.3 told,
             rw w.told-is (so_far.4 ∙ ap (λ es. line ∷ es) (sym (append-nil so_far.2))),
           ))
     ]

@@ -1,7 +1,7 @@
 use Rattle.std.proofs.Common.{◌≡◌, ◌∷◌, List, take}
 use Rattle.std.specs.Prelude.{String, string_bytes}
 use Rattle.ira_view_page.specs.declared.evidence.Evidence.{Evidence}
-use Rattle.ira_view_explain.specs.Refused.{AreParts}
+use Rattle.ira_view_page.specs.Parts.{AreParts}
 use Rattle.ira_view_explain_question.specs.SectionFinding.{IsFrontTold, line_told}
 use Rattle.ira_view_explain_question.proofs.section_finding.SectionFinding.evidence.Given as goal
 

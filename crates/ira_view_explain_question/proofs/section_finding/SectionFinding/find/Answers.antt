@@ -39,7 +39,8 @@ returns g c =
       fault = fault;
       stop = elim c.match-fault.branch [
         | in-Step w ↦
-            (let within = step_within logs case.case.now section w.in-Step.number w.in-Step.why (rw w.in-Step.is at fault) in
+            (let within = step_within logs case.case.now section w.in-Step.number w.in-Step.why
+            (rw w.in-Step.is at fault) in
             let step = w.index-step.result.now in
             let read = w.index-step.ensures ∙ ap (λ (xs : List CertStep). get_or xs w.in-Step.number step) items in
             let there = slice_get-get_or section.steps w.in-Step.number step within

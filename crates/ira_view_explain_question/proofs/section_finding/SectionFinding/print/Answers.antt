@@ -2,10 +2,10 @@ use Rattle.std.proofs.Common.{◌≡◌, ◌∙◌, ◌++◌, [], List, Some, ap
 use Rattle.std.proofs.lemmas.List.{take_all}
 use Rattle.std.proofs.lemmas.Option.{slice_get-get_or}
 use Rattle.ira_view_page.proofs.Adding.{◌&◌, nothing_added}
-use Rattle.ira_view_explain.specs.Refused.{AreParts, none}
+use Rattle.ira_view_page.specs.Parts.{AreParts, none}
 use Rattle.ira_view_explain_question.specs.declared.node_left.NodeLeft.{NodeLeft}
 use Rattle.ira_view_explain_question.specs.SectionFinding.{TellsLeft}
-use Rattle.ira_view_explain_question.proofs.Explained.{part_more}
+use Rattle.ira_view_page.proofs.Parts.{part_more}
 use Rattle.ira_view_explain_question.proofs.Sections.{left_of}
 use Rattle.ira_view_explain_question.proofs.section_finding.SectionFinding.print.Goals as goal
 use Rattle.ira_view_explain_question.proofs.section_finding.SectionFinding.print.Goals.{in-Spent, in-Step}
@@ -54,14 +54,14 @@ loop-left-preserved g c =
       | in-Step w ↦
           (let told = w.print_first.ensures in (
             so_far.0 ++ told.0,
-            part_more tells c.deref-left-items.result.now c.loop-left.left-index left so_far.0 told.0
+            part_more tells c.deref-left-items.result.now c.loop-left.left-index left left so_far.0 told.0
                 c.loop-left-test.true c.left-item.is so_far.1 (rw w.in-Step.is told.1),
             rw w.page-is (so_far.2 & told.2),
           ))
       | in-Spent w ↦
           (let told = w.print_all.ensures in (
             so_far.0 ++ told.0,
-            part_more tells c.deref-left-items.result.now c.loop-left.left-index left so_far.0 told.0
+            part_more tells c.deref-left-items.result.now c.loop-left.left-index left left so_far.0 told.0
                 c.loop-left-test.true c.left-item.is so_far.1 (rw w.in-Spent.is told.1),
             rw w.page-is (so_far.2 & told.2),
           ))

@@ -1,6 +1,6 @@
 use Rattle.std.proofs.Common.{ℕ, List, take}
 use Rattle.ira_view_page.specs.Page.{Added}
-use Rattle.ira_view_explain.specs.Refused.{AreParts}
+use Rattle.ira_view_page.specs.Parts.{AreParts}
 use Rattle.ira_view_explain_question.specs.SectionFinding.{TellsLeft}
 use Rattle.ira_view_explain_question.proofs.section_finding.SectionFinding.print.Given as goal
 
