@@ -1,4 +1,1 @@
-pub mod Printed
-pub mod Served
-pub mod Shown
 pub mod Written

@@ -5,7 +5,7 @@ use Rattle.std.proofs.lemmas.List.Folds.{flat_map-map}
 use Rattle.std.specs.List.{flat_map}
 use Rattle.std.specs.Prelude.{slice_set}
 use Rattle.ira_event.specs.Sink.{Memory}
-use Rattle.ira_web.specs.Reply.{Begins, HasNoRoom, IsTold}
+use Rattle.ira_web.specs.Told.{Begins, HasNoRoom, IsTold}
 
 -- the first item is set
 pub first_set : (xs : List ℕ) (x n : ℕ) → n < length xs → (n < length (slice_set xs 0 x)) × (take 1 (slice_set xs 0 x) ≡ x ∷ [])

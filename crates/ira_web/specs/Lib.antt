@@ -1,15 +1,5 @@
-pub mod AskedMoment
-pub mod AskedRun
-pub mod Check
-pub mod Decide
-pub mod Explain
-pub mod ExplainQuestion
 pub mod Files
-pub mod Mend
-pub mod Pairs
-pub mod Reply
 pub mod Request
-pub mod Run
 pub mod Serves
-pub mod Show
-pub mod Upgrade
+pub mod Spelling
+pub mod Told

@@ -1,12 +1,12 @@
 ghost use types.Logic.{sem};
 ghost use Rattle.std.specs.Prelude.{◌≡◌, IfOk, IfSome};
 ghost use Rattle.ira_lent.specs.Room.{lies_free};
-ghost use Rattle.ira_web.specs.Serves.{IsAnswered, MayBeServed};
+ghost use Rattle.ira_web.specs.Serves.{IsAnsweredAs, MayBeServed};
 
 use crate::files::read_files;
-use crate::reply::Reply;
 use crate::request::Request;
 use crate::serve::serve;
+use crate::told::Told;
 use ira_event::OutOfMemory;
 use ira_lent::{Lent, Room};
 use ira_view::Status;
@@ -54,9 +54,9 @@ fn serve_in(
 {
     let lent = Lent::new(room);
     match answer(&lent, values, bytes, lengths) {
-        Ok(Some(reply)) => {
-            if reply.tell(out, sizes) {
-                u32::from(reply.status().number())
+        Ok(Some(told)) => {
+            if told.tell(out, sizes) {
+                u32::from(told.status().number())
             } else {
                 NO_ROOM
             }
@@ -66,14 +66,14 @@ fn serve_in(
     }
 }
 
-/// What comes of the request of these values and files, if it is one.
+/// What comes of the request of these values and files, in parts, if it is one.
 fn answer<'a>(
     lent: &'a Lent,
     values: &[u64],
     bytes: &[u8],
     lengths: &[usize],
-) -> Result<Option<Reply<&'a Lent>>, OutOfMemory>
-    ensures { IfOk result (λ answered. IfSome answered (IsAnswered values.now lengths.now bytes.now)) }
+) -> Result<Option<Told<&'a Lent>>, OutOfMemory>
+    ensures { IfOk result (λ answered. IfSome answered (IsAnsweredAs values.now lengths.now bytes.now)) }
 {
     let Some(request) = Request::of_values(values) else {
         return Ok(None);
@@ -81,5 +81,8 @@ fn answer<'a>(
     let Some(files) = read_files(lent, lengths, bytes)? else {
         return Ok(None);
     };
-    serve(lent, &request, &files)
+    let Some(reply) = serve(lent, &request, &files)? else {
+        return Ok(None);
+    };
+    Ok(Some(Told::of_reply(lent, reply)?))
 }

@@ -2,23 +2,10 @@
 //! would print and write of it.
 #![tactic(auto)]
 
-mod asked_moment;
-mod asked_run;
-mod check;
-mod decide;
-mod explain;
-mod explain_check;
-mod explain_question;
+mod commands;
 mod export;
 mod files;
 mod judged;
-mod logs;
-mod mend;
-mod pairs;
-mod reply;
 mod request;
-mod ring_form;
-mod run;
 mod serve;
-mod show;
-mod upgrade;
+mod told;

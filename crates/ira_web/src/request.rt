@@ -1,9 +1,67 @@
-ghost use Rattle.std.specs.Prelude.{◌≡◌, ◌++◌, IfSome};
-ghost use Rattle.ira_web.specs.Request.{form_values, json_values, lines_values, values_of};
+ghost use Rattle.std.specs.Prelude.{◌≡◌, ◌++◌, ◌∷◌, IfSome};
+ghost use Rattle.ira_web.specs.Request.{AreColumns, HasValues, json_values, lines_values};
+ghost use Rattle.ira_web.specs.Spelling.{AreMomentFiles, moment_values, run_values};
 
-use crate::asked_moment::AskedMoment;
-use crate::asked_run::AskedRun;
-use crate::ring_form::RingForm;
+use ira_commands::{AskedMoment, AskedRun, RingForm};
+use ira_view_page::NamedText;
+use ira_view_picture::ColumnRange;
+
+/// The moment of these values, if they are those of one.
+fn moment_of(values: &[u64]) -> Option<AskedMoment<'_>>
+    ensures { IfSome result (λ moment. moment_values moment ≡ values.now) }
+{
+    match values {
+        [] => Some(AskedMoment::AtEnd),
+        [1, events @ ..] => Some(AskedMoment::AtCut(events)),
+        [2] => Some(AskedMoment::OfQuestion(None)),
+        [2, case] => Some(AskedMoment::OfQuestion(Some(*case))),
+        _ => None,
+    }
+}
+
+/// The run of these values, if they are those of one.
+fn run_of(values: &[u64]) -> Option<AskedRun>
+    ensures { IfSome result (λ asked. run_values asked ≡ values.now) }
+{
+    let [nodes, initiators, seed, draws, cap, terms] = values else {
+        return None;
+    };
+    Some(AskedRun {
+        nodes: *nodes,
+        initiators: *initiators,
+        seed: *seed,
+        draws: u32::try_from(*draws).ok()?,
+        cap: *cap,
+        terms: *terms,
+    })
+}
+
+/// The columns from one to another.
+fn columns(from: u64, to: u64) -> ColumnRange
+    ensures { AreColumns result from to }
+{
+    ColumnRange {
+        from: Some(from),
+        to: Some(to),
+    }
+}
+
+/// The text of the question whose first moment is asked for, no bytes where none is, and the files of the logs; nothing where
+/// there is no file of the question.
+pub(crate) fn split_moment<'f, 't>(
+    moment: &AskedMoment<'_>,
+    files: &'f [NamedText<'t>],
+) -> Option<(&'t [u8], &'f [NamedText<'t>])>
+    ensures { IfSome result (λ parts. AreMomentFiles moment.now parts.0.now files.now parts.1.now) }
+{
+    match moment {
+        AskedMoment::OfQuestion(_) => {
+            let (question, logs) = files.split_first()?;
+            Some((question.text, logs))
+        }
+        AskedMoment::AtEnd | AskedMoment::AtCut(_) => Some((b"", files)),
+    }
+}
 
 /// What a page asks for.
 #[derive(Clone, Copy)]
@@ -41,29 +99,17 @@ pub(crate) enum Request<'v> {
 impl<'v> Request<'v> {
     /// The request of these values, if they are those of one.
     pub(crate) fn of_values(values: &'v [u64]) -> Option<Request<'v>>
-        ensures { IfSome result (λ request. values_of request ≡ values.now) }
+        ensures { IfSome result (λ request. HasValues request values.now) }
     {
         match values {
             [0] => Some(Request::OneLog),
-            [8, from, to, moment @ ..] => {
-                let form = RingForm::Picture {
-                    from: *from,
-                    to: *to,
-                };
-                Request::show(form, moment)
-            }
+            [8, from, to, moment @ ..] => Request::picture(*from, *to, moment),
             [11, nodes] => Some(Request::Pairs(*nodes)),
             [12] => Some(Request::Upgrade),
             [13, 0] => Some(Request::Mend(false)),
             [13, 1] => Some(Request::Mend(true)),
-            [14, run @ ..] => Some(Request::Run(AskedRun::of_values(run)?)),
-            [15, from, to, moment @ ..] => {
-                let form = RingForm::Html {
-                    from: *from,
-                    to: *to,
-                };
-                Request::show(form, moment)
-            }
+            [14, run @ ..] => Some(Request::Run(run_of(run)?)),
+            [15, from, to, moment @ ..] => Request::html(*from, *to, moment),
             [16, told @ ..] => Request::told(true, told),
             told => Request::told(false, told),
         }
@@ -71,7 +117,7 @@ impl<'v> Request<'v> {
 
     /// The request of these values, if they are those of one that is answered for a person or as JSON.
     fn told(is_json: bool, values: &'v [u64]) -> Option<Request<'v>>
-        ensures { IfSome result (λ request. values_of request ≡ json_values is_json ++ values.now) }
+        ensures { IfSome result (λ request. HasValues request (json_values is_json ++ values.now)) }
     {
         match values {
             [1] => Some(Request::Logs { is_json }),
@@ -97,19 +143,28 @@ impl<'v> Request<'v> {
     /// A ring as lines, at the moment of these values, if they are those of one.
     fn lines(is_json: bool, has_events: bool, moment: &'v [u64]) -> Option<Request<'v>>
         ensures { IfSome result (λ request.
-            values_of request ≡ (json_values is_json ++ lines_values has_events) ++ moment.now) }
+            HasValues request ((json_values is_json ++ lines_values has_events) ++ moment.now)) }
     {
         let form = RingForm::Lines {
             is_json,
             has_events,
         };
-        Request::show(form, moment)
+        Some(Request::Show(form, moment_of(moment)?))
     }
 
-    /// A ring in this form at the moment of these values, if they are those of one.
-    fn show(form: RingForm, moment: &'v [u64]) -> Option<Request<'v>>
-        ensures { IfSome result (λ request. values_of request ≡ form_values form ++ moment.now) }
+    /// A picture from one column to another, at the moment of these values, if they are those of one.
+    fn picture(from: u64, to: u64, moment: &'v [u64]) -> Option<Request<'v>>
+        ensures { IfSome result (λ request. HasValues request (8 ∷ from ∷ to ∷ moment.now)) }
     {
-        Some(Request::Show(form, AskedMoment::of_values(moment)?))
+        let form = RingForm::Picture(columns(from, to));
+        Some(Request::Show(form, moment_of(moment)?))
+    }
+
+    /// A page to move in such a picture.
+    fn html(from: u64, to: u64, moment: &'v [u64]) -> Option<Request<'v>>
+        ensures { IfSome result (λ request. HasValues request (15 ∷ from ∷ to ∷ moment.now)) }
+    {
+        let form = RingForm::Html(columns(from, to));
+        Some(Request::Show(form, moment_of(moment)?))
     }
 }

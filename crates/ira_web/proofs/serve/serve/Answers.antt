@@ -11,6 +11,9 @@ pub returns-in_ok-ask_pairs-in-Pairs : goal.returns-in_ok-ask_pairs-in-Pairs
 returns-in_ok-ask_pairs-in-Pairs g c =
     rw c.in-Pairs.is (none c.args.files.now c.in-empty.len_below, c.in_ok-ask_pairs-in-Pairs.ensures)
 
-pub returns-in_ok-run_ring-in-Run : goal.returns-in_ok-run_ring-in-Run
-returns-in_ok-run_ring-in-Run g c =
-    rw c.in-Run.is (none c.args.files.now c.in-empty-files.len_below, c.in_ok-run_ring-in-Run.ensures)
+pub returns-in_ok-run_asked-in-Run : goal.returns-in_ok-run_asked-in-Run
+returns-in_ok-run_asked-in-Run g c =
+    rw c.in-Run.is (none c.args.files.now c.in-empty-files.len_below, c.in_ok-run_asked-in-Run.ensures)
+
+pub returns-in-Show : goal.returns-in-Show
+returns-in-Show g c = rw c.in-Show.is c.show.ensures

@@ -1,0 +1,4 @@
+pub mod Printed
+pub mod Runs
+pub mod Served
+pub mod Shown

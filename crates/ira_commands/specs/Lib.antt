@@ -1,0 +1,14 @@
+pub mod AskedMoment
+pub mod AskedRun
+pub mod Check
+pub mod CommandFault
+pub mod Decide
+pub mod Explain
+pub mod ExplainQuestion
+pub mod Judging
+pub mod Mend
+pub mod Pairs
+pub mod Reply
+pub mod Run
+pub mod Show
+pub mod Upgrade

@@ -1,0 +1,128 @@
+-- What comes of showing or drawing a ring at a moment.
+use Rattle.std.specs.Prelude.{◌≡◌, ℕ, Bool, true, false, List, ◌++◌, Result, Ok, Err, None, ⊤}
+use Rattle.ira_event.specs.Log.{Log}
+use Rattle.ira_audit.specs.GoodLogs.{AreGoodLogs}
+use Rattle.ira_audit.specs.LogTexts.{AreLogTexts}
+use Rattle.ira_audit.specs.Refusal.{IsLogsReason, IsRingReason}
+use Rattle.ira_audit.specs.RefusedLogs.{AreRefused, RefusedLogs}
+use Rattle.ira_audit.specs.Report.{IsReportableReason, report_line}
+use Rattle.ira_audit.specs.declared.answer.Answer.{Answer}
+use Rattle.ira_audit.specs.declared.answer.Answer.TheVariants as answer
+use Rattle.ira_audit.specs.declared.judged.Judged.{Judged}
+use Rattle.ira_audit.specs.declared.reason.Reason.{Reason}
+use Rattle.ira_view_draw.specs.Drawing.{IsRefusedDrawing}
+use Rattle.ira_view_page.specs.Printable.{IsPrintable}
+use Rattle.ira_view_page.specs.declared.named_text.NamedText.{NamedText}
+use Rattle.ira_view_picture.specs.DrawFault.{HasTooManyEvents}
+use Rattle.ira_view_picture.specs.declared.draw_fault.DrawFault.{DrawFault}
+use Rattle.ira_view_picture.specs.declared.draw_fault.DrawFault.TheVariants as draw
+use Rattle.ira_view.specs.Html.{IsHtmlOf, IsJudgedTold, IsRefusalTold, IsRingHtml}
+use Rattle.ira_view.specs.ShownRing.{AreEventsOf, AreJsonLines, HasTooManyAt, IsPageOf, IsPictureOf, ShownRing}
+use Rattle.ira_view.specs.Status.{answer_status}
+use Rattle.ira_view.specs.Texts.{AreFiles}
+use Rattle.ira_view.specs.declared.ring_fault.RingFault.{RingFault}
+use Rattle.ira_view.specs.declared.ring_fault.RingFault.TheVariants as fault
+use Rattle.ira_view.specs.declared.status.Status.TheVariants.{Yes}
+use Rattle.ira_commands.specs.AskedMoment.{IsAskedRing, IsNoAskedRing}
+use Rattle.ira_commands.specs.Reply.{Prints, Reply, ReportsAs, printed, refused, with_files}
+use Rattle.ira_commands.specs.Reply.MadeFiles.{one_text}
+use Rattle.ira_commands.specs.declared.asked_moment.AskedMoment.{AskedMoment}
+use Rattle.ira_commands.specs.declared.command_fault.CommandFault.TheVariants.{NoMoment, TooManyEvents}
+use Rattle.ira_commands.specs.declared.ring_form.RingForm.{RingForm}
+use Rattle.ira_commands.specs.declared.ring_form.RingForm.TheVariants.{Html, Lines, Picture}
+
+-- such a text is printed after the line of a yes
+abbrev pub PrintsYes : (List ℕ → Type 0) → Reply → Type 0
+PrintsYes IsText reply =
+    (text : List ℕ) × IsText text × (reply ≡ printed Yes (report_line answer.Yes ++ text))
+
+-- such a picture, which is printable, is a file, and the line of the answer is printed; or so many events are too many for a
+-- picture, and that is refused
+pub data Draws (answer : Answer) (IsPicture : List ℕ → Type 0) (AreTooMany : ℕ → Type 0) (reply : Reply) : Type 0 where
+  drawn : (picture : List ℕ) → IsPrintable picture → IsPicture picture
+      → reply ≡ with_files (printed (answer_status answer) (report_line answer)) (one_text picture)
+      → Draws answer IsPicture AreTooMany reply
+  too_many : (events : ℕ) → AreTooMany events → reply ≡ refused (TooManyEvents events)
+      → Draws answer IsPicture AreTooMany reply
+
+-- lines on a ring are printed: as JSON, where that is wanted; or else all events in an order, where these are wanted, or what
+-- it looks like at its moment
+abbrev pub PrintsLines : Bool → Bool → ShownRing → Reply → Type 0
+PrintsLines true has_events ring = Prints (AreJsonLines has_events None ring Yes) Yes
+PrintsLines false true ring = PrintsYes (AreEventsOf ring)
+PrintsLines false false ring = PrintsYes (IsPageOf ring)
+
+-- a ring is told in a form
+abbrev pub TellsRing : RingForm → ShownRing → Reply → Type 0
+TellsRing (Lines is_json has_events) ring = PrintsLines is_json has_events ring
+TellsRing (Picture columns) ring =
+    Draws answer.Yes (IsPictureOf ring columns.from columns.to) (HasTooManyAt ring columns.from columns.to)
+TellsRing (Html columns) ring =
+    Draws answer.Yes (IsRingHtml ring columns.from columns.to) (HasTooManyAt ring columns.from columns.to)
+
+-- JSON is wanted
+abbrev pub wants_json : RingForm → Bool
+wants_json (Lines is_json has_events) = is_json
+wants_json (Picture columns) = false
+wants_json (Html columns) = false
+
+-- the lines of JSON that a page tells of refused logs, in files of these names and with these texts
+abbrev pub IsRefusalToldOf : Type 0 → List (List ℕ) → List (List ℕ) → RefusedLogs → List ℕ → Type 0
+IsRefusalToldOf A names texts refused told =
+    (files : List NamedText) × AreFiles names texts files × IsRefusalTold A files refused told
+
+-- logs that are those of no run, in files of these names and with these texts, are told in a form: there is a picture of
+-- them, or a page, and else their answer alone
+abbrev pub TellsRefused : Type 0 → RingForm → List (List ℕ) → List (List ℕ) → RefusedLogs → Reply → Type 0
+TellsRefused A (Lines is_json has_events) names texts logs = ReportsAs is_json (answer.No logs.reason)
+TellsRefused A (Picture columns) names texts logs =
+    Draws (answer.No logs.reason) (IsRefusedDrawing logs.logs columns.from columns.to)
+    (HasTooManyEvents logs.logs None columns.from columns.to)
+TellsRefused A (Html columns) names texts logs =
+    Draws (answer.No logs.reason)
+    (IsHtmlOf (IsRefusedDrawing logs.logs columns.from columns.to) (IsRefusalToldOf A names texts logs))
+    (HasTooManyEvents logs.logs None columns.from columns.to)
+
+-- why there is no such moment: the reason against the question is the answer, or numbers that are no consistent cut are
+-- refused
+abbrev pub TellsFault : Bool → RingFault → Reply → Type 0
+TellsFault is_json (fault.No r) reply = ReportsAs is_json (answer.No r) reply
+TellsFault is_json (fault.Cut f) reply = reply ≡ refused (NoMoment f)
+TellsFault is_json fault.OutOfMemory reply = ⊥
+
+-- what comes of the texts of files of these names and of the text of a question. They are those of good logs, and the ring is
+-- told at the moment that is asked for, or why there is no such moment; or they are those of other logs of one ring; or this
+-- is why they are those of no ring's logs
+pub data ShowsLogs (A : Type 0) (form : RingForm) (moment : AskedMoment) (question : List ℕ) (names texts : List (List ℕ))
+    (reply : Reply) : Type 0 where
+  shown : (logs : List Log) (ring : ShownRing) → AreGoodLogs texts logs → IsAskedRing logs moment question ring
+      → TellsRing form ring reply → ShowsLogs A form moment question names texts reply
+  no_moment : (logs : List Log) (f : RingFault) → AreGoodLogs texts logs
+      → IsNoAskedRing logs moment question f → TellsFault (wants_json form) f reply
+      → ShowsLogs A form moment question names texts reply
+  no_run : (logs : RefusedLogs) → AreLogTexts texts logs.logs → AreRefused logs
+      → IsLogsReason texts logs.reason → TellsRefused A form names texts logs reply
+      → ShowsLogs A form moment question names texts reply
+  no_ring : (r : Reason) → IsRingReason texts r → ReportsAs (wants_json form) (answer.No r) reply
+      → ShowsLogs A form moment question names texts reply
+
+-- ---- Helpers, no definitions.
+
+-- what a page tells of logs that were judged, in files of these names and with these texts, where one is asked for
+abbrev pub IsToldOf : {A : Type 0} → RingForm → List (List ℕ) → List (List ℕ) → Judged A → List ℕ → Type 0
+IsToldOf (Html columns) names texts judged told =
+    (files : List NamedText) × AreFiles names texts files × IsJudgedTold files judged told
+IsToldOf form names texts judged told = ⊤
+
+-- the reason, if it is one, doesn't say that memory ran out
+abbrev pub IsReportableFault : RingFault → Type 0
+IsReportableFault (fault.No r) = IsReportableReason r
+IsReportableFault (fault.Cut f) = ⊤
+IsReportableFault fault.OutOfMemory = ⊤
+
+-- a picture is a file, and the line of the answer is printed; or the events are too many for one
+abbrev pub TellsPicture : Answer → Result (List ℕ) DrawFault → Reply → Type 0
+TellsPicture answer (Ok picture) reply =
+    reply ≡ with_files (printed (answer_status answer) (report_line answer)) (one_text picture)
+TellsPicture answer (Err (draw.TooManyEvents events)) reply = reply ≡ refused (TooManyEvents events)
+TellsPicture answer (Err draw.OutOfMemory) reply = ⊥

@@ -1,0 +1,56 @@
+ghost use Rattle.std.specs.Prelude.{IfOk};
+ghost use Rattle.ira_audit.specs.Judged.{IsJudged};
+ghost use Rattle.ira_audit.specs.Report.{IsReportable};
+ghost use Rattle.ira_view.specs.Texts.{texts_of};
+ghost use Rattle.ira_commands.specs.Explain.{ExplainsLog, ExplainsLogs};
+ghost use Rattle.ira_commands.specs.Judging.{JudgesLog, JudgesLogs};
+ghost use Rattle.ira_commands.specs.Reply.{ExplainsAs};
+
+use crate::reply::Reply;
+use ira_audit::Judged;
+use ira_event::{MemorySink, OutOfMemory};
+use ira_view::{Status, View, explain_text, explain_texts, write_view_as};
+use ira_view_page::NamedText;
+use std::alloc::Allocator;
+
+/// An answer, and why it is so, as JSON where that is wanted.
+pub fn tell_view<A: Allocator + Clone>(
+    alloc: A,
+    is_json: bool,
+    view: &View<A>,
+) -> Result<Reply<A>, OutOfMemory>
+    requires { IsReportable view.now.answer }
+    ensures { IfOk result (ExplainsAs is_json view.now.explanation view.now.answer) }
+{
+    let mut text = MemorySink::new(alloc.clone()?);
+    let Ok(()) = write_view_as(alloc, is_json, view, &mut text) else {
+        return Err(OutOfMemory);
+    };
+    Ok(Reply::printed(Status::of_answer(&view.answer), text))
+}
+
+/// The answer of the text of one log alone, and why it is so.
+pub fn explain_one<A: Allocator + Clone>(
+    alloc: A,
+    is_json: bool,
+    log: &NamedText<'_>,
+) -> Result<Reply<A>, OutOfMemory>
+    ensures { IfOk result (JudgesLog (ExplainsLog A is_json log.now) log.now.text.now) }
+{
+    let view = explain_text(alloc.clone()?, log)?;
+    tell_view(alloc, is_json, &view)
+}
+
+/// The answer of the logs of a ring in these files, and why it is so.
+pub fn explain_all<A: Allocator + Clone>(
+    alloc: A,
+    is_json: bool,
+    logs: &[NamedText<'_>],
+    judged: &Judged<A>,
+) -> Result<Reply<A>, OutOfMemory>
+    requires { IsJudged (texts_of logs.now) judged.now }
+    ensures { IfOk result (JudgesLogs (ExplainsLogs A is_json logs.now) (texts_of logs.now)) }
+{
+    let view = explain_texts(alloc.clone()?, logs, judged)?;
+    tell_view(alloc, is_json, &view)
+}

@@ -1,0 +1,45 @@
+ghost use Rattle.std.specs.Prelude.{IfOk};
+ghost use Rattle.ira_audit.specs.Findings.{AreReportable};
+ghost use Rattle.ira_audit.specs.Judged.{IsJudged};
+ghost use Rattle.ira_view.specs.Texts.{texts_of};
+ghost use Rattle.ira_commands.specs.Decide.{DecidesTexts};
+ghost use Rattle.ira_commands.specs.ExplainQuestion.{ExplainsFindings, PrintsFindings};
+
+use crate::reply::Reply;
+use ira_audit::Judged;
+use ira_event::{MemorySink, OutOfMemory};
+use ira_view::{AskedFiles, FindingsView, Status, explain_findings, write_findings_view_as};
+use std::alloc::Allocator;
+
+/// Findings, and why they are so, as JSON where that is wanted.
+fn tell_findings<A: Allocator + Clone>(
+    alloc: A,
+    is_json: bool,
+    view: &FindingsView<A>,
+) -> Result<Reply<A>, OutOfMemory>
+    requires { AreReportable view.now.findings }
+    ensures { IfOk result (PrintsFindings is_json view.now.findings view.now.explanation) }
+{
+    let mut text = MemorySink::new(alloc.clone()?);
+    let Ok(()) = write_findings_view_as(alloc, is_json, view, &mut text) else {
+        return Err(OutOfMemory);
+    };
+    Ok(Reply::printed(Status::of_findings(&view.findings), text))
+}
+
+/// What is found for a question about logs, in these files, and why it is so: of the case of a number, counted from 0, or of
+/// the first ones.
+pub fn explain_asked<A: Allocator + Clone>(
+    alloc: A,
+    is_json: bool,
+    case: Option<u64>,
+    files: AskedFiles<'_>,
+    judged: &Judged<A>,
+) -> Result<Reply<A>, OutOfMemory>
+    requires { IsJudged (texts_of files.logs.now) judged.now }
+    ensures { IfOk result (DecidesTexts {A = A} (ExplainsFindings is_json case files.entry)
+        files.entry.question.now.text.now (texts_of files.entry.logs.now)) }
+{
+    let view = explain_findings(alloc.clone()?, files, judged, case)?;
+    tell_findings(alloc, is_json, &view)
+}

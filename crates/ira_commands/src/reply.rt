@@ -1,0 +1,162 @@
+ghost use Rattle.std.specs.Prelude.{◌≡◌, ◌++◌, IfOk};
+ghost use Rattle.ira_audit.specs.Report.{IsReportable, report_line};
+ghost use Rattle.ira_commands.specs.Reply.{Reports, ReportsAs, made, printed, refused, refused_after, with_files};
+ghost use Rattle.ira_commands.specs.Reply.MadeFiles.{logs_of, one_text};
+ghost use Rattle.ira_view.specs.Status.{answer_status};
+
+use crate::command_fault::CommandFault;
+use crate::files::Files;
+use ira_audit::{Answer, write_report};
+use ira_event::{MemorySink, OutOfMemory};
+use ira_view::{Status, write_answer_as, write_view};
+use std::alloc::Allocator;
+use std::marker::Model;
+
+/// What comes of a command.
+#[derive(Drop)]
+pub struct Reply<A: Allocator> {
+    status: Status,
+    /// What is printed on standard output.
+    out: MemorySink<A>,
+    /// Why it is refused, which is printed on standard error.
+    fault: Option<CommandFault>,
+    files: Files<A>,
+}
+
+impl<A: Allocator> Model for Reply<A> {
+    ghost use Rattle.ira_commands.specs.Reply.{Reply, made};
+
+    ghost Value = { Reply };
+
+    ghost view = { λ r. record { status = r.status; out = r.out.bytes; fault = r.fault; files = made r.files } };
+}
+
+impl<A: Allocator + Clone> Reply<A> {
+    /// The line of an answer.
+    pub fn of_answer(alloc: A, answer: &Answer) -> Result<Reply<A>, OutOfMemory>
+        requires { IsReportable answer.now }
+        ensures { IfOk result (Reports answer.now) }
+    {
+        let mut line = MemorySink::new(alloc);
+        let Ok(()) = write_report(answer, &mut line) else {
+            return Err(OutOfMemory);
+        };
+        Ok(Reply::printed(Status::of_answer(answer), line))
+    }
+
+    /// An answer, as JSON where that is wanted, or else its line.
+    pub fn of_answer_as(alloc: A, is_json: bool, answer: &Answer) -> Result<Reply<A>, OutOfMemory>
+        requires { IsReportable answer.now }
+        ensures { IfOk result (ReportsAs is_json answer.now) }
+    {
+        let mut text = MemorySink::new(alloc.clone()?);
+        let Ok(()) = write_answer_as(alloc, is_json, answer, &mut text) else {
+            return Err(OutOfMemory);
+        };
+        Ok(Reply::printed(Status::of_answer(answer), text))
+    }
+
+    /// The line of an answer, and a page after it.
+    pub(crate) fn of_page(alloc: A, answer: &Answer, page: &[u8]) -> Result<Reply<A>, OutOfMemory>
+        requires { IsReportable answer.now }
+        ensures { IfOk result (λ reply.
+            reply ≡ printed (answer_status answer.now) (report_line answer.now ++ page.now)) }
+    {
+        let mut text = MemorySink::new(alloc);
+        let Ok(()) = write_view(answer, page, &mut text) else {
+            return Err(OutOfMemory);
+        };
+        Ok(Reply::printed(Status::of_answer(answer), text))
+    }
+
+    /// What is printed on standard output, and nothing else.
+    pub(crate) fn printed(status: Status, text: MemorySink<A>) -> Reply<A>
+        ensures { result ≡ printed status text.bytes }
+    {
+        Reply {
+            status,
+            out: text,
+            fault: None,
+            files: Files::Nothing,
+        }
+    }
+
+    /// What is printed on standard output before a refusal.
+    pub(crate) fn refused_after(text: MemorySink<A>, fault: CommandFault) -> Reply<A>
+        ensures { result ≡ refused_after text.bytes fault }
+    {
+        Reply {
+            status: Status::Refused,
+            out: text,
+            fault: Some(fault),
+            files: Files::Nothing,
+        }
+    }
+
+    /// A refusal of what is asked for.
+    pub fn refused(alloc: A, fault: CommandFault) -> Reply<A>
+        ensures { result ≡ refused fault }
+    {
+        Reply::refused_after(MemorySink::new(alloc), fault)
+    }
+
+    /// The same with these files.
+    pub(crate) fn with_files(self, files: Files<A>) -> Reply<A>
+        ensures { result ≡ with_files self (made files) }
+    {
+        let Reply {
+            status,
+            out,
+            fault,
+            files: _,
+        } = self;
+        Reply {
+            status,
+            out,
+            fault,
+            files,
+        }
+    }
+
+    pub fn status(&self) -> Status
+        ensures { result ≡ self.now.status }
+    {
+        self.status
+    }
+
+    /// What is printed on standard output.
+    pub fn out(&self) -> &[u8]
+        ensures { result.now ≡ self.now.out }
+    {
+        self.out.bytes()
+    }
+
+    /// Why it is refused, which is printed on standard error.
+    pub fn fault(&self) -> Option<CommandFault>
+        ensures { result ≡ self.now.fault }
+    {
+        self.fault
+    }
+
+    /// The files that are made.
+    pub fn files(&self) -> &Files<A>
+        ensures { made result.now ≡ self.now.files }
+    {
+        &self.files
+    }
+
+    /// What is printed on standard output, why it is refused, and the files that are made.
+    pub fn into_parts(self) -> (MemorySink<A>, Option<CommandFault>, Files<A>)
+        ensures out { result.0.bytes ≡ self.out }
+        ensures fault { result.1 ≡ self.fault }
+        ensures files { made result.2 ≡ self.files }
+    {
+        let Reply {
+            status: _,
+            out,
+            fault,
+            files,
+        } = self;
+        (out, fault, files)
+    }
+}

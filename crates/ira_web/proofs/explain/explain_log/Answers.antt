@@ -1,9 +1,0 @@
-use Rattle.ira_web.proofs.Served.{if_ok}
-use Rattle.ira_web.proofs.explain.explain_log.Goals as goal
-
-pub returns : goal.returns
-returns g c = if_ok c.tell_view.result (λ reply told. record {
-  answer = c.in_ok-view.view.answer;
-  judged = c.in_ok-view.ensures.answer;
-  told = (c.in_ok-view.view.explanation, c.in_ok-view.ensures.explained, told);
-}) c.tell_view.ensures
