@@ -7,7 +7,7 @@ needs_kit = command -v rt > /dev/null && command -v rattle > /dev/null || \
 	{ echo 'This needs the Rattle kit, and there are no rt and rattle on the PATH. make run, test, install and dist do without.'; \
 	exit 1; }
 
-.PHONY: help run test prove install dist try ira web checks release verify-release clean
+.PHONY: help run test prove install dist try ira web lib checks release verify-release clean
 
 help:
 	@echo 'With what is in the repository, in seconds, on Linux on x86-64:'
@@ -30,6 +30,7 @@ help:
 	@echo '    pictures    pictures of the examples and of recorded rings, read back and held against the logs'
 	@echo '    page        pages to move in, opened in a headless Chromium, in the same way; and how fast a large one moves'
 	@echo '    web         answers of ira.html in a headless Chromium, those of the program; hostile names and texts'
+	@echo '    library     the library from Python, C and Node, which answers what the program does'
 	@echo '    json        lines of JSON, in the same way'
 	@echo '    plain       plain pages of show and explain, in the same way'
 	@echo '    refusals    the first growths of memory and each start of a thread refused in turn, of a few command lines'
@@ -41,6 +42,7 @@ help:
 	@echo 'With the kit, the first time in hours of processor time, over all cores; then in those of what changed:'
 	@echo 'make ira        proves the program and all that it rests on, and leaves it at bin/ira'
 	@echo 'make web        the same, with the module for a browser and the page that has it, bin/ira.html'
+	@echo 'make lib        the same, with the module as a library for C, Python and what calls C, bin/libira.a and bin/libira.so'
 	@echo 'make prove      the gate: each proof, the edits that must be refused, tests and programs as they are proved, checks,'
 	@echo '                and that release/ is what its sources give, where these are its sources'
 	@echo 'make release    makes release/ of what is committed here, and says what differs from the one that was there'
@@ -93,6 +95,10 @@ ira:
 web:
 	@$(needs_kit)
 	@sh build/prove.sh web
+
+lib:
+	@$(needs_kit)
+	@sh build/prove.sh lib
 
 release:
 	@$(needs_kit)

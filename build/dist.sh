@@ -1,6 +1,6 @@
 #!/bin/sh
 # sh build/dist.sh  packs bin/ira, or the release where that was not built, with its manual, completions, examples and
-# pages, and the page for a browser where it stands beside it, as bin/ira-linux-x86_64.tar.gz. What is packed is as it
+# pages, and the page for a browser and the library where they stand beside it, as bin/ira-linux-x86_64.tar.gz. What is packed is as it
 # stands here, with no time and no owner of this machine: the same files give the same bytes.
 set -e
 name=ira-linux-x86_64
@@ -32,6 +32,11 @@ if [ -f $from/ira.html ]; then
     cp $from/ira.html "$folder"
     row='| `ira.html` | the auditor as a page: open it in a browser, and drop a folder of logs on it |'
 fi
+mkdir "$folder/library"
+cp library/* "$folder/library"
+for it in libira.a libira.so ira.wasm; do
+    [ ! -f $from/$it ] || cp $from/$it "$folder/library"
+done
 kit=$(sed -n 's/^kit: //p' $from/TREE)
 sed -e "s/^@WEB@$/$row/" -e '/^@WEB@$/d' -e "s/@COMMIT@/$commit/" -e "s/@KIT@/$kit/" build/dist-README.md > "$folder/README.md"
 (cd "$folder" && find . -type f ! -name SHA256SUMS -print0 | LC_ALL=C sort -z | xargs -0 sha256sum > SHA256SUMS)

@@ -1,13 +1,21 @@
 #!/bin/sh
-# sh build/prove.sh [web]  proves and builds the program, bin/ira, with bin/ira.o, the object file that was linked; with
-# `web` the module for a browser too, and the page that has it, bin/ira.html. bin/TREE says what they were made of
-# (build/tree.sh).
+# sh build/prove.sh [web] [lib]  proves and builds the program, bin/ira, with bin/ira.o, the object file that was linked;
+# with `web` the module for a browser too, and the page that has it, bin/ira.html; with `lib` the same module as a library,
+# bin/libira.a and bin/libira.so. bin/TREE says what they were made of (build/tree.sh).
 #
 # The libraries are proved by `rt ci`, in a copy without tests and edits: so what the gate proved of the same files is
 # taken from where the kit keeps it, and what is proved here is there for the gate. The program and the module are proved
 # in the same way: from nothing, over what the libraries state.
 set -e
-web=$1 here=$PWD
+here=$PWD web='' lib=''
+for it in "$@"; do
+    case $it in
+    web) web=web ;;
+    lib) lib=lib ;;
+    *) echo "prove.sh: web or lib, and not $it" >&2; exit 2 ;;
+    esac
+done
+made="bin/ira${web:+, bin/ira.html}${lib:+, bin/libira.a, bin/libira.so}"
 kit=$(dirname "$(dirname "$(realpath "$(command -v rattle)")")")
 room=$(mktemp -d)
 trap 'rm -rf "$room"' EXIT
@@ -19,9 +27,10 @@ cd "$room"
 mkdir bin rlibs libraries
 sh build/tree.sh > bin/TREE
 if ! cmp -s bin/TREE "$here/bin/TREE"; then
-    rm -f "$here/bin/ira" "$here/bin/ira.html"
-elif [ -x "$here/bin/ira" ] && { [ -z "$web" ] || [ -f "$here/bin/ira.html" ]; }; then
-    echo "bin/ira${web:+ and bin/ira.html}: proved and built of these sources before"
+    (cd "$here/bin" && rm -f ira ira.html ira.wasm libira.a libira.so)
+elif [ -x "$here/bin/ira" ] && { [ -z "$web" ] || [ -f "$here/bin/ira.html" ]; } &&
+    { [ -z "$lib" ] || [ -f "$here/bin/libira.so" ]; }; then
+    echo "$made: proved and built of these sources before"
     exit 0
 fi
 
@@ -65,5 +74,12 @@ if [ "$web" ]; then
     "$kit/bin/rattle-link" --target $target --toolchain "$kit/toolchain" -o bin/ira.wasm ira_web.a
     sh build/web_page.sh
 fi
+
+# The library wants nothing but memcpy, memmove and memset, which each program that loads it has of its C library.
+if [ "$lib" ]; then
+    build ira_web src/lib.rt --crate-type staticlib -o "$room/bin/libira.a"
+    "$kit/toolchain/bin/clang" -shared -nostdlib -fuse-ld=lld -o bin/libira.so -Wl,--whole-archive bin/libira.a \
+        -Wl,--no-whole-archive
+fi
 mv bin/* "$here/bin"
-echo "proved and built: bin/ira${web:+ and bin/ira.html}"
+echo "proved and built: $made"

@@ -54,8 +54,8 @@ checks() {
                 ira=bin/unproved/ira
             fi
         fi
-        sh checks/all.sh "$ira" definitions names examples limits pages completions version pictures page web json plain \
-            refusals
+        sh checks/all.sh "$ira" definitions names examples limits pages completions version pictures page web \
+            library json plain refusals
     } > "$room/checks" 2>&1
     sed -n '$s/^checks: ran \([^;]*\);.*failed \(.*\)/\1:\2/p' "$room/checks" | awk -F: '{
         ran = split($1, names, ", ")

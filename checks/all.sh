@@ -11,10 +11,11 @@ if [ "$1" != - ]; then
     ira=$(realpath "$1") || exit 2
     [ -x "$ira" ] || { echo "checks: no program at $1"; exit 2; }
 fi
-page=$(dirname "$ira")/ira.html
+folder=$(dirname "$ira")
+page=$folder/ira.html
 cd "$(dirname "$0")" || exit 2
 shift
-all='definitions names examples limits pages completions version pictures page web json plain refusals recorders sweep'
+all='definitions names examples limits pages completions version pictures page web library json plain refusals recorders sweep'
 said=$(mktemp) || exit 2
 trap 'rm -f "$said"' EXIT
 
@@ -27,7 +28,7 @@ done
 
 # Whether there is a page of these sources.
 has_page() {
-    [ -f "$page" ] && (cd .. && sh build/tree.sh) | grep '^page: ' | grep -qxFf - "${page%/*}/TREE"
+    [ -f "$page" ] && (cd .. && sh build/tree.sh) | grep '^page: ' | grep -qxFf - "$folder/TREE"
 }
 
 # What a check needs and isn't there.
@@ -46,12 +47,15 @@ lacks() {
         ;;
     esac
     case $1 in
-    pictures | page | web | json | plain | refusals | sweep) command -v python3 > /dev/null || { echo 'no python3'; return; } ;;
+    pictures | page | web | library | json | plain | refusals | sweep) command -v python3 > /dev/null || { echo 'no python3'; return; } ;;
     esac
     case $1 in
     page | web)
         command -v chromium > /dev/null && command -v chromedriver > /dev/null || { echo 'no chromium and chromedriver'; return; }
         [ "$1" = page ] || has_page || echo 'no ira.html of these sources beside the program: make web'
+        ;;
+    library)
+        [ -f "$folder/libira.so" ] || [ -f "$page" ] || echo 'no library beside the program: make lib'
         ;;
     refusals | sweep)
         [ -f "$ira.o" ] || ldd "$ira" > /dev/null 2>&1 || { echo 'a static program, without the object file that make ira leaves'; return; }
@@ -72,6 +76,7 @@ check() {
     pictures) python3 -B pictures.py "$ira" ;;
     page) python3 -B page.py "$ira" ;;
     web) python3 -B web.py "$ira" "$page" ;;
+    library) python3 -B library.py "$ira" "$folder" ;;
     json) python3 -B json_lines.py "$ira" ;;
     plain) python3 -B plain_pages.py "$ira" ;;
     refusals) python3 -B sweep.py --short "$(of_ira)" ;;

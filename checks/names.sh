@@ -42,12 +42,12 @@ for page in $pages; do
         grep -E '_|[a-z][A-Z]|::' | sed 's/::/\n/g' | sort -u | comm -23 - "$made/words" | sed "s|^|$page: nothing is called |"
 done > "$made/items"
 
-# Files in back quotes: a crate's by its name, `ira_event/src/log_reader.rt`, or in some crate, `src/reason.rt`, `specs/Report`;
-# X is any name.
+# Files in back quotes: a crate's by its name, `ira_event/src/log_reader.rt`, or in some crate, `src/reason.rt`, `specs/Report`,
+# `reason.rt`; X is any name.
 for page in $pages; do
-    grep -oE '`([a-z_]+/)?(src|specs|proofs)/[A-Za-z0-9_/]+(\.rt|\.antt)?`' "$page" | tr -d '`' | grep -v '/X' | sort -u |
-        while read -r it; do
-            set -- crates/$it crates/$it.antt crates/$it/ crates/*/$it crates/*/$it.antt
+    grep -oE '`([a-z_]+/)?(src|specs|proofs)/[A-Za-z0-9_/]+(\.rt|\.antt)?`|`[a-z0-9_]+\.rt`' "$page" | tr -d '`' | grep -v '/X' |
+        sort -u | while read -r it; do
+            set -- crates/$it crates/$it.antt crates/$it/ crates/*/$it crates/*/$it.antt crates/*/src/$it
             for file in "$@"; do
                 [ -e "$file" ] && continue 2
             done
