@@ -33,6 +33,7 @@ help:
 	@echo '    library     the library from Python, C and Node, which answers what the program does'
 	@echo '    json        lines of JSON, in the same way'
 	@echo '    plain       plain pages of show and explain, in the same way'
+	@echo '    writes      writes that fail, and kills within a write: what was there is there'
 	@echo '    refusals    the first growths of memory and each start of a thread refused in turn, of a few command lines'
 	@echo '    recorders   elections by each recorder of examples/recorders'
 	@echo '    sweep       each growth of memory and each start of a thread refused in turn, each read and write of a file'
@@ -66,7 +67,7 @@ prove:
 	@$(needs_kit)
 	@sh build/release.sh sums
 	rt ci
-	@sh checks/all.sh crates/ira/out/ira definitions names examples limits pages completions version pictures json plain refusals
+	@sh checks/all.sh crates/ira/out/ira definitions names examples limits pages completions version pictures json plain writes refusals
 	@sh build/release.sh prove
 
 install:

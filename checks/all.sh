@@ -15,7 +15,7 @@ folder=$(dirname "$ira")
 page=$folder/ira.html
 cd "$(dirname "$0")" || exit 2
 shift
-all='definitions names examples limits pages completions version pictures page web library json plain refusals recorders sweep'
+all='definitions names examples limits pages completions version pictures page web library json plain writes refusals recorders sweep'
 said=$(mktemp) || exit 2
 trap 'rm -f "$said"' EXIT
 
@@ -47,7 +47,7 @@ lacks() {
         ;;
     esac
     case $1 in
-    pictures | page | web | library | json | plain | refusals | sweep) command -v python3 > /dev/null || { echo 'no python3'; return; } ;;
+    pictures | page | web | library | json | plain | writes | refusals | sweep) command -v python3 > /dev/null || { echo 'no python3'; return; } ;;
     esac
     case $1 in
     page | web)
@@ -79,6 +79,7 @@ check() {
     library) python3 -B library.py "$ira" "$folder" ;;
     json) python3 -B json_lines.py "$ira" ;;
     plain) python3 -B plain_pages.py "$ira" ;;
+    writes) python3 -B writes.py "$ira" ;;
     refusals) python3 -B sweep.py --short "$(of_ira)" ;;
     sweep) python3 -B sweep.py "$(of_ira)" ;;
     esac

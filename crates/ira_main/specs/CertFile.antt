@@ -3,7 +3,7 @@ use Rattle.std.specs.Prelude.{◌≡◌, ℕ, List, MatchOption, Option, Ok, Err
 use Rattle.std.specs.Borrow.{Bor}
 use Rattle.ira_cert_text.specs.Certificate.{Certificate}
 use Rattle.ira_cert_text.specs.CertText.{IsCertText, cert_text}
-use Rattle.ira_main_files.specs.Shelf.{Writing}
+use Rattle.ira_main_files.specs.Shelf.{MakesFile, Writing}
 use Rattle.ira_main_files.specs.declared.shelf_fault.ShelfFault.{ShelfFault}
 use Rattle.ira_main.specs.Outcome.{Outcome}
 use Rattle.ira_main.specs.ProgramFault.{write_fault}
@@ -21,8 +21,8 @@ pub data KeepsCertificate {S : Type 0} (writes : Writing S) (c : Certificate) (n
     (outcome : Outcome) : Type 0 where
   past_limits : ¬ (IsCertText (cert_text c) c) → new ≡ old → outcome ≡ Err CertificatePastLimits
       → KeepsCertificate writes c name old new outcome
-  kept : IsCertText (cert_text c) c → writes name.now (cert_text c) old new (Ok tt) → outcome ≡ Ok Yes
+  kept : IsCertText (cert_text c) c → MakesFile writes name.now (cert_text c) old new (Ok tt) → outcome ≡ Ok Yes
       → KeepsCertificate writes c name old new outcome
   unwritten : (fault : ShelfFault) → IsCertText (cert_text c) c
-      → writes name.now (cert_text c) old new (Err fault) → outcome ≡ Err (write_fault name fault)
+      → MakesFile writes name.now (cert_text c) old new (Err fault) → outcome ≡ Err (write_fault name fault)
       → KeepsCertificate writes c name old new outcome

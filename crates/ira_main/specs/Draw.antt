@@ -23,7 +23,7 @@ use Rattle.ira_view.specs.ShownRing.{HasTooManyAt, IsPictureOf, ShownRing}
 use Rattle.ira_view.specs.Status.{answer_status}
 use Rattle.ira_view.specs.Texts.{AreFiles}
 use Rattle.ira_main_cli.specs.declared.draw_request.DrawRequest.{DrawRequest}
-use Rattle.ira_main_files.specs.Shelf.{Reading, Writing}
+use Rattle.ira_main_files.specs.Shelf.{MakesFile, Reading, Writing}
 use Rattle.ira_main_files.specs.declared.file_name.FileName.{FileName}
 use Rattle.ira_main_files.specs.declared.shelf_fault.ShelfFault.{ShelfFault}
 use Rattle.ira_main.specs.FilesRead.{IsFilesFault, ReadsFiles, names_of}
@@ -71,9 +71,9 @@ IsRefusalDrawn A draw names texts refused =
 -- a fault of that is the outcome
 pub data KeepsPicture {S : Type 0} (writes : Writing S) (answer : Answer) (picture : List ℕ) (name : Bor (List ℕ))
     (old new : S) (outcome : Outcome) : Type 0 where
-  kept : writes name.now picture old new (Ok tt) → outcome ≡ Ok (answer_status answer)
+  kept : MakesFile writes name.now picture old new (Ok tt) → outcome ≡ Ok (answer_status answer)
       → KeepsPicture writes answer picture name old new outcome
-  unwritten : (fault : ShelfFault) → writes name.now picture old new (Err fault)
+  unwritten : (fault : ShelfFault) → MakesFile writes name.now picture old new (Err fault)
       → outcome ≡ Err (write_fault name fault) → KeepsPicture writes answer picture name old new outcome
 
 -- the line of the answer was printed whole, and what comes of the picture is the outcome; or the output stopped

@@ -1,7 +1,7 @@
 ghost use Rattle.std.specs.Prelude.{◌≡◌};
 ghost use Rattle.ira_cert_text.specs.Certificate as certificate;
 ghost use Rattle.ira_cert_text.specs.CertText.{cert_text};
-ghost use Rattle.ira_main_files.specs.Shelf.{WritesFile};
+ghost use Rattle.ira_main_files.specs.Shelf.{MakesFile, writing_by};
 ghost use Rattle.ira_main.specs.CertFile.{IsTextToKeep, KeepsCertificate};
 ghost use Rattle.ira_main.specs.Outcome.{Outcome, ReportsOutcome, outcome_number};
 
@@ -21,7 +21,8 @@ pub(crate) fn keep_written<'a, F: Shelf>(
     shelf: &mut F,
 ) -> Result<Status, ProgramFault<'a>>
     ensures { (c : certificate.Certificate) → IsTextToKeep text.entry c
-        → KeepsCertificate (WritesFile F.creates F.closes F.Out.state) c name.entry shelf.old shelf.new result }
+        → KeepsCertificate (writing_by F.creates F.closes F.keeps F.Out.state) c name.entry
+        shelf.old shelf.new result }
 {
     let Some(text) = text else {
         return Err(ProgramFault::CertificatePastLimits);
@@ -38,12 +39,13 @@ fn write_new<A: Allocator, F: Shelf>(
     name: &str,
     shelf: &mut F,
 ) -> Result<(), ShelfFault>
-    ensures { WritesFile F.creates F.closes F.Out.state name.now
+    ensures { MakesFile (writing_by F.creates F.closes F.keeps F.Out.state) name.now
         (cert_text certificate.now) shelf.old shelf.new result }
 {
     let mut file = shelf.create(name)?;
     write_cert(certificate, &mut file)?;
-    shelf.close(file)
+    let file = shelf.close(file)?;
+    shelf.keep(file)
 }
 
 /// What comes of keeping the certificate in a new file of this name.
@@ -52,7 +54,7 @@ pub(crate) fn keep<'a, A: Allocator, F: Shelf>(
     name: &'a str,
     shelf: &mut F,
 ) -> Result<Status, ProgramFault<'a>>
-    ensures { KeepsCertificate (WritesFile F.creates F.closes F.Out.state) certificate.now name.entry
+    ensures { KeepsCertificate (writing_by F.creates F.closes F.keeps F.Out.state) certificate.now name.entry
         shelf.old shelf.new result }
 {
     if !certificate.readable() {
@@ -74,7 +76,7 @@ pub fn keep_cert<A: Allocator, F: Shelf, V: Sink>(
     err: &mut V,
 ) -> u8
     ensures { (outcome : Outcome)
-        × KeepsCertificate (WritesFile F.creates F.closes F.Out.state) certificate.now name.entry
+        × KeepsCertificate (writing_by F.creates F.closes F.keeps F.Out.state) certificate.now name.entry
         shelf.old shelf.new outcome
         × (result ≡ outcome_number outcome) × ReportsOutcome outcome (V.state err.old) (V.state err.new) }
 {

@@ -3,7 +3,7 @@ ghost use Rattle.std.specs.Option.{is_some};
 ghost use Rattle.ira_audit.specs.AskedQuestion.{AreFoundOf};
 ghost use Rattle.ira_audit.specs.DecidedCases.{AreDecided};
 ghost use Rattle.ira_audit.specs.declared.findings.Findings.{Findings};
-ghost use Rattle.ira_main_files.specs.Shelf.{WritesFile};
+ghost use Rattle.ira_main_files.specs.Shelf.{writing_by};
 ghost use Rattle.ira_main.specs.Decide.{KeepsFindings, PrintsFindings, PrintsFound};
 ghost use Rattle.ira_main.specs.Serve.{DecidesLogs};
 ghost use Rattle.ira_main.specs.declared.program_fault.ProgramFault.TheVariants.{OutOfMemory};
@@ -29,7 +29,8 @@ fn keep_found<'a, A: Allocator, F: Shelf>(
     shelf: &mut F,
 ) -> Result<Status, ProgramFault<'a>>
     ensures { (findings : Findings A) → AreDecided (is_some name.entry) findings decided.now
-        → KeepsFindings (WritesFile F.creates F.closes F.Out.state) findings name.entry shelf.old shelf.new result }
+        → KeepsFindings (writing_by F.creates F.closes F.keeps F.Out.state) findings name.entry
+        shelf.old shelf.new result }
 {
     if !decided.are_absent {
         return Ok(Status::No);
@@ -64,7 +65,7 @@ fn decide_asked<'a, A: Allocator + Clone, F: Shelf, W: Sink>(
     out: &mut W,
 ) -> Result<Status, ProgramFault<'a>>
     ensures { ((findings : Findings A) × AreFoundOf asked.now findings
-        × PrintsFindings (WritesFile F.creates F.closes F.Out.state) decide.now.is_json decide.now.certificate
+        × PrintsFindings (writing_by F.creates F.closes F.keeps F.Out.state) decide.now.is_json decide.now.certificate
         shelf.old shelf.new (W.state out.old) (W.state out.new) result findings)
         ⊎ ((shelf.new ≡ shelf.old) × (W.state out.new ≡ W.state out.old) × (result ≡ Err OutOfMemory)) }
 {
@@ -88,7 +89,7 @@ where
     A: Allocator + Clone + Send + Sync,
     F: Shelf + Sync,
     W: Sink,
-    ensures { DecidesLogs A F.reads (WritesFile F.creates F.closes F.Out.state) decide.now
+    ensures { DecidesLogs A F.reads (writing_by F.creates F.closes F.keeps F.Out.state) decide.now
         shelf.old shelf.new (W.state out.old) (W.state out.new) result }
 {
     let names = source_names(&alloc, &decide.logs, shelf)?;

@@ -2,7 +2,7 @@ ghost use Rattle.std.specs.Prelude.{◌≡◌, ◌++◌, ◌⊎◌, ℕ, Err, Li
 ghost use Rattle.ira_audit.specs.GoodLogs.{AreGoodLogs};
 ghost use Rattle.ira_audit.specs.Judged.{IsJudged};
 ghost use Rattle.ira_audit.specs.Report.{IsReportable};
-ghost use Rattle.ira_main_files.specs.Shelf.{WritesFile};
+ghost use Rattle.ira_main_files.specs.Shelf.{writing_by};
 ghost use Rattle.ira_main_files.specs.declared.file_name.FileName.{FileName as Name};
 ghost use Rattle.ira_main.specs.Draw.{DrawsLogs, IsJudgedToldOf, KeepsPicture, PrintsDrawn, TellsDrawn, names_page};
 ghost use Rattle.ira_main.specs.FilesRead.{names_of};
@@ -46,7 +46,7 @@ fn keep_picture<'a, A: Allocator, F: Shelf>(
     name: &'a str,
     shelf: &mut F,
 ) -> Result<Status, ProgramFault<'a>>
-    ensures { KeepsPicture (WritesFile F.creates F.closes F.Out.state) answer.now picture.now name.entry
+    ensures { KeepsPicture (writing_by F.creates F.closes F.keeps F.Out.state) answer.now picture.now name.entry
         shelf.old shelf.new result }
 {
     match write_text(picture.bytes(), name, shelf) {
@@ -64,7 +64,7 @@ fn print_drawn<'a, A: Allocator, F: Shelf, W: Sink>(
     out: &mut W,
 ) -> Result<Status, ProgramFault<'a>>
     requires { IsReportable answer.now }
-    ensures { PrintsDrawn (WritesFile F.creates F.closes F.Out.state) answer.now picture.now name.entry
+    ensures { PrintsDrawn (writing_by F.creates F.closes F.keeps F.Out.state) answer.now picture.now name.entry
         shelf.old shelf.new (W.state out.old) (W.state out.new) result }
 {
     match write_report(answer, out) {
@@ -83,7 +83,7 @@ fn tell_drawn<'a, A: Allocator, F: Shelf, W: Sink>(
 ) -> Result<Status, ProgramFault<'a>>
     requires { IsReportable answer.now }
     ensures { MatchResult picture
-        (λ page. PrintsDrawn (WritesFile F.creates F.closes F.Out.state) answer.now page name.entry
+        (λ page. PrintsDrawn (writing_by F.creates F.closes F.keeps F.Out.state) answer.now page name.entry
         shelf.old shelf.new (W.state out.old) (W.state out.new) result)
         (λ f. (shelf.new ≡ shelf.old) × (W.state out.new ≡ W.state out.old) × (result ≡ Err (draw_fault f))) }
 {
@@ -106,8 +106,8 @@ fn draw_good<'a, A: Allocator + Clone, F: Shelf, W: Sink>(
 ) -> Result<Status, ProgramFault<'a>>
     requires { length names.now ≡ length logs }
     ensures { (texts : List (List ℕ)) → AreGoodLogs texts logs
-        → TellsDrawn A (WritesFile F.creates F.closes F.Out.state) (names_of names.now) texts draw.now question.now
-        shelf.old shelf.new (W.state out.old) (W.state out.new) result
+        → TellsDrawn A (writing_by F.creates F.closes F.keeps F.Out.state) (names_of names.now) texts draw.now
+        question.now shelf.old shelf.new (W.state out.old) (W.state out.new) result
         ⊎ ((shelf.new ≡ shelf.old) × (W.state out.new ≡ W.state out.old) × (result ≡ Err OutOfMemory)) }
 {
     match ring_at(alloc.clone()?, logs, &draw.moment, question) {
@@ -136,8 +136,8 @@ fn draw_judged<'a, A: Allocator + Clone, F: Shelf, W: Sink>(
     ensures { (texts : List (List ℕ)) → IsJudged texts read.judged
         → (names_page draw.now.picture.now ≡ true
         → IsJudgedToldOf (names_of names.now) texts read.judged (string_bytes read.told))
-        → TellsDrawn A (WritesFile F.creates F.closes F.Out.state) (names_of names.now) texts draw.now question.now
-        shelf.old shelf.new (W.state out.old) (W.state out.new) result
+        → TellsDrawn A (writing_by F.creates F.closes F.keeps F.Out.state) (names_of names.now) texts draw.now
+        question.now shelf.old shelf.new (W.state out.old) (W.state out.new) result
         ⊎ ((shelf.new ≡ shelf.old) × (W.state out.new ≡ W.state out.old) × (result ≡ Err OutOfMemory)) }
 {
     let ToDraw { judged, told } = read;
@@ -167,7 +167,7 @@ where
     A: Allocator + Clone + Send + Sync,
     F: Shelf + Sync,
     W: Sink,
-    ensures { DrawsLogs A F.reads (WritesFile F.creates F.closes F.Out.state) draw.now shelf.old shelf.new
+    ensures { DrawsLogs A F.reads (writing_by F.creates F.closes F.keeps F.Out.state) draw.now shelf.old shelf.new
         (W.state out.old) (W.state out.new) result }
 {
     let names = source_names(&alloc, &draw.logs, shelf)?;

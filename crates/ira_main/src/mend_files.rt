@@ -1,5 +1,5 @@
 ghost use Rattle.std.specs.Prelude.{◌≡◌, length};
-ghost use Rattle.ira_main_files.specs.Shelf.{WritesFile};
+ghost use Rattle.ira_main_files.specs.Shelf.{writing_by};
 ghost use Rattle.ira_main.specs.Mend.{KeepsMended, MendsLogs};
 
 use crate::left_files::{left_names, read_left};
@@ -28,7 +28,7 @@ fn keep_mended<'a, A: Allocator + Clone, F: Shelf, W: Sink>(
 ) -> Result<Status, ProgramFault<'a>>
     requires mended { length mended.now ≡ length logs.now }
     requires lost { length lost.now ≡ length logs.now }
-    ensures { KeepsMended (WritesFile F.creates F.closes F.Out.state) folder.entry logs.now mended.now lost.now
+    ensures { KeepsMended (writing_by F.creates F.closes F.keeps F.Out.state) folder.entry logs.now mended.now lost.now
         shelf.old shelf.new (W.state out.old) (W.state out.new) result }
 {
     let mut text = MemorySink::new(alloc.clone()?);
@@ -54,7 +54,7 @@ where
     A: Allocator + Clone,
     F: Shelf,
     W: Sink,
-    ensures { MendsLogs F.reads (WritesFile F.creates F.closes F.Out.state) request.now shelf.old shelf.new
+    ensures { MendsLogs F.reads (writing_by F.creates F.closes F.keeps F.Out.state) request.now shelf.old shelf.new
         (W.state out.old) (W.state out.new) result }
 {
     let names = left_names(&alloc, &request.logs, shelf)?;

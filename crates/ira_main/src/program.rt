@@ -1,6 +1,6 @@
 ghost use Rattle.std.specs.Prelude.{◌≡◌, ◌≤◌, ◌+◌, map};
 ghost use Rattle.ira_event.specs.Sink.{SinkState};
-ghost use Rattle.ira_main_files.specs.Shelf.{WritesFile};
+ghost use Rattle.ira_main_files.specs.Shelf.{writing_by};
 ghost use Rattle.ira_main.specs.Outcome.{Outcome, Reports, ReportsAs, ReportsOutcome, outcome_number};
 ghost use Rattle.ira_main.specs.Progress.{ServesOrLeaves};
 ghost use Rattle.ira_main.specs.Unread.{TellsUnread, wants_json};
@@ -118,7 +118,7 @@ where
     I: Read,
     F: Shelf + Sync,
     W: Sink,
-    ensures served { ServesOrLeaves A F.reads (WritesFile F.creates F.closes F.Out.state)
+    ensures served { ServesOrLeaves A F.reads (writing_by F.creates F.closes F.keeps F.Out.state)
         (map (λ word. word.now) words.now) input.old input.new shelf.old shelf.new
         (W.state out.old) (W.state out.new) result }
     ensures reads { input.new.reads ≤ input.old.reads + (MAX_TEXT + 1) }
@@ -185,7 +185,7 @@ where
     I: Read,
     F: Shelf + Sync,
     W: Sink,
-    ensures executed { Serves A F.reads (WritesFile F.creates F.closes F.Out.state)
+    ensures executed { Serves A F.reads (writing_by F.creates F.closes F.keeps F.Out.state)
         (map (λ word. word.now) words.now) input.old input.new shelf.old shelf.new
         (W.state out.old) (W.state out.new) result }
     ensures reads { input.new.reads ≤ input.old.reads + (MAX_TEXT + 1) }
@@ -262,7 +262,7 @@ where
     ensures status { result ≤ 3 }
     ensures reads { input.new.reads ≤ input.old.reads + (MAX_TEXT + 1) }
     ensures served { (outcome : Outcome) × (told : SinkState)
-        × Serves A F.reads (WritesFile F.creates F.closes F.Out.state)
+        × Serves A F.reads (writing_by F.creates F.closes F.keeps F.Out.state)
         (map (λ word. word.now) words.now) input.old input.new shelf.old shelf.new
         (W.state out.old) told outcome
         × TellsUnread (wants_json (map (λ word. word.now) words.now)) outcome told (W.state out.new)

@@ -1,5 +1,5 @@
 ghost use Rattle.std.specs.Prelude.{◌≡◌, false, true};
-ghost use Rattle.ira_main_files.specs.Shelf.{WritesFile};
+ghost use Rattle.ira_main_files.specs.Shelf.{writing_by};
 ghost use Rattle.ira_main.specs.AskedRun.{IsAskedRun};
 ghost use Rattle.ira_main.specs.Serve.{RunOutcome};
 
@@ -28,7 +28,7 @@ where
     F: Shelf,
     W: Sink,
     requires { request.now.is_alone ≡ true }
-    ensures { RunOutcome (WritesFile F.creates F.closes F.Out.state) request.now shelf.old shelf.new
+    ensures { RunOutcome (writing_by F.creates F.closes F.keeps F.Out.state) request.now shelf.old shelf.new
         (W.state out.old) (W.state out.new) result }
 {
     let Some(nodes) = ring_size(request.nodes) else {
@@ -52,7 +52,7 @@ where
     F: Shelf,
     W: Sink,
     requires { request.now.is_alone ≡ false }
-    ensures { RunOutcome (WritesFile F.creates F.closes F.Out.state) request.now shelf.old shelf.new
+    ensures { RunOutcome (writing_by F.creates F.closes F.keeps F.Out.state) request.now shelf.old shelf.new
         (W.state out.old) (W.state out.new) result }
 {
     let Some(nodes) = ring_size(request.nodes) else {
@@ -76,7 +76,7 @@ where
     F: Shelf,
     W: Sink,
     requires { IsAskedRun request.now run.now }
-    ensures { RunOutcome (WritesFile F.creates F.closes F.Out.state) request.now shelf.old shelf.new
+    ensures { RunOutcome (writing_by F.creates F.closes F.keeps F.Out.state) request.now shelf.old shelf.new
         (W.state out.old) (W.state out.new) result }
 {
     let mut text = MemorySink::new(alloc.clone()?);

@@ -1,4 +1,4 @@
-ghost use Rattle.ira_main_files.specs.Shelf.{WritesFile};
+ghost use Rattle.ira_main_files.specs.Shelf.{writing_by};
 ghost use Rattle.ira_main.specs.FilesRead.{names_of};
 ghost use Rattle.ira_main.specs.SourceNames.{OfSource};
 ghost use Rattle.ira_main.specs.Upgrade.{KeepsUpgrades, Upgrades};
@@ -24,7 +24,7 @@ fn keep_upgrades<'a, A: Allocator + Clone, F: Shelf, W: Sink>(
     shelf: &mut F,
     out: &mut W,
 ) -> Result<Status, ProgramFault<'a>>
-    ensures { KeepsUpgrades (WritesFile F.creates F.closes F.Out.state) folder.entry logs shelf.old shelf.new
+    ensures { KeepsUpgrades (writing_by F.creates F.closes F.keeps F.Out.state) folder.entry logs shelf.old shelf.new
         (W.state out.old) (W.state out.new) result }
 {
     let logs = logs.upgrade()?;
@@ -50,7 +50,7 @@ where
     F: Shelf + Sync,
     W: Sink,
     ensures { OfSource F.reads upgrade.now.logs shelf.old shelf.new (W.state out.old) (W.state out.new) result
-        (λ names. Upgrades F.reads (WritesFile F.creates F.closes F.Out.state) upgrade.now (names_of names)
+        (λ names. Upgrades F.reads (writing_by F.creates F.closes F.keeps F.Out.state) upgrade.now (names_of names)
         shelf.old shelf.new (W.state out.old) (W.state out.new) result) }
 {
     let names = source_names(&alloc, &upgrade.logs, shelf)?;

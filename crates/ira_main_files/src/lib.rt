@@ -2,8 +2,10 @@
 #![tactic(auto)]
 
 mod counting_reader;
+mod draft;
 mod file_name;
 mod file_shelf;
+mod new_file;
 mod read_text;
 mod retrying_reader;
 mod shelf;
@@ -12,8 +14,10 @@ mod text_buffer;
 mod text_source;
 
 pub use counting_reader::CountingReader;
+pub use draft::Draft;
 pub use file_name::{FileName, slash_after};
 pub use file_shelf::FileShelf;
+pub use new_file::NewFile;
 pub use read_text::read_after;
 pub use retrying_reader::RetryingReader;
 pub use shelf::Shelf;

@@ -37,7 +37,7 @@ impl Sink for NewFile {
     }
 }
 
-/// Texts under their names, and the files that were written, each when it was closed. A file that was written
+/// Texts under their names, and the files that were written, each when it got its name. A file that was written
 /// is read back.
 #[derive(Drop)]
 pub(crate) struct MemoryShelf<'a> {
@@ -145,7 +145,9 @@ impl TextSource for MemoryShelf<'_> {
 impl Shelf for MemoryShelf<'_> {
     type Out = NewFile;
 
-    ghost use Rattle.std.specs.Prelude.{◌≡◌, ◌++◌, [], ◌∷◌, Some, IfOk, MatchResult, string_bytes};
+    type Written = NewFile;
+
+    ghost use Rattle.std.specs.Prelude.{◌≡◌, ◌++◌, [], ◌∷◌, Some, IfOk, MatchResult, Ok, string_bytes};
 
     // those that were written, and those that are given with their text
     ghost files = { λ s. Some (s.written ++ s.given) };
@@ -153,7 +155,9 @@ impl Shelf for MemoryShelf<'_> {
     ghost creates = { λ old name result new. (new ≡ old)
         × IfOk result (λ file. (string_bytes file.name ≡ name) × (file.bytes.items ≡ [])) };
 
-    ghost closes = { λ old file result new. (new.given ≡ old.given)
+    ghost closes = { λ old file result new. (new ≡ old) × (result ≡ Ok file) };
+
+    ghost keeps = { λ old file result new. (new.given ≡ old.given)
         × MatchResult result
         (λ _. new.written ≡ old.written ++ record { name = string_bytes file.name; bytes = file.bytes.items } ∷ [])
         (λ _. new.written ≡ old.written) };
@@ -166,7 +170,11 @@ impl Shelf for MemoryShelf<'_> {
         })
     }
 
-    fn close(&mut self, file: NewFile) -> Result<(), ShelfFault> {
+    fn close(&mut self, file: NewFile) -> Result<NewFile, ShelfFault> {
+        Ok(file)
+    }
+
+    fn keep(&mut self, file: NewFile) -> Result<(), ShelfFault> {
         match self.written.push(file) {
             Ok(()) => Ok(()),
             Err(_) => Err(ShelfFault::OutOfMemory),

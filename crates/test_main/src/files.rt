@@ -3,7 +3,7 @@
 use crate::fakes::Memory;
 use ira_event::write_bytes;
 use ira_main_files::{FileShelf, Shelf, ShelfFault, TextBuffer, TextSource};
-use std::alloc::Allocator;
+use std::alloc::{Allocator, Global};
 use std::fs;
 use std::process::Abort;
 use std::rt::Files;
@@ -17,7 +17,8 @@ fn write<A: Allocator + Clone>(
 ) -> Result<(), ShelfFault> {
     let mut file = shelf.create(name)?;
     write_bytes(text, &mut file)?;
-    shelf.close(file)
+    let file = shelf.close(file)?;
+    shelf.keep(file)
 }
 
 /// Writes a file whole, and reads it back.
@@ -60,6 +61,39 @@ fn long_file_written_and_read(rt: HostRuntime) {
         assert!(rt; read == Ok(()) && is_whole, "{read:?} of {bytes} bytes");
     }
     assert!(rt; fs::remove_file(&rt, name).is_ok());
+}
+
+/// Begins a file over another one, of this text, and lets it go before it is closed or, if so told, afterwards.
+fn begin_over(
+    shelf: &mut FileShelf<'_, impl Files, Global>,
+    name: &str,
+    old: &[u8],
+    is_closed: bool,
+) -> Result<(), ShelfFault> {
+    write(shelf, name, old)?;
+    let mut file = shelf.create(name)?;
+    write_bytes(b"irlog 2\n", &mut file)?;
+    if is_closed {
+        let _written = shelf.close(file)?;
+    }
+    Ok(())
+}
+
+/// Where a new file is let go before it has its name, the old one is there, and nothing beside it.
+#[test]
+fn file_that_does_not_get_its_name(rt: HostRuntime) {
+    let old: &[u8] = b"irlog 1\nnodes 2\n";
+    let name = "not_named/0.log";
+    assert!(rt; fs::create_dir(&rt, "not_named").is_ok());
+    let mut shelf = FileShelf::new(&rt, rt.alloc());
+    let mut found = TextBuffer::new(rt.alloc());
+    for is_closed in [false, true] {
+        assert!(rt; begin_over(&mut shelf, name, old, is_closed).is_ok());
+        assert!(rt; shelf.read(name, &mut found).is_ok() && found.bytes() == old);
+    }
+    assert!(rt; fs::remove_file(&rt, name).is_ok());
+    // it has no other file
+    assert!(rt; fs::remove_dir(&rt, "not_named").is_ok());
 }
 
 #[test]

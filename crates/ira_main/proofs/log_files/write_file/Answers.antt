@@ -16,4 +16,4 @@ returns-in_err-write_log g c =
 pub returns : goal.returns
 returns g c =
     let named : c.as_str.result.now ≡ log_name c.args.folder.now c.args.log.now.place = search rules in
-    inl (closed _ _ _ (rw named at c.in_ok-file.ensures.made) c.in_ok-write_log.ensures c.close.ensures)
+    inl (closed _ _ _ (rw named at c.in_ok-file.ensures.made) c.in_ok-write_log.ensures c.close.ensures.closed)

@@ -1,12 +1,23 @@
-use Rattle.std.proofs.Common.{rules}
+use Rattle.std.proofs.Common.{refl, rules}
+use Rattle.ira_main_files.specs.Shelf.MakesFile.{unwritten, written}
 use Rattle.ira_main_files.specs.Shelf.WritesFile.{unmade, stopped, closed}
+use Rattle.ira_main_files.specs.declared.shelf_fault.ShelfFault.TheVariants.{Device}
 use Rattle.ira_main.proofs.text_file.write_text.Goals as goal
 
 pub returns-in_err-file : goal.returns-in_err-file
-returns-in_err-file g c = unmade _ c.in_err-file.ensures.made (search rules)
+returns-in_err-file g c =
+    let fault = c.in_err-file.field-0.0 in
+    unwritten fault (unmade fault c.in_err-file.ensures.made refl) (search rules)
 
 pub returns-in_err-write_bytes : goal.returns-in_err-write_bytes
-returns-in_err-write_bytes g c = stopped _ _ c.in_ok-file.ensures.made c.in_err-write_bytes.ensures (search rules)
+returns-in_err-write_bytes g c =
+    unwritten Device (stopped _ _ c.in_ok-file.ensures.made c.in_err-write_bytes.ensures refl) (search rules)
+
+pub returns-in_err-file-2 : goal.returns-in_err-file-2
+returns-in_err-file-2 g c = unwritten _
+    (closed _ _ _ c.in_ok-file.ensures.made c.in_ok-write_bytes.ensures c.in_err-file-2.ensures.closed) (search rules)
 
 pub returns : goal.returns
-returns g c = closed _ _ _ c.in_ok-file.ensures.made c.in_ok-write_bytes.ensures c.close.ensures
+returns g c = written _ _
+    (closed _ _ _ c.in_ok-file.ensures.made c.in_ok-write_bytes.ensures c.in_ok-file-2.ensures.closed)
+    c.keep.ensures.kept
