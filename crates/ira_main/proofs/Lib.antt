@@ -11,4 +11,5 @@ pub mod Reporting
 pub mod RingPrinting
 pub mod Shares
 pub mod Showing
+pub mod ShownNames
 pub mod Unjudged

@@ -10,6 +10,7 @@ use Rattle.ira_audit.specs.RingAudit.{RingAudit}
 use Rattle.ira_audit.specs.TextRuns.{AreTextsOfRuns}
 use Rattle.ira_audit.specs.declared.answer.Answer.{Answer}
 use Rattle.ira_audit.specs.declared.answer.Answer.TheVariants as audit
+use Rattle.ira_view_page.specs.Printable.{shown}
 use Rattle.ira_view_json.specs.FolderValue.{folder_answer_value, unread_value}
 use Rattle.ira_view_json.specs.Line.{IsLineOf}
 use Rattle.ira_main_cli.specs.declared.each_request.EachRequest.{EachRequest}
@@ -76,9 +77,9 @@ IsTellable (Unread name) = ⊤
 abbrev pub AreTellable : List FolderAnswer → Type 0
 AreTellable answers = (i : ℕ) (answer : FolderAnswer) → slice_get answers i ≡ Some answer → IsTellable answer
 
--- the line of a folder: its name and the answer's line; none where a file wasn't read
+-- the line of a folder: its name, as it is printed, and the answer's line; none where a file wasn't read
 abbrev pub folder_line : List ℕ → FolderAnswer → List ℕ
-folder_line folder (Judged answer) = folder ++ codes ": " ++ report_line answer
+folder_line folder (Judged answer) = shown folder ++ codes ": " ++ report_line answer
 folder_line folder (Unread name) = []
 
 -- the same as a line of JSON, which there is of a file that wasn't read too

@@ -1,5 +1,5 @@
 -- Why the program ends with neither yes nor no.
-use Rattle.std.specs.Prelude.{ℕ, List, ◌++◌, codes}
+use Rattle.std.specs.Prelude.{ℕ, List, ◌++◌, codes, decimal}
 use Rattle.std.specs.Borrow.{Bor}
 use Rattle.std.specs.List.{flat_map}
 use Rattle.std.specs.String.{string_bytes}
@@ -9,6 +9,7 @@ use Rattle.ira_view_picture.specs.declared.draw_fault.DrawFault.TheVariants as d
 use Rattle.ira_view.specs.CutFaultLine.{cut_fault_text}
 use Rattle.ira_view.specs.DrawFaultLine.{too_many_text}
 use Rattle.ira_view.specs.RunFaultLine.{run_fault_text}
+use Rattle.ira_view_page.specs.Printable.{shown}
 use Rattle.ira_view.specs.declared.status.Status.{Status}
 use Rattle.ira_view.specs.declared.status.Status.TheVariants as status
 use Rattle.ira_view.specs.declared.status.Status.TheVariants.{Refused}
@@ -16,8 +17,9 @@ use Rattle.ira_ring_setup.specs.declared.run_fault.RunFault.{RunFault}
 use Rattle.ira_ring_setup.specs.declared.run_fault.RunFault.TheVariants as run
 use Rattle.ira_main_cli.specs.declared.words_fault.WordsFault.{WordsFault}
 use Rattle.ira_main_cli.specs.declared.words_fault.WordsFault.TheVariants as words
-use Rattle.ira_main_files.specs.FileName.{file_name, log_name}
+use Rattle.ira_main_files.specs.FileName.{slash_after}
 use Rattle.ira_main_files.specs.declared.file_name.FileName.{FileName}
+use Rattle.ira_main_files.specs.declared.file_name.FileName.TheVariants.{Given, Log}
 use Rattle.ira_main_files.specs.declared.shelf_fault.ShelfFault.{ShelfFault}
 use Rattle.ira_main_files.specs.declared.shelf_fault.ShelfFault.TheVariants as shelf
 use Rattle.ira_main.specs.declared.program_fault.ProgramFault.{ProgramFault}
@@ -63,9 +65,14 @@ abbrev pub write_fault : Bor (List ℕ) → ShelfFault → ProgramFault
 write_fault name shelf.OutOfMemory = OutOfMemory
 write_fault name other = CannotWrite name
 
+-- a name as it is printed: what isn't printable ASCII is shown by what is
+abbrev pub printed_name : FileName → List ℕ
+printed_name (Given name) = shown name.now
+printed_name (Log folder place) = shown folder.now ++ slash_after folder.now ++ decimal place ++ codes ".log"
+
 -- the line of a file that wasn't read
 abbrev pub unread_text : FileName → List ℕ
-unread_text name = codes "ira: cannot read " ++ file_name name ++ codes "\n"
+unread_text name = codes "ira: cannot read " ++ printed_name name ++ codes "\n"
 
 -- what is written to standard error
 abbrev pub program_fault_text : ProgramFault → List ℕ
@@ -79,9 +86,9 @@ program_fault_text NoPlace = codes "ira: --leads names a node that the ring has 
 program_fault_text (TooManyEvents events) = too_many_text events
 program_fault_text (RunRefused fault) = run_fault_text fault
 program_fault_text (CannotWriteLog folder place) =
-    codes "ira: cannot write " ++ log_name folder.now place ++ codes "\n"
-program_fault_text (WouldOverwrite name) = codes "ira: would overwrite " ++ file_name name ++ codes "\n"
-program_fault_text (CannotWrite name) = codes "ira: cannot write " ++ name.now ++ codes "\n"
+    codes "ira: cannot write " ++ printed_name (Log folder place) ++ codes "\n"
+program_fault_text (WouldOverwrite name) = codes "ira: would overwrite " ++ printed_name name ++ codes "\n"
+program_fault_text (CannotWrite name) = codes "ira: cannot write " ++ shown name.now ++ codes "\n"
 program_fault_text CertificatePastLimits = codes "ira: certificate past the limits\n"
 program_fault_text CannotWriteAnswer = codes "ira: cannot write the answer\n"
 program_fault_text OutOfMemory = codes "ira: out of memory\n"

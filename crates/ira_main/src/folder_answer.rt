@@ -4,6 +4,7 @@ ghost use Rattle.ira_main.specs.Each.{IsFolderAnswer, IsFolderAudit, IsFolderObj
 
 use crate::program_fault::ProgramFault;
 use crate::read_files::read_in_turn;
+use crate::shown_name::write_shown;
 use crate::source_names::source_names;
 use ira_audit::{Answer, RingAudit, write_report};
 use ira_event::{MemorySink, OutOfMemory, Sink, WriteFault, write_bytes};
@@ -68,7 +69,7 @@ impl<'a> FolderAnswer<'a> {
     {
         match self {
             FolderAnswer::Judged(answer) => {
-                write_bytes(folder.as_bytes(), sink)?;
+                write_shown(folder, sink)?;
                 write_bytes(b": ", sink)?;
                 write_report(answer, sink)
             }

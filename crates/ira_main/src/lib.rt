@@ -26,6 +26,7 @@ mod record_run;
 mod report;
 mod ring_printer;
 mod show_files;
+mod shown_name;
 mod source_names;
 mod system;
 mod tell_unread;

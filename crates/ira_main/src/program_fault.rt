@@ -1,11 +1,13 @@
 ghost use Rattle.std.specs.Prelude.{◌≡◌, ◌++◌, codes, decimal};
 ghost use Rattle.std.specs.List.{flat_map};
 ghost use Rattle.ira_event.specs.Sink.{Wrote};
-ghost use Rattle.ira_main_files.specs.FileName.{file_name, slash_after};
-ghost use Rattle.ira_main.specs.ProgramFault.{draw_fault, program_fault_text, unread_text, read_fault, write_fault, write_log_fault};
+ghost use Rattle.ira_main_files.specs.FileName.{slash_after};
+ghost use Rattle.ira_view_page.specs.Printable.{shown};
+ghost use Rattle.ira_main.specs.ProgramFault.{draw_fault, printed_name, program_fault_text, unread_text, read_fault, write_fault, write_log_fault};
 ghost use Rattle.ira_main.specs.Outcome.{ReportsOutcome, outcome_number};
 ghost use Rattle.ira_main.specs.ProgramFault.{program_fault_status};
 
+use crate::shown_name::write_shown;
 use ira_event::{Line, OutOfMemory, Sink, WriteFault, write_bytes};
 use ira_main_cli::WordsFault;
 use ira_main_files::{FileName, ShelfFault, slash_after};
@@ -128,7 +130,7 @@ impl<'a> ProgramFault<'a> {
                 write_file_named(b"ira: would overwrite ", *name, err)
             }
             ProgramFault::CannotWrite(name) => {
-                write_named(b"ira: cannot write ", name.as_bytes(), &line_feed(), err)
+                write_named(b"ira: cannot write ", name, &line_feed(), err)
             }
             ProgramFault::CertificatePastLimits => {
                 write_bytes(b"ira: certificate past the limits\n", err)
@@ -165,17 +167,12 @@ fn write_file_named<V: Sink>(
     name: FileName<'_>,
     err: &mut V,
 ) -> Result<(), WriteFault>
-    ensures { Wrote result (before.now ++ file_name name.entry ++ codes "\n") (V.state err.old) (V.state err.new) }
+    ensures { Wrote result (before.now ++ printed_name name.entry ++ codes "\n") (V.state err.old) (V.state err.new) }
 {
     match name {
-        FileName::Given(name) => write_named(before, name.as_bytes(), &line_feed(), err),
+        FileName::Given(name) => write_named(before, name, &line_feed(), err),
         FileName::Log(folder, place) => {
-            write_named(
-                before,
-                folder.as_bytes(),
-                &log_in_folder(folder, place),
-                err,
-            )
+            write_named(before, folder, &log_in_folder(folder, place), err)
         }
     }
 }
@@ -193,14 +190,14 @@ fn write_unread<V: Sink>(names: &[FileName<'_>], err: &mut V) -> Result<(), Writ
 #[tactic(auto, using(ira_event::proofs::Writing::writes))]
 fn write_named<V: Sink>(
     before: &[u8],
-    name: &[u8],
+    name: &str,
     rest: &Line,
     err: &mut V,
 ) -> Result<(), WriteFault>
-    ensures { Wrote result (before.now ++ name.now ++ rest.now) (V.state err.old) (V.state err.new) }
+    ensures { Wrote result (before.now ++ shown name.now ++ rest.now) (V.state err.old) (V.state err.new) }
 {
     write_bytes(before, err)?;
-    write_bytes(name, err)?;
+    write_shown(name, err)?;
     rest.write(err)
 }
 

@@ -1,6 +1,7 @@
 use Rattle.std.proofs.Common.{◌≡◌, ◌∙◌, ◌++◌, List, ℕ, ap, append_assoc, codes, decimal, subst, sym}
 use Rattle.ira_event.specs.Sink.{Wrote}
 use Rattle.ira_main_files.specs.FileName.{slash_after}
+use Rattle.ira_view_page.specs.Printable.{shown}
 use Rattle.ira_main.proofs.program_fault.write_file_named.Goals as goal
 
 -- what stands before a name of four parts and after it
@@ -16,12 +17,12 @@ regrouped before folder slash place log end =
 
 pub returns-in-Given : goal.returns-in-Given
 returns-in-Given g c =
-    rw c.in-Given.is (rw (c.as_bytes.ensures.value, c.line_feed.ensures) at c.write_named.ensures)
+    rw c.in-Given.is (rw c.line_feed.ensures at c.write_named.ensures)
 
 pub returns-in-Log : goal.returns-in-Log
 returns-in-Log g c =
-    let said = rw (c.as_bytes-in-Log.ensures.value, c.log_in_folder.ensures) at c.write_named-in-Log.ensures in
-    let whole = regrouped c.args.before.now c.in-Log.folder.now (slash_after c.in-Log.folder.now) (decimal c.in-Log.place) (codes ".log")
+    let said = rw c.log_in_folder.ensures at c.write_named-in-Log.ensures in
+    let whole = regrouped c.args.before.now (shown c.in-Log.folder.now) (slash_after c.in-Log.folder.now) (decimal c.in-Log.place) (codes ".log")
     (codes "\n") in
     let Says : List ℕ → Type 0 = λ t.
     Wrote c.write_named-in-Log.result t (g.V.Sink.state c.args.err.now) (g.V.Sink.state c.write_named-in-Log.new.err) in
