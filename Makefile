@@ -22,18 +22,23 @@ help:
 	@echo 'make checks     all checks, or those that are named: CHECKS="A B". They look at what no proof speaks of:'
 	@echo '    definitions docs/DEFINITIONS.md, the comments above the definitions'
 	@echo '    names       what pages name: links, headings, items of code; crates without a user'
+	@echo '    weight      lines and words, none more than the budget in CONTRIBUTING.md says'
+	@echo '    sentences   each sentence of the views, in some expected output'
 	@echo '    examples    the tables and the commands of examples/'
 	@echo '    limits      faults, long texts, what is past the limits'
 	@echo '    pages       the commands of README.md, docs/ and the README of a package'
 	@echo '    completions commands and options of the completions, those of the help'
 	@echo '    version     the logic that the version, README.md and the toolchain name'
 	@echo '    pictures    pictures of the examples and of recorded rings, read back and held against the logs'
+	@echo '    script      the script of pages to move in, looked through, and run in Node over pages, in the same way'
 	@echo '    page        pages to move in, opened in a headless Chromium, in the same way; and how fast a large one moves'
 	@echo '    web         answers of ira.html in a headless Chromium, those of the program; hostile names and texts'
 	@echo '    library     the library from Python, C and Node, which answers what the program does'
 	@echo '    json        lines of JSON, in the same way'
 	@echo '    plain       plain pages of show and explain, in the same way'
+	@echo '    hints       slips of recorders and links, planted in recorded elections: no hint of explain is false'
 	@echo '    writes      writes that fail, and kills within a write: what was there is there'
+	@echo '    odd_names   names with control characters, line feeds and the like, in each command: how they are printed'
 	@echo '    refusals    the first growths of memory and each start of a thread refused in turn, of a few command lines'
 	@echo '    recorders   elections by each recorder of examples/recorders'
 	@echo '    sweep       each growth of memory and each start of a thread refused in turn, each read and write of a file'
@@ -67,7 +72,7 @@ prove:
 	@$(needs_kit)
 	@sh build/release.sh sums
 	rt ci
-	@sh checks/all.sh crates/ira/out/ira definitions names examples limits pages completions version pictures json plain writes refusals
+	@sh checks/all.sh crates/ira/out/ira definitions names sentences weight examples limits pages completions version pictures script json plain hints writes odd_names refusals
 	@sh build/release.sh prove
 
 install:

@@ -2,8 +2,9 @@
 # sh build/test.sh  runs the tests, and the programs that have an expected output, built with no proof, as many crates at
 # a time as there are cores; and the checks that take minutes at most. Where there is no Rattle kit, the checks alone.
 #
-# With arguments it's one part of that: `tests CRATE`, `program CRATE` or `checks`. Each leaves in $room what it said, and
-# in a file .counts how many passed and how many failed, or in a file .skipped why not.
+# With arguments it's one part of that: `tests CRATE`, `program CRATE`, `build unproved`, which says in $room/program where the
+# program for the checks is, or `check NAME`. Each leaves in $room what it said, and in a file .counts how many passed and
+# how many failed, or in a file .skipped why not.
 
 # What takes longer than this, as it's built here with its accesses watched, is left to the gate.
 seconds=30
@@ -44,29 +45,45 @@ program() {
     fi
 }
 
-# On a program of these sources: one that was proved, or else one that is built with no proof.
-checks() {
-    {
-        if ! ira=$(sh build/program.sh); then
-            ira=-
-            if command -v rt > /dev/null; then
-                sh build/try.sh || return
-                ira=bin/unproved/ira
-            fi
+# The checks that take minutes at most, the longest first, on a program of these sources: one that was proved, or else one
+# that is built with no proof.
+checks='hints pictures plain examples script page web library json limits refusals pages completions version definitions names sentences weight'
+
+build() {
+    if ! ira=$(sh build/program.sh); then
+        ira=-
+        if command -v rt > /dev/null; then
+            sh build/try.sh > "$room/$1" 2>&1 && ira=bin/unproved/ira || echo 0 1 > "$room/$1.counts"
         fi
-        sh checks/all.sh "$ira" definitions names examples limits pages completions version pictures page web \
-            library json plain refusals
-    } > "$room/checks" 2>&1
-    sed -n '$s/^checks: ran \([^;]*\);.*failed \(.*\)/\1:\2/p' "$room/checks" | awk -F: '{
-        ran = split($1, names, ", ")
-        failed = $2 == "none" ? 0 : split($2, names, ", ")
-        print ran - failed, failed
-    }' > "$room/checks.counts"
+    fi
+    echo "$ira" > "$room/program.new" && mv "$room/program.new" "$room/program"
+}
+
+check() {
+    to=$room/check.$1
+    waited=0
+    until [ -f "$room/program" ] || [ $waited = 1800 ]; do
+        sleep 1
+        waited=$((waited + 1))
+    done
+    sh checks/all.sh "$(cat "$room/program")" "$1" > "$to" 2>&1
+    sed -n 's/^skipped: [a-z_]* (\(.*\))$/\1/p' "$to" | head -n 1 > "$to.why"
+    if grep -q "^checks: ran $1;.*; failed none$" "$to"; then
+        echo 1 0 > "$to.counts"
+    elif grep -q "^checks: ran none;.*; failed none$" "$to"; then
+        cp "$to.why" "$to.skipped"
+    else
+        echo 0 1 > "$to.counts"
+    fi
 }
 
 if [ $# -gt 0 ]; then
     "$@"
-    part=$room/${2:-checks}
+    case $1 in
+    build) exit 0 ;;
+    check) part=$room/check.$2 ;;
+    *) part=$room/$2 ;;
+    esac
     if [ ! -f "$part.skipped" ] && [ ! -s "$part.counts" ]; then
         echo 0 1 > "$part.counts"
     fi
@@ -81,16 +98,20 @@ export room
 trap 'rm -rf "$room"' EXIT
 trap 'exit 130' HUP INT TERM
 
-ran=
+ran='' checked=''
+printf 'check %s\n' $checks > "$room/checks"
 {
-    echo checks
+    echo build unproved
     if command -v rt > /dev/null; then
         # the crates with the most tests first
         grep -rc --include='*.rt' '#\[test\]' crates/*/src | awk -F '[/:]' '{ tests[$2] += $NF }
-            END { for (it in tests) if (tests[it]) print tests[it], "tests", it }' | sort -rn | cut -d ' ' -f 2-
+            END { for (it in tests) if (tests[it]) print tests[it], "tests", it }' | sort -rn | cut -d ' ' -f 2- |
+            sed "3r $room/checks"
         for it in crates/*/stdout; do
             echo "program $(basename "$(dirname "$it")")"
         done
+    else
+        cat "$room/checks"
     fi
 } > "$room/parts"
 echo "$(wc -l < "$room/parts") parts, $(nproc) at a time"
@@ -103,16 +124,21 @@ for counts in "$room"/*.counts; do
     passed=$((passed + well)) failed=$((failed + badly))
     [ "$badly" = 0 ] || { echo "== ${part##*/}"; grep -v ' \.\.\. ok$' "$part"; }
     case $part in
-    */checks) ;;
+    */check.*) checked="$checked${checked:+, }${part##*/check.}" ;;
     *) ran="$ran${ran:+, }$well of ${part##*/}" ;;
     esac
 done
-skipped=''
-for why in "$room"/*.skipped; do
-    [ ! -f "$why" ] || part=${why##*/} skipped="$skipped${skipped:+, }${part%.skipped} ($(cat "$why"))"
-done
+# What was skipped of tests and programs, or of checks, within a check too.
+skipped=$(for why in "$room"/*.skipped; do
+    part=${why##*/}
+    case $part in
+    check.* | \*.skipped) ;;
+    *) echo "${part%.skipped} ($(cat "$why"))" ;;
+    esac
+done | paste -s -d , - | sed 's/,/, /g')
+unchecked=$(sed -n 's/^skipped: //p' "$room"/check.* | sort -u | paste -s -d , - | sed 's/,\([^ ]\)/, \1/g')
 command -v rt > /dev/null || skipped='all (no Rattle kit)'
 echo "$passed passed, $failed failed"
 echo "tests with no proof: ran ${ran:-none}${skipped:+; skipped $skipped}"
-tail -n 1 "$room/checks"
+echo "checks: ran ${checked:-none}${unchecked:+; skipped $unchecked}"
 [ "$failed" = 0 ]

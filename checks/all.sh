@@ -15,7 +15,7 @@ folder=$(dirname "$ira")
 page=$folder/ira.html
 cd "$(dirname "$0")" || exit 2
 shift
-all='definitions names examples limits pages completions version pictures page web library json plain writes refusals recorders sweep'
+all='definitions names sentences weight examples limits pages completions version pictures script page web library json plain hints writes odd_names refusals recorders sweep'
 said=$(mktemp) || exit 2
 trap 'rm -f "$said"' EXIT
 
@@ -34,7 +34,11 @@ has_page() {
 # What a check needs and isn't there.
 lacks() {
     case $ira:$1 in
-    *:definitions | *:names) return ;;
+    *:definitions | *:names | *:weight) return ;;
+    *:sentences)
+        command -v python3 > /dev/null || echo 'no python3'
+        return
+        ;;
     -:*)
         echo 'no program of these sources'
         return
@@ -42,14 +46,15 @@ lacks() {
     esac
     case $1 in
     # limits and json would take it many minutes, and it gets no memory by the C library
-    version | limits | json | refusals | sweep)
+    version | limits | json | odd_names | refusals | sweep)
         ! "$ira" version | grep -q '(not proved' || { echo 'a program that was built with no proof'; return; }
         ;;
     esac
     case $1 in
-    pictures | page | web | library | json | plain | writes | refusals | sweep) command -v python3 > /dev/null || { echo 'no python3'; return; } ;;
+    pictures | script | page | web | library | json | plain | hints | writes | odd_names | refusals | sweep) command -v python3 > /dev/null || { echo 'no python3'; return; } ;;
     esac
     case $1 in
+    script) command -v node > /dev/null || echo 'no node' ;;
     page | web)
         command -v chromium > /dev/null && command -v chromedriver > /dev/null || { echo 'no chromium and chromedriver'; return; }
         [ "$1" = page ] || has_page || echo 'no ira.html of these sources beside the program: make web'
@@ -71,15 +76,19 @@ of_ira() {
 
 check() {
     case $1 in
-    definitions | names) sh "$1.sh" ;;
+    definitions | names | weight) sh "$1.sh" ;;
     examples | limits | pages | completions | version | recorders) sh "$1.sh" "$ira" ;;
     pictures) python3 -B pictures.py "$ira" ;;
+    script) python3 -B script.py "$ira" ;;
     page) python3 -B page.py "$ira" ;;
     web) python3 -B web.py "$ira" "$page" ;;
     library) python3 -B library.py "$ira" "$folder" ;;
     json) python3 -B json_lines.py "$ira" ;;
     plain) python3 -B plain_pages.py "$ira" ;;
+    sentences) python3 -B sentences.py ;;
+    hints) python3 -B hints.py "$ira" ;;
     writes) python3 -B writes.py "$ira" ;;
+    odd_names) python3 -B odd_names.py "$ira" ;;
     refusals) python3 -B sweep.py --short "$(of_ira)" ;;
     sweep) python3 -B sweep.py "$(of_ira)" ;;
     esac

@@ -1,5 +1,6 @@
 #!/bin/sh
-# Compares the commands and options that the completions know, and those of the manual, with those of the program's help.
+# Completions, the manual page and the tables of COMMANDS.md are what command_words.py makes of the command line, and the
+# options of the program's help are those that bash completes.
 #
 #     sh checks/completions.sh bin/ira
 
@@ -7,6 +8,12 @@ ira=$(realpath "$1") || exit 2
 [ -x "$ira" ] || { echo "completions: no program at $1"; exit 2; }
 cd "$(dirname "$0")/../completions" || exit 2
 differ=0
+
+if command -v python3 > /dev/null; then
+    python3 ../checks/command_words.py || differ=1
+else
+    echo 'skipped: that completions and pages are made of the command line (no python3)'
+fi
 
 # Compares two lists of words, in any order: what is compared, the help's, the completion's.
 compare() {
@@ -21,25 +28,10 @@ compare() {
 commands=$("$ira" --help 2>&1 | sed -n '/^Commands:/,/^$/s/^  \([a-z]*\) .*/\1/p')
 [ -n "$commands" ] || { echo 'completions: the help has no commands'; exit 1; }
 compare ira.bash "$commands" "$(sed -n "s/^_ira_commands='\(.*\)'/\1/p" ira.bash)"
-compare _ira "$commands" "$(sed -n "s/^        '\([a-z]*\):.*/\1/p" _ira)"
-compare ira.fish "$commands" "$(sed -n 's/.*__fish_use_subcommand -a \([a-z]*\) .*/\1/p' ira.fish)"
-
-manual=$(sed 's/\\-/-/g' ../docs/ira.1) || exit 2
 for command in $commands; do
     [ "$command" = help ] && continue
     options=$("$ira" "$command" --help 2>&1 | sed -n 's/^ *\(-[a-z], \)\{0,1\}\(--[a-z]*\).*/\2/p')
-    for word in "ira $command" $options; do
-        case $manual in
-            *"$word"*) ;;
-            *) [ "$word" = --help ] || { echo "completions: ira.1 lacks $word"; differ=1; } ;;
-        esac
-    done
-    compare "ira.bash: $command" "$options" \
-        "$(sed -n "s/^ *\([a-z |]* \)\{0,1\}$command\( [a-z |]*\)\{0,1\}) echo \(.*\) ;;/\3/p" ira.bash)"
-    compare "_ira: $command" "$options" \
-        "$(sed -n "/^        $command)/,/;;/p" _ira | grep -o "'--[a-z]*" | tr -d "'")"
-    compare "ira.fish: $command" "$options" \
-        "$(sed -n "s/.*__fish_seen_subcommand_from [a-z ]*$command[a-z ]*'.* -l \([a-z]*\) .*/--\1/p" ira.fish)"
+    compare "ira.bash: $command" "$options" "$(sed -n "s/^ *$command) echo \(.*\) ;;/\1/p" ira.bash)"
 done
 
 # Each is read by its own shell where that is there.

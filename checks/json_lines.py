@@ -9,7 +9,8 @@ import subprocess
 import sys
 import tempfile
 
-from pictures import HERE, Ring, logs_in
+from pictures import HERE, Ring, logs_in, redrawn
+from plain_pages import next_of
 
 
 class Reader:
@@ -195,6 +196,11 @@ def check_asks(question, page, cases):
             assert files.line(question, ask['line']) == f"{ask['node']}: {ask['clause']}".encode(), ask
 
 
+def due(value):
+    """A node and what comes next there, as a page says it."""
+    return value['node'], ' '.join([value['next'] + 's', *(load(value) if value['next'] != 'draw' else [])])
+
+
 def check_moment(reader, ring, names, cut, words):
     """What is shown at a moment; without a cut, when the logs end."""
     at = cut or [len(events) for events in ring.events]
@@ -203,7 +209,7 @@ def check_moment(reader, ring, names, cut, words):
     leaders = [i for i, states in enumerate(ring.states) if states[-1].phase == 'leader']
     assert status == 0 and answer['answer'] == 'yes' and answer['nodes'] == ring.n
     assert answer['leaders'] == leaders and answer['events'] == sum(map(len, ring.events))
-    assert answer.get('cut') == cut
+    assert answer['over'] == bool(leaders) and answer.get('cut') == cut
     nodes = [value for value in rest if value['type'] == 'node']
     assert [value['node'] for value in nodes] == list(range(ring.n))
     for i, value in enumerate(nodes):
@@ -219,6 +225,7 @@ def check_moment(reader, ring, names, cut, words):
         got = sum(k <= at[(i + 1) % ring.n] for k in ring.got[i])
         way = [(m['event'], load(m)) for m in ways.get(i, [])]
         assert way == [(k, ring.events[i][k - 1][1:]) for k in sent[got:]], (i, way)
+    assert [due(value) for value in rest if value['type'] == 'next'] == list(next_of(ring, at)), rest
     rounds = [value for value in rest if value['type'] == 'round']
     assert sum(value['drew'] for value in rounds) == sum(value['draws'] for value in nodes)
 
@@ -341,6 +348,7 @@ def check_broken(reader, names):
 
     check_logs(reader, [names[1], names[0], *names[2:]], None)
     check_logs(reader, names[:-1], None)
+    redrawn(names, lambda: check_logs(reader, names, None))
     for place in range(len(names)):
         changed(place, lambda lines: at(lines, 'irlog', lambda _: 'irlog 2'))
         changed(place, lambda lines: at(lines, 'start', lambda _: 'start passive'))

@@ -1,8 +1,11 @@
 #!/bin/sh
 # What pages name is there: the file and the heading that a link leads to, and in back quotes files and the items of code, as
 # `NodeLog`, `read_log` or `RingAudit::take`. And each crate has a user, but for programs, the module and tests, and names
-# each crate that crates.txt puts it on. No type, trait or function that is public in a crate of views, runs or the program
-# has the name of another one there.
+# each crate that crates.txt puts it on; ARCHITECTURE's drawing has each, but those of tests, on a line above what it rests on.
+# No type, trait or function that is public in a crate of views, runs or the program
+# has the name of another one there. The numbers of requests to ira_web have one order of names, in its code, in the page,
+# in the library and in the check of both. And recipes of CONTRIBUTING name each file that tells reasons, clauses, events or
+# commands apart.
 #
 #     sh checks/names.sh
 
@@ -67,11 +70,49 @@ sed -n 's/^\([a-z0-9_]*\)\( staticlib\)\{0,1\}:\(.*\)/\1 \3/p' crates.txt | whil
     done
 done > "$made/below"
 
+{ sed -n 's/^    \( *ira\| *[a-z ,]*  ira\)/\1/p' docs/ARCHITECTURE.md; echo =; cat crates.txt; } | awk '
+    /^=$/ { is_list = 1 }
+    !is_list { for (i = 1; i <= NF; i++) if ($i ~ /^(ira|ira_.*|test_commands)$/) row[$i] = NR; next }
+    /^(ira|test_commands)/ {
+        name = $1; sub(/:$/, "", name)
+        if (!(name in row)) print name ": not in the drawing of ARCHITECTURE.md"
+        for (i = 2; i <= NF; i++) if ($i in row && row[$i] <= row[name]) print name ": not drawn above " $i
+    }' > "$made/drawing"
+
+# The numbers of requests to the module stand by their names, in this order, wherever they are sent from.
+requests_of() {
+    sed 's|/\*.*\*/||; s/IRA_//' "$1" | tr -cs 'A-Za-z_' '\n' |
+        awk '/^LOG$/ { on = 1 } on && /^[A-Z_]+$/ { if (/JSON/) { print "JSON"; exit } print }'
+}
+sed -n 's/^const \([A-Z_]*\): u64 = \([0-9]*\);$/\2 \1/p' crates/ira_web/src/request.rt | awk '$1 == n { print $2; n++ }' \
+    > "$made/requests"
+for file in web/page.js library/ira.h library/ira.mjs library/ira.py checks/web.py; do
+    requests_of "$file" | cmp -s - "$made/requests" ||
+        echo "$file: requests are named otherwise than in crates/ira_web/src/request.rt"
+done > "$made/numbers"
+
 grep -rhoE --include='*.rt' '^pub (const )?(struct|enum|trait|type|fn) [A-Za-z0-9_]+' crates/ira_view*/src crates/ira_ring*/src \
     crates/ira_main*/src crates/ira_mend/src | awk '{ print $NF }' | sort | uniq -d |
     sed 's/$/: two public items have this name/' > "$made/twice"
 
-for it in links items files crates below twice; do
+# Each file that tells the variants of a type apart is named by the recipe for another one. Of each type a variant stands for
+# all: what is matched in code, and what definitions import.
+recipe() {
+    sed -n "/^\* \*\*$1\*\*/,/^\* \*\*/p" CONTRIBUTING.md | sed '1p; /^\* \*\*/d' | grep -oE '`[^`]*`' | tr -d '`' |
+        sed 's|.*/||; s/\.antt$//' > "$made/named"
+    { grep -lE "$2" crates/ira_*/src/*.rt; grep -lE "$3" crates/ira_*/specs/*.antt; } | while read -r file; do
+        stem=${file##*/}
+        grep -qx -e "${stem%.antt}" "$made/named" || echo "CONTRIBUTING.md: **$1** doesn't name $file"
+    done
+}
+{
+    recipe 'A report line' 'Reason::Circle' 'TheVariants\.\{[^}]*\<Circle\>'
+    recipe 'A clause of questions' 'Clause::Yielding' 'Formula\.\{[^}]*\<yielding\>'
+    recipe 'An event kind' 'Event::Yield' 'TheVariants\.\{[^}]*\<Yield\>'
+    recipe 'A command' 'Request::Upgrade' 'TheVariants\.\{[^}]*\<Upgrade\>'
+} > "$made/recipes"
+
+for it in links items files crates below drawing numbers twice recipes; do
     while read -r line; do
         fail "$line"
     done < "$made/$it"

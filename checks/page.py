@@ -19,7 +19,17 @@ import urllib.request
 
 from pictures import HERE, Ring, load, logs_in, words
 
-LARGEST = 30 * 1024
+LARGEST = 44 * 1024
+EXAMPLES = {name: logs_in(os.path.join(HERE, '..', 'examples', name)) for name in (
+    'two_node_election', 'tie_then_win', 'second_term', 'recorded_ring', 'receipts_exchanged', 'lost_record', 'circle_of_two')}
+# a hop raised twice by node 2, which node 0 finds out
+RAISED = ('draw 4, send 1 4 1 clean, recv 1 3 1 clean, recv 1 4 5 clean',
+          'draw 1, send 1 1 1 clean, recv 1 4 1 clean, send 1 4 2 clean',
+          'draw 2, send 1 2 1 clean, recv 1 1 1 clean, recv 1 4 2 clean, send 1 4 4 clean',
+          'draw 3, send 1 3 1 clean, recv 1 2 1 clean, recv 1 4 4 clean, send 1 4 5 clean')
+# two events without a step before that of node 0, none of the two before the other
+DRAWN_TOO_HIGH = ('draw 4, send 1 4 1 clean, recv 1 9 1 clean, recv 1 4 5 clean', *RAISED[1:3],
+                  'draw 9, send 1 9 1 clean, recv 1 2 1 clean, recv 1 4 4 clean, send 1 4 5 clean')
 READS = '''
 const read = list => Object.fromEntries([...list.querySelectorAll('dt')].map(term => [term.textContent, term.nextSibling.textContent]));
 const cells = table => [...table.rows].slice(1).map(row => [...row.cells].map(cell => cell.textContent));
@@ -173,6 +183,9 @@ def holds_event(seen, ring, names, i, p):
     assert about['after'] == state(ring, i, p)
     assert about['before'] == state(ring, i, p - 1) and about['in'] == f'{names[i]}:{p + 4}', about
     assert about['owes'] == (about['after'].split(', owes ')[1] if ', owes ' in about['after'] else 'nothing')
+    for key, kind in (('from', 'recv'), ('to', 'send')):
+        other = ring.events[i][p - 1][0] == kind and beside(ring, i, p)
+        assert about.get(key) == (f'node {other[0]} event {other[1]}' if other else None), (about, other)
     past = ring.past(i, p)
     assert about['past'] == events(sum(past) - 1), (about, past)
     if ring.mismatch() is None:
@@ -261,7 +274,24 @@ class Check:
         holds_event(seen, ring, names, *named)
         for part in told:
             assert part in seen['why'], (part, seen['why'])
+        assert seen['why'].startswith(answer) and not re.search(r':\d+ event\b', seen['why']), seen['why']
         assert not (faults := self.browser.faults()), faults
+
+    def all_refused(self, raised, drawn):
+        self.refused(EXAMPLES['receipts_exchanged'], (0, 3), ['the link changed their order',
+                                                               '11 1 1 clean1 2 2 cleandiffers21 2 2 clean1 1 1 cleandiffers'])
+        self.refused(EXAMPLES['lost_record'], (0, 4), ['owes exactly this message: its sending is not recorded',
+                                                         '11 1 1 clean1 1 1 clean2-1 2 2 clean'])
+        self.refused(EXAMPLES['circle_of_two'], (0, 1), ['0 of 4 events can be put in order', 'Besides, node 1 has no step',
+                                                         'two threads write one log', 'recv 1 1 2 clean'])
+        self.refused(raised, (2, 5), ['Rule 3: what a node owes', 'Begin elsewhere', 'recv 1 4 5 clean', 'send 1 4 4 clean', 'not owed',
+                                      'hop past', 'send 1 4 3 clean is due', 'active in round 1 with ID 4'])
+        self.refused(drawn, (2, 5), ['Rule 3: what a node owes', 'Begin elsewhere', 'send 1 4 4 clean', 'not owed', 'draw 9', 'draw range',
+                                     'send 1 4 3 clean is due', 'send 1 9 2 clean is due'])
+
+    def all_asked(self):
+        question = os.path.join(HERE, '..', 'examples', 'two_node_election', 'active_beside_passive.ask')
+        self.asked(EXAMPLES['two_node_election'], question, [2, 3], 'case 0 is met here: node 0 active, node 1 passive')
 
     def asked(self, names, question, cut, told):
         """A question: the page opens at the first moment that meets a case of it."""
@@ -272,7 +302,7 @@ class Check:
         assert seen['asked'] == told, seen['asked']
 
     def seen_view(self):
-        return self.browser.run('return {...view, right: total(), width, height}')
+        return self.browser.run('return {...view, right: total(), width: wide, height: high}')
 
     def moved(self, names):
         """Wheel, drags, clicks, and the keys that move."""
@@ -313,7 +343,7 @@ class Check:
         browser.type('0')
         i, p = max(ring.column, key=ring.column.get)
         browser.run('reveal(stands[arguments[0]], laneY[arguments[1]])', ring.column[i, p], i)
-        x, y = browser.run('return [X(nodes[arguments[0]].events[arguments[1]].p), Y(laneY[arguments[0]])]', i, p)
+        x, y = browser.run('return [X(eventAt(arguments[0], arguments[1]).p), Y(laneY[arguments[0]])]', i, p)
         browser.drag(x, y, 0, 0)
         assert self.look()['title'] == f'node {i} event {p}'
         x, y = browser.run('const e = order.find(e => e.to); reveal(e.p, laneY[e.node]); '
@@ -335,7 +365,7 @@ class Check:
         for text, wanted in (
                 ('1.2', lambda i, p, e: (i, p) == (1, 2)), ('node 0 event 3', lambda i, p, e: (i, p) == (0, 3)),
                 (f'{names[1]}:6', lambda i, p, e: (i, p) == (1, 2)), ('0.log:7', lambda i, p, e: (i, p) == (0, 3)),
-                ('round 2', lambda i, p, e: browser.run('return +nodes[arguments[0]].events[arguments[1]].round', i, p) == 2),
+                ('round 2', lambda i, p, e: browser.run('return eventAt(arguments[0], arguments[1]).inRound', i, p) == 2),
                 ('ID 1', lambda i, p, e: e == 'draw 1' or e.split(' ')[2:3] == ['1']), ('2 clean', lambda i, p, e: '2 clean' in e),
                 ('9.9', lambda i, p, e: False), ('round 77', lambda i, p, e: False)):
             browser.type('/')
@@ -394,10 +424,12 @@ class Check:
             assert role not in ('', 'generic', 'none') and name.strip(), (key, role, name)
             reached[at] = key
         assert {'alone', 'fold', 'search', '-', '+', 'w', '0', '?', 'view', 'play', '[', ']', 'steps', 'Escape'} <= set(reached.values()), reached
-        seen = 'return ["page", "picture"].map(id => document.getElementById(id).getBoundingClientRect().height > 99)'
+        seen = 'return ["page", "print"].map(id => document.getElementById(id).getBoundingClientRect().height > 99)'
         assert browser.run(seen) == [True, False]
         browser.devtools('Emulation.setEmulatedMedia', media='print')
+        browser.run('onbeforeprint()')
         assert browser.run(seen) == [False, True]
+        assert browser.run("return $('print').querySelectorAll('path').length > 9")
         browser.devtools('Emulation.setEmulatedMedia', media='')
         assert not (faults := browser.faults()), faults
 
@@ -448,34 +480,21 @@ class Check:
 
 def main():
     program = sys.argv[1]
-    examples = {name: logs_in(os.path.join(HERE, '..', 'examples', name)) for name in (
-        'two_node_election', 'tie_then_win', 'second_term', 'recorded_ring', 'receipts_exchanged', 'lost_record', 'circle_of_two')}
     browser = Browser()
     try:
         with tempfile.TemporaryDirectory() as temp:
             check = Check(program, browser, temp)
             for name in ('two_node_election', 'tie_then_win', 'second_term', 'recorded_ring'):
-                check.events(examples[name], 8)
+                check.events(EXAMPLES[name], 8)
             folder = os.path.join(temp, 'recorded')
             os.mkdir(folder)
             subprocess.run([program, 'run', '--nodes', '8', '--seed', '2', '--out', folder], check=True, stdout=subprocess.DEVNULL)
             check.events(logs_in(folder), 20)
             check.moved(logs_in(folder))
-            check.searched(examples['tie_then_win'])
-            check.reached(examples['tie_then_win'])
-            check.refused(examples['receipts_exchanged'], (0, 3), ['the link changed their order', '1 2 2 clean', 'differs'])
-            check.refused(examples['lost_record'], (0, 4), ['owes exactly this message: its sending is not recorded', 'recv 1 2 2 clean'])
-            check.refused(examples['circle_of_two'], (0, 1), ['two threads write one log', 'recv 1 1 2 clean'])
-            # a hop raised twice by node 2, which node 0 finds out
-            names = recorded(os.path.join(temp, 'raised'), (
-                'draw 4, send 1 4 1 clean, recv 1 3 1 clean, recv 1 4 5 clean',
-                'draw 1, send 1 1 1 clean, recv 1 4 1 clean, send 1 4 2 clean',
-                'draw 2, send 1 2 1 clean, recv 1 1 1 clean, recv 1 4 2 clean, send 1 4 4 clean',
-                'draw 3, send 1 3 1 clean, recv 1 2 1 clean, recv 1 4 4 clean, send 1 4 5 clean'))
-            check.refused(names, (2, 5), ['Begin at node 2 event 5', 'recv 1 4 5 clean', 'send 1 4 4 clean', 'not owed',
-                                          'send 1 4 3 clean is due', 'active in round 1 with ID 4'])
-            question = os.path.join(HERE, '..', 'examples', 'two_node_election', 'active_beside_passive.ask')
-            check.asked(examples['two_node_election'], question, [2, 3], 'case 0 is met here: node 0 active, node 1 passive')
+            check.searched(EXAMPLES['tie_then_win'])
+            check.reached(EXAMPLES['tie_then_win'])
+            check.all_refused(recorded(os.path.join(temp, 'raised'), RAISED), recorded(os.path.join(temp, 'drawn'), DRAWN_TOO_HIGH))
+            check.all_asked()
             check.hostile(temp, os.path.join(HERE, '..', 'examples', 'two_node_election'))
             check.moves(temp)
             print(f'{check.read} readings of pages are what their logs say')

@@ -1,6 +1,6 @@
 """Reads pictures of `ira draw` back with an XML parser: marks, arrows, stubs, bands, debts, the lap, the line of a
-moment and what is ringed are computed from coordinates, and held against the matching and the states of the logs,
-which are computed here anew.
+moment, what is ringed, and all words are computed from coordinates, and held against the matching and the states of
+the logs, which are computed here anew.
 
     python3 checks/pictures.py PROGRAM      PROGRAM draws the examples, and elections that it records
 """
@@ -61,6 +61,26 @@ def step(s, event, n):
     if hop > n:
         return None
     return s._replace(phase='choosing', round=s.round + 1, id=None) if dirty else s._replace(phase='leader')
+
+
+def fault(s, event, n):
+    """Why an event has no step after the state, in the words of answers; the limits on numbers aside."""
+    kind, rest = event[0], event[1:]
+    if s.phase == 'leader':
+        return 'ended'
+    if kind == 'send':
+        return 'not owed'
+    if s.owed:
+        return 'owes'
+    if kind == 'yield':
+        return 'not leader'
+    if kind == 'draw':
+        return 'draw range' if s.phase == 'choosing' else 'not choosing'
+    if s.phase == 'choosing':
+        return 'must draw'
+    if rest[0] == 'reset':
+        return 'wrong reset'
+    return 'not a reset' if s.phase == 'yielding' else 'hop past'
 
 
 class Ring:
@@ -152,6 +172,31 @@ class Ring:
                     work.append(self.sending(j, r))
             cut[j] = max(cut[j], q)
         return cut
+
+    def fault(self, i):
+        """The first event of a node without a step, and why."""
+        p = len(self.states[i])
+        return p, fault(self.states[i][-1], self.events[i][p - 1], self.n)
+
+    def answer(self):
+        """What stands against the logs, in words; and the events that it speaks of, each with what is said of it: both sides of
+        a link's fault, stuck receipts, or one without a step, and those to begin with."""
+        if self.mismatch():
+            i, k = self.mismatch()
+            found = f"receipt {k + 1} {'differs' if k < len(self.sent[i]) else 'has no sending'}"
+            sides = {(i, self.sent[i][k]): f'sending {k + 1}'} if k < len(self.sent[i]) else {}
+            return f'no: link {i}: {found}', {((i + 1) % self.n, self.got[i][k]): found} | sides
+        if any(s < len(es) for s, es in zip(self.stuck, self.events)):
+            return 'no: circle', {(i, s + 1): 'waits' for i, s in enumerate(self.stuck)}
+        stops = {i: len(s) for i, s in enumerate(self.states) if len(s) <= len(self.events[i])}
+        if not stops:
+            return None, {}
+        i = min(stops)
+        past = self.past(i, stops[i])
+        earlier = {j: p for j, p in stops.items() if j != i and past[j] >= p}
+        begin = {(j, p): f'begin here: {self.fault(j)[1]}' for j, p in earlier.items()
+                 if not any(k != j and self.past(j, p)[k] >= q for k, q in stops.items())}
+        return f'no: node {i}: event {stops[i]}: {self.fault(i)[1]}', {(i, stops[i]): self.fault(i)[1]} | begin
 
 
 # ---- pictures -----------------------------------------------------------------------------------
@@ -257,13 +302,14 @@ def check(text, ring, cut=None, first=None, last=None, which=None, case=None):
             kind = ('b y', 'B') if sent != got else ('b', 'B') if cz <= ca else ('z', 'Z') if (i, s) in laps and not dropped else (
                 'm x' if sent[0] == 'reset' else 'm y' if sent[3] == 'dirty' else 'm', 'X' if dropped else 'A')
             whole[drawn.rows[i], drawn.marks[i, s], drawn.rows[row], drawn.marks[j, g]] = *kind, (f'{i}.{s}', f'{j}.{g}')
-    seen, others = {}, 0
+    seen, others, arrows = {}, 0, []
     places = {(y, x) for (i, _), x in drawn.marks.items() for y in [drawn.rows[i]]}
     places |= {(drawn.rows[n], x) for (i, _), x in drawn.marks.items() if i == 0 and n > 2}
     inner = {tuple(map(int, re.findall(r'\d+', p.get('d')))): (g.get('marker-end') or '')[5:-1] for g in drawn.groups('i') for p in g}
     for name, marker, named, (x, y, x2, y2) in drawn.arrows():
         if name == 'm x':
             marker = inner.pop((x, y, x2, y2))
+        arrows.append((name, marker, named[0], (x, y, x2, y2)))
         if marker == 'F':
             assert stubs.pop((y, x)) == named
         elif (y, x) in places and (y2, x2) in places and (y, x, y2, x2) in whole:
@@ -276,20 +322,7 @@ def check(text, ring, cut=None, first=None, last=None, which=None, case=None):
     assert not stubs and not strays and not inner and others == partial
     # What is ringed.
     ringed = {(int(c.get('cy')), int(c.get('cx'))) for c in drawn.root.iter(S + 'circle') if c.get('class') == 'b r'}
-    stops = {i: len(s) for i, s in enumerate(ring.states) if len(s) <= len(ring.events[i])}
-    named = set()
-    if bad:
-        i, k = ring.mismatch()
-        named = {((i + 1) % n, ring.got[i][k])} | ({(i, ring.sent[i][k])} if k < len(ring.sent[i]) else set())
-    elif any(s < len(es) for s, es in zip(ring.stuck, ring.events)):
-        named = {(i, s + 1) for i, s in enumerate(ring.stuck)}
-    elif stops:
-        i = min(stops)
-        past = ring.past(i, stops[i])
-        earlier = {j: p for j, p in stops.items() if j != i and past[j] >= p}
-        least = {j: p for j, p in earlier.items()
-                 if not any(k != j and ring.past(j, p)[k] >= q for k, q in stops.items())}
-        named = {(i, stops[i])} | set(least.items())
+    answer, named = ring.answer()
     assert ringed == {(drawn.rows[i], drawn.marks[i, p]) for i, p in named if (i, p) in drawn.marks}
     # Bands are the phases, and debts the debts, from event to event. Leading that begins where the first ring is, or right
     # of it, isn't drawn as other leading is.
@@ -331,21 +364,167 @@ def check(text, ring, cut=None, first=None, last=None, which=None, case=None):
         assert above == [asked if len(asked) <= 100 else asked[:98] + '..'], (above, asked)
     else:
         assert not lines and not rings and not above
-    # The words for those who don't see it.
-    lines = drawn.root.find(S + 'desc').text.split('\n')
-    for i in range(min(n, 64)):
-        number = len(ring.events[i])
-        assert lines[i + 1].startswith(f"node {i}: {number} event{'' if number == 1 else 's'}, {words(ring.states[i][-1])}")
-    title = drawn.root.find(S + 'title').text
-    leaders = [f"node {i} {words(s[-1]).replace('leader', 'leads')}" for i, s in enumerate(ring.states) if s[-1].phase == 'leader']
-    assert title.startswith('no: ') if named else title == ('; '.join(leaders) or 'nobody leads yet')
+    check_words(drawn, ring, (a, z), whole, arrows, answer, {at: why for at, why in named.items() if at in drawn.marks}, bool(named))
     return len(drawn.marks)
+
+
+def turn(state):
+    """A round and an ID as labels have them."""
+    return (f'{state.term}/' if state.term > 1 else '') + f'{state.round}:{state.id}'
+
+
+def check_words(drawn, ring, window, whole, arrows, answer, ringed, is_refused):
+    """Holds the words of a picture: its heading, what it says of itself, labels of lanes and arrows, remarks, the legend."""
+    n, end = ring.n, ring.last()
+    texts = {}
+    for t in drawn.root.iter(S + 'text'):
+        texts.setdefault(t.get('class'), {}).setdefault((int(t.get('x')), int(t.get('y'))), []).append(t.text)
+    assert all(len(words) == 1 for places in texts.values() for words in places.values())
+    texts = {name: {at: words[0] for at, words in places.items()} for name, places in texts.items()}
+    # The heading is the answer, or who leads.
+    leaders = [f"node {i} {words(s[-1]).replace('leader', 'leads')}" for i, s in enumerate(ring.states) if s[-1].phase == 'leader']
+    heading = answer or '; '.join(leaders) or 'nobody leads yet'
+    assert texts['t bt' if is_refused else 't'] == {(16, 28): heading} and drawn.root.find(S + 'title').text == heading
+    # What is shown, and how it's read; and a line on each node for those who don't see it.
+    many = lambda k, what: f"{k} {what}{'' if k == 1 else 's'}"
+    said = f'{many(n, "node")}, {many(sum(map(len, ring.events)), "event")}'
+    said += '' if window == (0, end) else f', columns {window[0]} to {window[1]} of {end}'
+    said += ('. Each event stands right of all that happened before it; this is no clock.' if not is_refused else
+             '. What the answer speaks of stands at other columns.' if not ringed else
+             '. Thick broken arrows join what is not the same message; the ringed receipt is the first such.' if 'link' in answer else
+             '. Each ringed receipt waits for a sending that comes after the ringed receipt of its sender.' if 'circle' in answer else
+             '. The ringed event has no step; after it the states are unknown.')
+    lines = [said]
+    for i in range(min(n, 64)):
+        lines.append(f'node {i}: {many(len(ring.events[i]), "event")}, {words(ring.states[i][-1])}')
+        if len(ring.states[i]) <= len(ring.events[i]):
+            lines[-1] += ', then event {} has no step: {}'.format(*ring.fault(i))
+    assert texts['s'][16, 48] == said and drawn.root.find(S + 'desc').text.split('\n') == lines + ['..'] * (n > 64)
+    # Words at rings: what is said of each.
+    remarks = sorted(words for name in ('bt', 'bt k', 'bt n') for words in texts.get(name, {}).values())
+    wrong = {ends: places for ends, (kind, _, places) in whole.items() if kind == 'b y'}
+    both = [' '.join(load(ring.events[i][p - 1])) for places in wrong.values()
+            for i, p in (map(int, place.split('.')) for place in places)]
+    for why in ringed.values():
+        remarks.remove(why)
+    assert len(remarks) == 2 * min(len(wrong), 2) and all(both.count(words) >= remarks.count(words) for words in remarks)
+    for (y, x, y2, x2), places in wrong.items():
+        # what was sent stands nearer to where the arrow begins, what was received to where it ends
+        at = {(round(x3 + d), round(y3)): place for (x3, y3), place in zip(
+            ((x + (x2 - x) / 4, y + (y2 - y) / 4), (x2 + (x - x2) / 4, y2 + (y - y2) / 4)), places) for d in (-6, 6)}
+        for name in ('bt', 'bt n'):
+            for (tx, ty), text in texts.get(name, {}).items():
+                for (px, py), place in at.items():
+                    if (px - tx) ** 2 + (py - ty) ** 2 <= 2 and text not in ringed.values():
+                        i, p = map(int, place.split('.'))
+                        assert text == ' '.join(load(ring.events[i][p - 1])), (text, place)
+    # Arrows carry what was sent, without its bit, where they have words.
+    labels = {(t.get('x'), t.get('y')): t.text for g in drawn.groups('l') for t in g if t.tag == S + 'text'}
+    for (y, x, y2, x2), (kind, _, (sent, _)) in whole.items():
+        at = str(x + (x2 - x) // 4), str((y + (y2 - y) // 4 if y <= y2 else y - (y - y2) // 4) + 4)
+        if kind != 'b y' and labels:
+            i, p = map(int, sent.split('.'))
+            assert labels.pop(at) == ' '.join(load(ring.events[i][p - 1])[:3]), sent
+    for name, marker, sent, (x, y, x2, y2) in arrows:
+        if marker == 'F' and labels:
+            i, p = map(int, sent.split('.'))
+            assert labels.pop((str(x2 + 24), str(y + 34 if y < y2 else y - 34))) == ' '.join(load(ring.events[i][p - 1])[:3]), sent
+    assert not labels, (labels, answer)
+    # Above lanes the round and ID of who is active, where that begins or the picture does; right of them the last state.
+    pairs = []
+    for i in range(n):
+        order = sorted((x, p) for (j, p), x in drawn.marks.items() if j == i)
+        active = [turn(s) if s.phase == 'active' else None for s in ring.states[i]] + [None] * len(ring.events[i])
+        before = order[0][1] - 1 if order else sum(1 for j, p in ring.column if j == i and ring.column[j, p] < window[0])
+        pairs += [active[before]] * bool(active[before] and not (order and ring.column[i, order[0][1]] == window[0]
+                                                                  and active[order[0][1]] != active[before]))
+        pairs += [active[p] for _, p in order if active[p] and active[p] != active[p - 1]]
+    assert sorted(texts.get('k', {}).values()) == sorted(pairs)
+    ends = {(x, y): text for name in (None, 's') for (x, y), text in texts.get(name, {}).items() if y - 4 in drawn.rows[:n]}
+    is_wide = any(text.startswith('node ') for text in ends.values())
+    for i, states in enumerate(ring.states):
+        s, is_stopped = states[-1], len(states) <= len(ring.events[i])
+        shown = (f'leads {turn(s)}' if s.phase == 'leader' else f'active {turn(s)}' if s.phase == 'active' else s.phase)
+        shown = 'no step' if is_stopped else shown + (', owes ' + ' '.join(s.owed) if s.owed else '')
+        shown = '' if shown == 'passive' or window[1] != end else shown
+        shown = ': '.join([f'node {i}'] * is_wide + [shown] * bool(shown))
+        assert [text for (_, y), text in ends.items() if y - 4 == drawn.rows[i]] == [shown] * bool(shown), (i, shown, ends)
+    # The legend has each kind of line and mark that the picture has, with a sample, and no other.
+    active = 'active, as term/round:ID' if any(s.term > 1 for states in ring.states for s in states) else 'active, as round:ID'
+    legend = {'event': 'j', 'draw': 'j d', 'choosing': 'c', active: 'a', 'passive': 'p', 'leader': 'w', 'leader by its own log alone': 'dl',
+              'yielding': 'v', 'owes a message': 'o', 'message': 'm', 'dirty': 'm y', 'reset': 'm x', 'dropped': 'm', 'not received': 'm',
+              'the lap that elected the leader': 'z', 'no state': 'u', 'node 0 once more': 'p'}
+    tips = {'message': 'A', 'dropped': 'X', 'not received': 'F', 'dirty': 'A', 'reset': 'A', 'the lap that elected the leader': 'Z'}
+    strokes = {(name, marker) for name, marker, _, _ in arrows}
+    used = {text for text, name in legend.items() if name in (*'acpwvuo', 'dl') and drawn.spans(name)}
+    used |= {text for text, kind in (('event', False), ('draw', True)) if any(title[2] == kind for title in drawn.titles.values())}
+    used |= {'message'} if ('m', 'A') in strokes else set()
+    used |= {text for text in ('dirty', 'reset', 'the lap that elected the leader') if legend[text] in {name for name, _ in strokes}}
+    used |= {text for text in ('dropped', 'not received') if tips[text] in {marker for _, marker in strokes}}
+    used = used - {'node 0 once more'} | ({'node 0 once more'} if n > 2 else set())
+    samples, foot = {}, max(drawn.rows)
+    for p in drawn.root.iter(S + 'path'):
+        at = re.fullmatch(r'M(\d+) (\d+)(?:H\d+|h.*)', p.get('d'))
+        if at and int(at[2]) > foot + 40:
+            samples.setdefault((int(at[1]), int(at[2])), []).append((p.get('class'), (p.get('marker-end') or '')[5:-1]))
+    entries = {text: at for at, text in texts['s'].items() if at[1] > foot + 40}
+    assert set(entries) == used, set(entries) ^ used
+    for text, (x, y) in entries.items():
+        found = [sample for (sx, sy), those in samples.items() if sy == y - 4 and -40 < sx - x < 0 for sample in those]
+        assert (legend[text], tips.get(text, '')) in found, (text, found)
+        assert len(found) == (2 if text in ('node 0 once more', 'reset') else 1), (text, found)
 
 
 # ---- what is drawn ------------------------------------------------------------------------------
 def logs_in(folder):
     names = [name for name in os.listdir(folder) if re.fullmatch(r'\d+\.log', name)]
     return [os.path.join(folder, name) for name in sorted(names, key=lambda name: int(name[:-4]))]
+
+
+def damaged(names, check):
+    """Runs a check where each log in turn has a record that is missing, one twice, two in another order, another bit, or ends
+    early."""
+    for name in names:
+        with open(name) as log:
+            kept = log.read()
+        lines = kept.split('\n')
+        records = lines[4:-2]
+        for p in range(0, len(records), 3):
+            for changed in (
+                    [*records[:p], *records[p + 1:]],
+                    [*records[:p], records[p], *records[p:]],
+                    [*records[:p], *records[p:p + 2][::-1], *records[p + 2:]],
+                    [*records[:p], records[p].replace('clean', 'dirty'), *records[p + 1:]],
+                    [*records[:p + 1]]):
+                with open(name, 'w') as log:
+                    log.write('\n'.join([*lines[:4], *changed, f'end {len(changed)}', '']))
+                check()
+        with open(name, 'w') as log:
+            log.write(kept)
+
+
+def redrawn(names, check):
+    """Runs a check where two logs at a time have another ID in a draw, the first or the last one: all links match still, and both
+    nodes have an event without a step."""
+    def rewritten(place, which):
+        with open(names[place]) as log:
+            kept = log.read()
+        lines = kept.split('\n')
+        draws = [number for number, line in enumerate(lines) if line.startswith('draw ')]
+        if draws:
+            lines[draws[which]] = f"draw {int(lines[draws[which]][5:]) % len(names) + 1}"
+        with open(names[place], 'w') as log:
+            log.write('\n'.join(lines))
+        return kept
+
+    for one in range(len(names)):
+        for other in range(one):
+            for ways in ((0, 0), (0, -1), (-1, 0)):
+                kept = [rewritten(place, which) for place, which in zip((one, other), ways)]
+                check()
+                for place, text in zip((one, other), kept):
+                    with open(names[place], 'w') as log:
+                        log.write(text)
 
 
 def main():
@@ -401,6 +580,15 @@ def main():
                         p = next(p for p, s in enumerate(states) if s.phase == 'leader')
                         look(names, cut=ring.past(i, p), which=1, cases=[never, [(i, 'leader')]])
                         drawn += 1
+            if ring.n in (3, 4) and folder.startswith(temp):
+                def again():
+                    again.number += 1
+                    look(names)
+
+                again.number = 0
+                damaged(names, again)
+                redrawn(names, again)
+                drawn += again.number
             pictures += drawn + 1
             print(f'{os.path.basename(os.path.normpath(folder))}: {marks} marks, {drawn} moments')
     print(f'{pictures} pictures show what their logs say')

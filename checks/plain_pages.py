@@ -9,7 +9,7 @@ import subprocess
 import sys
 import tempfile
 
-from pictures import HERE, Ring, load, logs_in, read, words
+from pictures import HERE, Ring, damaged, load, logs_in, read, redrawn, step, words
 
 # At most so many rounds, nodes of a round and messages of a link are named.
 ROUNDS, NODES, LOADS = 20, 8, 6
@@ -111,6 +111,35 @@ def check_ways(block, ring, at):
     assert (block == ['  No message is on its way.']) == (not wanted), block
 
 
+def next_of(ring, at):
+    """What comes next at each node, by the steps alone: its draw, what it owes, or the receipt of what is first on the link."""
+    first = {(i + 1) % ring.n: loads[0] for i, loads in ways_of(ring, at) if loads}
+    for i, states in enumerate(ring.states):
+        state = states[at[i]]
+        if step(state, ('draw', '1'), ring.n):
+            yield i, 'draws'
+        elif state.owed and step(state, ('send', *state.owed), ring.n):
+            yield i, 'sends ' + ' '.join(state.owed)
+        elif i in first and step(state, ('recv', *first[i].split(' ')), ring.n):
+            yield i, 'receives ' + first[i]
+
+
+def check_election(block, ring, names, at):
+    """That the election is over just where a node leads, and else what comes next; where a node is an initiator that is
+    something just where none leads."""
+    due = [f'  node {i} {what}' for i, what in next_of(ring, at)]
+    leads = any(states[at[i]].phase == 'leader' for i, states in enumerate(ring.states))
+    started = any(read(name)[0] for name in names)
+    assert started == (leads or bool(due)) and not (leads and due), (due, at)
+    if leads:
+        wanted = ['  The election is over.']
+    elif due:
+        wanted = ["  The election isn't over. What comes next:", *due]
+    else:
+        wanted = ["  The election isn't over, and nothing comes next: no node is an initiator."]
+    assert block == wanted, (block, wanted)
+
+
 def check_summary(line, ring):
     leaders = [(i, s[-1]) for i, s in enumerate(ring.states) if s[-1].phase == 'leader']
     who = f'Node {leaders[0][0]} leads in {words(leaders[0][1])[10:]}.' if leaders else 'Nobody leads yet.'
@@ -136,9 +165,10 @@ def check_show(reader, ring, names, cut):
         check_summary(*heading, ring)
     if draws_of(ring, at):
         check_rounds(blocks.pop(0), ring, at)
-    nodes, ways = blocks
+    nodes, ways, election = blocks
     check_nodes(nodes, ring, names, cut, at)
     check_ways(ways, ring, at)
+    check_election(election, ring, names, at)
 
 
 def change_of(before, after):
@@ -186,6 +216,8 @@ def check_moments(reader, ring, names):
 
 
 # ---- explain ------------------------------------------------------------------------------------
+# The headings of other nodes' events without a step that were seen.
+seen = set()
 PLACE = re.compile(r'(.+?):(\d+)')
 
 
@@ -270,6 +302,7 @@ def check_node(lines, ring, names, answer):
             faulty.add(j)
     least = {j for j, states in enumerate(ring.states) if len(states) <= len(ring.events[j])} - {i}
     assert faulty <= least and (not faulty) == (not least), (faulty, least)
+    seen.update(line.split(':')[0].strip() for line in lines if line.startswith(('  Begin elsewhere', '  In other logs')))
 
 
 def check_explained(reader, names):
@@ -278,7 +311,9 @@ def check_explained(reader, names):
     assert lines[0] == '', answer
     if answer == 'yes':
         ring = Ring(names)
-        check_summary(' '.join(line.strip() for line in blocks_of(lines)[0]), ring)
+        summary, election = blocks_of(lines)
+        check_summary(' '.join(line.strip() for line in summary), ring)
+        check_election(election, ring, names, [len(events) for events in ring.events])
     elif answer.startswith('no: link'):
         check_link(lines, Ring(names), names, answer)
     elif answer == 'no: circle':
@@ -307,30 +342,29 @@ def main():
                 check_moments(reader, Ring(names), names)
             if len(names) > 1:
                 check_explained(reader, [names[1], names[0], *names[2:]])
+            if len(names) in (2, 3) and folder.startswith(temp):
+                check_ended(reader, names, temp)
             if len(names) in (3, 4) and folder.startswith(temp):
-                for place, name in enumerate(names):
-                    check_damaged(reader, names, place)
+                damaged(names, lambda: check_explained(reader, names))
+                redrawn(names, lambda: check_explained(reader, names))
+    assert len(seen) == 2, seen
     print(f'{reader.lines} lines of plain pages say what the logs do')
 
 
-def check_damaged(reader, names, place):
-    """A log with one record changed, one missing, or two in another order; each is judged and explained."""
-    with open(names[place]) as log:
-        kept = log.read()
-    lines = kept.split('\n')
-    records = lines[4:-2]
-    for p in range(0, len(records), 3):
-        for damaged in (
-                [*records[:p], *records[p + 1:]],
-                [*records[:p], records[p], *records[p:]],
-                [*records[:p], *records[p:p + 2][::-1], *records[p + 2:]],
-                [*records[:p], records[p].replace('clean', 'dirty'), *records[p + 1:]],
-                [*records[:p + 1]]):
-            with open(names[place], 'w') as log:
-                log.write('\n'.join([*lines[:4], *damaged, f'end {len(damaged)}', '']))
-            check_explained(reader, names)
-    with open(names[place], 'w') as log:
-        log.write(kept)
+def check_ended(reader, names, temp):
+    """A ring that ends after each event of an order of all: each is a run, and its election over or not."""
+    ring = Ring(names)
+    order = sorted(ring.column, key=lambda event: (ring.column[event], event))
+    ended = [os.path.join(temp, f'{i}.ended') for i in range(ring.n)]
+    at = [0] * ring.n
+    for i, p in [(None, 0), *order]:
+        if p:
+            at[i] = p
+        for name, copy, events in zip(names, ended, at):
+            with open(name) as log, open(copy, 'w') as file:
+                lines = log.read().split('\n')
+                file.write('\n'.join([*lines[:4 + events], f'end {events}', '']))
+        assert check_explained(reader, ended) == 'yes', at
 
 
 if __name__ == '__main__':

@@ -45,6 +45,8 @@ compile() {
 }
 
 is_there Python python3 && judge Python ring_py && judge 'Python, two terms' two_terms
+is_there Python python3 && judge 'Python, asyncio' python3 -B ring_asyncio.py
+is_there Node node && judge Node node ring.mjs
 is_there C cc && compile C cc -O1 -o "$made/ring_c" ring.c && judge C "$made/ring_c"
 is_there Rust rustc && compile Rust rustc --edition 2021 -o "$made/ring_rs" ring.rs && judge Rust "$made/ring_rs"
 is_there Go go && compile Go go build -o "$made/ring_go" ring.go && judge Go "$made/ring_go"

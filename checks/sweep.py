@@ -26,11 +26,15 @@ UNTOUCHED = 100
 CHECK = ["check", "--question", "two_leaders.ask", "--cert", "two_leaders.cert"]
 ABSENT = ["active_beside_leader.ask", "0.log", "1.log"]
 RUN = ["run", "--nodes", "2", "--seed", "7", "--out", "d"]
+EACH = ["logs", "--each", ".", ".", "d", "."]
 LINES = [
     [],
     ["logs", "0.log", "1.log"],
     ["logs", "1.log", "0.log"],
     ["logs", "9.log"],
+    ["logs", "--dir", "."],
+    EACH,
+    ["logs", "--each", "--json", ".", "d", "."],
     [*CHECK, "0.log", "1.log"],
     [*CHECK, "--depth", "4", "0.log", "1.log"],
     [*CHECK, "1.log", "0.log"],
@@ -42,7 +46,10 @@ LINES = [
     ["pairs", "5"],
     ["pairs", "1"],
     ["upgrade", "--out", "d", "0.log", "1.log"],
+    ["upgrade", "--out", "d", "--dir", "."],
     ["mend", "--out", "d", "0.log", "1.log"],
+    ["mend", "--start", "initiator", "--out", "d", "--dir", "."],
+    ["mend", "--out", "d", "0.log", "none"],
     ["explain"],
     ["explain", "1.log", "0.log"],
     ["explain", "--json", "1.log", "0.log"],
@@ -56,6 +63,8 @@ LINES = [
     ["show", "--json", "0.log", "1.log"],
     ["show", "--json", "--events", "--at", "2,3", "0.log", "1.log"],
     ["draw", "--out", "d/p", "0.log", "1.log"],
+    ["draw", "--out", "d/p.html", "0.log", "1.log"],
+    ["draw", "--out", "d/p.html", "1.log", "0.log"],
     ["draw", "--out", "d/p", "--question", "active_beside_passive.ask", "--from", "1", "--to", "4", "0.log", "1.log"],
     ["logs", "--json", "1.log", "0.log"],
     ["decide", "--json", "--question", *ABSENT],
@@ -63,6 +72,7 @@ LINES = [
     ["version"],
     RUN,
     [*RUN, "--alone"],
+    [*RUN, "--terms", "2"],
     [*RUN, "--initiators", "1", "--draws", "0"],
     [*RUN, "--initiators", "0"],
     ["run", "--nodes", "256", "--seed", "7", "--out", "d"],
@@ -71,7 +81,7 @@ LINES = [
     ["--help"],
 ]
 # Those of --short, and which of their growths are refused: the first ones, some of which are the command line library's.
-SHORT = [["logs", "0.log", "1.log"], [*CHECK, "0.log", "1.log"], RUN, ["frob"]]
+SHORT = [["logs", "0.log", "1.log"], EACH, [*CHECK, "0.log", "1.log"], RUN, ["frob"]]
 FEW = 40
 
 

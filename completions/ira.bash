@@ -1,20 +1,22 @@
 # Completion of `ira` for bash. `make install` puts it where bash-completion looks; else: source completions/ira.bash
+# Made by checks/command_words.py.
 
 _ira_commands='logs explain show draw check decide pairs run upgrade mend version help'
 
 # The options of a command.
 _ira_options() {
     case $1 in
+        logs) echo --each --json --dir --help ;;
         explain) echo --question --case --cert --json --dir --help ;;
         show) echo --leads --at --question --case --events --json --dir --help ;;
         draw) echo --out --at --question --case --from --to --dir --help ;;
         check) echo --question --cert --depth --json --dir --help ;;
         decide) echo --question --out --json --dir --help ;;
+        pairs) echo --help ;;
         run) echo --nodes --seed --out --initiators --draws --cap --terms --alone --help ;;
         upgrade) echo --out --dir --help ;;
         mend) echo --out --start --dir --help ;;
-        logs) echo --each --json --dir --help ;;
-        pairs | version) echo --help ;;
+        version) echo --help ;;
     esac
 }
 
@@ -31,11 +33,11 @@ _ira() {
     compopt -o filenames 2> /dev/null
     case $command:$before in
         help:*) mapfile -t COMPREPLY < <(compgen -W "${_ira_commands% help}" -- "$word") ;;
-        *:--case | *:--at | draw:--from | draw:--to) COMPREPLY=() ;;
-        show:--leads) mapfile -t COMPREPLY < <(compgen -W 'any' -- "$word") ;;
-        mend:--start) mapfile -t COMPREPLY < <(compgen -W 'initiator passive' -- "$word") ;;
-        check:--depth) mapfile -t COMPREPLY < <(compgen -W '0 1 2 3 4' -- "$word") ;;
         *:--dir | run:--out | upgrade:--out | mend:--out) mapfile -t COMPREPLY < <(compgen -d -- "$word") ;;
+        *:--case | *:--at | *:--from | *:--to | *:--nodes | *:--seed | *:--initiators | *:--draws | *:--cap | *:--terms) COMPREPLY=() ;;
+        *:--leads) mapfile -t COMPREPLY < <(compgen -W 'any' -- "$word") ;;
+        *:--depth) mapfile -t COMPREPLY < <(compgen -W '0 1 2 3 4' -- "$word") ;;
+        *:--start) mapfile -t COMPREPLY < <(compgen -W 'initiator passive' -- "$word") ;;
         pairs:* | run:* | version:*) COMPREPLY=() ;;
         *) mapfile -t COMPREPLY < <(compgen -f -- "$word") ;;
     esac

@@ -2,6 +2,7 @@ pub mod Conjuncts
 pub mod Front
 pub mod Queues
 pub mod QueuesAfter
+pub mod LastCount
 pub mod Laws
 pub mod Positions
 pub mod QueueHead

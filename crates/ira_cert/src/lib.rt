@@ -4,6 +4,7 @@
 
 mod asked_clause;
 mod conjuncts;
+mod last_count;
 mod laws;
 mod listed_candidates;
 mod plain;
@@ -23,6 +24,7 @@ pub use conjuncts::map_conjuncts;
 pub use ira_cert_text::{
     CertFault, CertStep, Certificate, MAX_SECTIONS, MAX_STEPS, Section, read_cert, write_cert,
 };
+pub use last_count::LastCount;
 pub use laws::{a_section_has_one_verdict, sound_sections_leave_no_cut};
 pub use listed_candidates::ListedCandidates;
 pub use plain::{Candidates, case_queues, check_plain};

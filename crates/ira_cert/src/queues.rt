@@ -8,11 +8,13 @@ ghost use Rattle.ira_cert.specs.declared.unsound.Unsound.{Unsound};
 ghost use Rattle.ira_cert.specs.Conjuncts.{HasDifferentPlaces};
 ghost use Rattle.ira_cert.specs.Queues.{AreQueues, HasList};
 ghost use Rattle.ira_cert.specs.QueuesAfter.{AreQueuesAfter};
+ghost use Rattle.ira_cert.specs.LastCount.{IsKnown};
 ghost use Rattle.ira_cert.specs.QueueHead.{IsQueueHead};
 ghost use Rattle.ira_cert.specs.SoundSection.{IsSoundStep, AreSoundSteps};
 ghost use Rattle.ira_cert.specs.SectionFault.{WhyUnsound, IsFirstUnsoundStep};
 ghost use Rattle.ira_cert.specs.Verdict.{IsVerdict};
 
+use crate::last_count::LastCount;
 use crate::queue_head::QueueHead;
 use crate::section_fault::SectionFault;
 use crate::soundness::judge_step;
@@ -26,8 +28,7 @@ use std::alloc::Allocator;
 
 /// Judges a section for a case of which the candidates are at hand, place by place: those of a place
 /// that the case asks, and none of another. Where they come from doesn't matter; nothing but one
-/// position is kept of each. A step asks once whether one event happened before
-/// another.
+/// position is kept of each, and of the steps the last count that was looked up.
 pub fn check_queues<C, A, I>(
     ordered: &C,
     mut queues: Vec<Option<Ahead<I>>, A>,
@@ -67,8 +68,9 @@ fn make_steps<C: HappenedBefore, I: Iterator<Item = u32> + Listed>(
         (λ f. (k : ℕ) × (why : Unsound) × (f ≡ SectionFault.Step k why)
         × IsFirstUnsoundStep (C.logs_of ordered.now) case steps.now k why) }
 {
+    let mut last = None;
     for (k, step) in steps.iter().enumerate() {
-        if let Err(why) = check_step(ordered, queues, step) {
+        if let Err(why) = check_step(ordered, queues, step, &mut last) {
             return Err(SectionFault::Step(k, why));
         }
         eliminate(queues, step.node);
@@ -81,8 +83,11 @@ fn check_step<C: HappenedBefore, I: Iterator<Item = u32> + Listed>(
     ordered: &C,
     queues: &[Option<Ahead<I>>],
     step: &CertStep,
+    last: &mut Option<LastCount>,
 ) -> Result<(), Unsound>
-    requires { length queues.now ≤ length (C.logs_of ordered.now) }
+    requires places { length queues.now ≤ length (C.logs_of ordered.now) }
+    requires known { IsKnown (C.logs_of ordered.now) last.old }
+    ensures known { IsKnown (C.logs_of ordered.now) last.new }
     ensures place { OnOk result (step.now.node < length queues.now) }
     ensures verdict { (case : List Conjunct) (before : List CertStep) → HasDifferentPlaces case
         → AreQueuesAfter (C.logs_of ordered.now) case before queues.now
@@ -91,7 +96,7 @@ fn check_step<C: HappenedBefore, I: Iterator<Item = u32> + Listed>(
 {
     let own = left_at(queues, step.node);
     let other = left_at(queues, step.other);
-    judge_step(ordered, step, own, other)
+    judge_step(ordered, step, own, other, last)
 }
 
 /// What is left of the node's candidates.

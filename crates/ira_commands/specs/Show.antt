@@ -10,13 +10,14 @@ use Rattle.ira_audit.specs.declared.answer.Answer.{Answer}
 use Rattle.ira_audit.specs.declared.answer.Answer.TheVariants as answer
 use Rattle.ira_audit.specs.declared.judged.Judged.{Judged}
 use Rattle.ira_audit.specs.declared.reason.Reason.{Reason}
+use Rattle.ira_view_moment.specs.Told.{at_end}
 use Rattle.ira_view_draw.specs.Drawing.{IsRefusedDrawing}
 use Rattle.ira_view_page.specs.Printable.{IsPrintable}
 use Rattle.ira_view_page.specs.declared.named_text.NamedText.{NamedText}
 use Rattle.ira_view_picture.specs.DrawFault.{HasTooManyEvents}
 use Rattle.ira_view_picture.specs.declared.draw_fault.DrawFault.{DrawFault}
 use Rattle.ira_view_picture.specs.declared.draw_fault.DrawFault.TheVariants as draw
-use Rattle.ira_view.specs.Html.{IsHtmlOf, IsJudgedTold, IsRefusalTold, IsRingHtml}
+use Rattle.ira_view.specs.Html.{IsHtmlOf, IsJudgedTold, IsPictureTold, IsRefusalTold, IsRingHtml}
 use Rattle.ira_view.specs.ShownRing.{AreEventsOf, AreJsonLines, HasTooManyAt, IsPageOf, IsPictureOf, ShownRing}
 use Rattle.ira_view.specs.Status.{answer_status}
 use Rattle.ira_view.specs.Texts.{AreFiles}
@@ -80,7 +81,7 @@ TellsRefused A (Picture columns) names texts logs =
     (HasTooManyEvents logs.logs None columns.from columns.to)
 TellsRefused A (Html columns) names texts logs =
     Draws (answer.No logs.reason)
-    (IsHtmlOf (IsRefusedDrawing logs.logs columns.from columns.to) (IsRefusalToldOf A names texts logs))
+    (IsHtmlOf (IsPictureTold logs.logs at_end None columns.from columns.to) (IsRefusalToldOf A names texts logs))
     (HasTooManyEvents logs.logs None columns.from columns.to)
 
 -- why there is no such moment: the reason against the question is the answer, or numbers that are no consistent cut are

@@ -17,7 +17,11 @@ use Rattle.ira_ring.specs.Run.{Run}
 use Rattle.ira_ring.specs.Setup.{Setup, KeepsRules}
 use Rattle.ira_ring.specs.ShownEnd.{IsLoneRun}
 use Rattle.ira_ring.specs.SeededRing.{first_initiators, setup_of}
-use Rattle.ira_main.specs.AskedRun.{IsAskedRun, IsAskedRunFault, IsAskedSetup, IsRunOf, ring_of}
+use Rattle.ira_event.specs.RingSize.{IsRingSize}
+use Rattle.ira_commands.specs.Reply.{Reply}
+use Rattle.ira_commands.specs.Run.{TellsRunResult}
+use Rattle.ira_main.specs.AskedRun.{IsAskedRun, IsAskedRunFault, IsAskedSetup, IsRunOf, RunsAsked, ring_of}
+use Rattle.ira_main.specs.AskedRun.RunsAsked.{failed, ran}
 
 -- what holds of the member at a place holds of what is seen of it there
 seen_at : {V : Type 0} (see : V → List ℕ) (rows : List V) (i : ℕ) (ids : List ℕ) → i < length rows
@@ -131,3 +135,10 @@ asked_ring request s (Err f) threads asked breaks keeps is ended neither = recor
   alone = λ alone. cc;
   parts = neither;
 }
+
+-- what came of the run that is asked for, told
+pub run_told : (request : RunRequest) (r : Result Run RunFault) (reply : Reply) → IsRingSize request.nodes
+    → MatchResult r (IsAskedRun request) (IsAskedRunFault request) → TellsRunResult r reply → RunsAsked request reply
+run_told request (Ok run) reply size is told = ran size run is told
+run_told request (Err variants.OutOfMemory) reply size is told = absurd told
+run_told request (Err f) reply size is told = failed size f is told

@@ -1,8 +1,8 @@
 pub mod Asking
-pub mod Deciding
-pub mod Drawing
+pub mod Delivering
 pub mod FilesRead
 pub mod Folders
+pub mod GivenFiles
 pub mod InputAudits
 pub mod LogFiles
 pub mod NamedFiles
@@ -12,4 +12,3 @@ pub mod RingPrinting
 pub mod Shares
 pub mod Showing
 pub mod ShownNames
-pub mod Unjudged

@@ -1,5 +1,5 @@
 -- What is printed of answers and findings.
-use Rattle.std.proofs.Common.{◌≡◌, ◌∙◌, ◌⊎◌, ℕ, List, Result, Ok, Err, ap, inl, inr, sym, subst}
+use Rattle.std.proofs.Common.{◌≡◌, ◌⊎◌, ℕ, List, Result, Ok, Err, inl, inr}
 use Rattle.ira_event.specs.Sink.{SinkState, Wrote, Takes, StopsIn}
 use Rattle.ira_view_page.specs.declared.show_fault.ShowFault.{ShowFault}
 use Rattle.ira_view_page.specs.declared.show_fault.ShowFault.TheVariants as show

@@ -8,6 +8,10 @@ use Rattle.ira_ring.specs.ShownEnd.{IsLoneRun}
 use Rattle.ira_ring.specs.declared.seeded_ring.SeededRing.{SeededRing}
 use Rattle.ira_ring_setup.specs.declared.run_fault.RunFault.{RunFault}
 use Rattle.ira_ring_setup.specs.declared.run_fault.RunFault.TheVariants as run
+use Rattle.ira_event.specs.RingSize.{IsRingSize}
+use Rattle.ira_commands.specs.Reply.{Reply, refused}
+use Rattle.ira_commands.specs.Run.{TellsRun}
+use Rattle.ira_commands.specs.declared.command_fault.CommandFault.TheVariants.{RingSize, RunRefused}
 use Rattle.ira_main_cli.specs.declared.run_request.RunRequest.{RunRequest}
 
 -- the ring that a request names, which has this size
@@ -49,3 +53,11 @@ pub record IsAskedRunFault (request : RunRequest) (fault : RunFault) : Type 0 wh
   pub alone : request.is_alone ≡ true → (fault ≡ run.Setup) ⊎ (fault ≡ run.OutOfMemory)
   -- and never that of a part which the collector refuses
   pub parts : (fault ≢ run.Stranger) × (fault ≢ run.Double)
+
+-- what comes of a request for a run: a run that it asks for; or no ring has so many nodes, or the run gave a fault, and that
+-- is refused
+pub data RunsAsked (request : RunRequest) (reply : Reply) : Type 0 where
+  ran : IsRingSize request.nodes → (run : Run) → IsAskedRun request run → TellsRun run reply → RunsAsked request reply
+  failed : IsRingSize request.nodes → (fault : RunFault) → IsAskedRunFault request fault
+      → reply ≡ refused (RunRefused fault) → RunsAsked request reply
+  no_ring : ¬ (IsRingSize request.nodes) → reply ≡ refused RingSize → RunsAsked request reply

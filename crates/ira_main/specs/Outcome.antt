@@ -1,15 +1,13 @@
 -- What the program ends with: a status, or a fault, which is written to standard error.
 use Rattle.std.specs.Prelude.{◌≡◌, ◌⊎◌, ℕ, Bool, List, Result, Ok, Err}
 use Rattle.ira_event.specs.Sink.{SinkState, Takes, StopsIn}
-use Rattle.ira_audit.specs.Report.{report_line}
 use Rattle.ira_audit.specs.declared.answer.Answer.{Answer}
-use Rattle.ira_view_page.specs.declared.explanation.Explanation.{Explanation}
 use Rattle.ira_view_page.specs.declared.show_fault.ShowFault.{ShowFault}
 use Rattle.ira_view_page.specs.declared.show_fault.ShowFault.TheVariants as show
 use Rattle.ira_view_page.specs.declared.show_fault.ShowFault.TheVariants.{Write}
 use Rattle.ira_main.specs.ProgramFault.{program_fault_status, program_fault_text}
 use Rattle.ira_view.specs.Status.{answer_status, status_number}
-use Rattle.ira_view.specs.ViewText.{IsAnswerText, IsViewText}
+use Rattle.ira_view.specs.ViewText.{IsAnswerText}
 use Rattle.ira_main.specs.declared.program_fault.ProgramFault.{ProgramFault}
 use Rattle.ira_main.specs.declared.program_fault.ProgramFault.TheVariants.{CannotWriteAnswer, OutOfMemory}
 use Rattle.ira_view.specs.declared.status.Status.{Status}
@@ -34,26 +32,13 @@ Prints text status out out' outcome =
     (Takes text out out' × (outcome ≡ Ok status))
     ⊎ (StopsIn text out out' × (outcome ≡ Err CannotWriteAnswer))
 
--- the line of the answer was printed, with the answer's status
-abbrev pub Reports : Answer → SinkState → SinkState → Outcome → Type 0
-Reports answer = Prints (report_line answer) (answer_status answer)
-
 -- such a text was printed, with this status
 abbrev pub PrintsText : (List ℕ → Type 0) → Status → SinkState → SinkState → Outcome → Type 0
 PrintsText IsText status out out' outcome = (text : List ℕ) × IsText text × Prints text status out out' outcome
 
--- what is printed of an answer, and what comes of it
-abbrev pub Telling : Type 1
-Telling = Answer → SinkState → SinkState → Outcome → Type 0
-
 -- an answer is printed as JSON, where that is wanted, or else as its line
-abbrev pub ReportsAs : Bool → Telling
+abbrev pub ReportsAs : Bool → Answer → SinkState → SinkState → Outcome → Type 0
 ReportsAs is_json answer = PrintsText (IsAnswerText is_json answer) (answer_status answer)
-
--- an answer is printed with its reason and this explanation: as JSON, where that is wanted, or else as its line and the
--- page, which is printable
-abbrev pub ExplainsAs : {A : Type 0} → Explanation A → Bool → Telling
-ExplainsAs explanation is_json answer = PrintsText (IsViewText is_json answer explanation) (answer_status answer)
 
 -- nothing was printed, and the outcome is a fault of this kind
 abbrev pub GivesNoAnswer : (ProgramFault → Type 0) → SinkState → SinkState → Outcome → Type 0

@@ -3,18 +3,10 @@ use Rattle.std.specs.Prelude.{ℕ, List, ◌++◌, codes, decimal}
 use Rattle.std.specs.Borrow.{Bor}
 use Rattle.std.specs.List.{flat_map}
 use Rattle.std.specs.String.{string_bytes}
-use Rattle.ira_view_moment.specs.declared.cut_fault.CutFault.{CutFault}
-use Rattle.ira_view_picture.specs.declared.draw_fault.DrawFault.{DrawFault}
-use Rattle.ira_view_picture.specs.declared.draw_fault.DrawFault.TheVariants as draw
-use Rattle.ira_view.specs.CutFaultLine.{cut_fault_text}
-use Rattle.ira_view.specs.DrawFaultLine.{too_many_text}
-use Rattle.ira_view.specs.RunFaultLine.{run_fault_text}
 use Rattle.ira_view_page.specs.Printable.{shown}
 use Rattle.ira_view.specs.declared.status.Status.{Status}
 use Rattle.ira_view.specs.declared.status.Status.TheVariants as status
-use Rattle.ira_view.specs.declared.status.Status.TheVariants.{Refused}
-use Rattle.ira_ring_setup.specs.declared.run_fault.RunFault.{RunFault}
-use Rattle.ira_ring_setup.specs.declared.run_fault.RunFault.TheVariants as run
+use Rattle.ira_commands.specs.CommandFault.{command_fault_text}
 use Rattle.ira_main_cli.specs.declared.words_fault.WordsFault.{WordsFault}
 use Rattle.ira_main_cli.specs.declared.words_fault.WordsFault.TheVariants as words
 use Rattle.ira_main_files.specs.FileName.{slash_after}
@@ -24,16 +16,13 @@ use Rattle.ira_main_files.specs.declared.shelf_fault.ShelfFault.{ShelfFault}
 use Rattle.ira_main_files.specs.declared.shelf_fault.ShelfFault.TheVariants as shelf
 use Rattle.ira_main.specs.declared.program_fault.ProgramFault.{ProgramFault}
 use Rattle.ira_main.specs.declared.program_fault.ProgramFault.TheVariants.{CannotRead, CannotReadSome, CannotWrite, CannotWriteAnswer}
-use Rattle.ira_main.specs.declared.program_fault.ProgramFault.TheVariants.{CannotWriteLog, CertificatePastLimits}
-use Rattle.ira_main.specs.declared.program_fault.ProgramFault.TheVariants.{NoMoment, NoPlace, OutOfMemory, RingSize}
-use Rattle.ira_main.specs.declared.program_fault.ProgramFault.TheVariants.{RunRefused, TooManyEvents, WordIsNoText}
-use Rattle.ira_main.specs.declared.program_fault.ProgramFault.TheVariants.{Words}
-use Rattle.ira_main.specs.declared.program_fault.ProgramFault.TheVariants.{WouldOverwrite}
+use Rattle.ira_main.specs.declared.program_fault.ProgramFault.TheVariants.{CannotWriteLog, OutOfMemory, Refused, WordIsNoText}
+use Rattle.ira_main.specs.declared.program_fault.ProgramFault.TheVariants.{Words, WouldOverwrite}
 
 -- the status of a fault
 abbrev pub program_fault_status : ProgramFault → Status
 program_fault_status OutOfMemory = status.OutOfMemory
-program_fault_status _ = Refused
+program_fault_status _ = status.Refused
 
 -- the fault where the file of this name wasn't read
 abbrev pub read_fault : FileName → ShelfFault → ProgramFault
@@ -44,16 +33,6 @@ read_fault name other = CannotRead name
 abbrev pub write_log_fault : Bor (List ℕ) → ℕ → ShelfFault → ProgramFault
 write_log_fault folder place shelf.OutOfMemory = OutOfMemory
 write_log_fault folder place other = CannotWriteLog folder place
-
--- the fault where a ring wasn't run: out of memory, or why the run was refused
-abbrev pub run_fault : RunFault → ProgramFault
-run_fault run.OutOfMemory = OutOfMemory
-run_fault f = RunRefused f
-
--- the fault where there is no picture
-abbrev pub draw_fault : DrawFault → ProgramFault
-draw_fault (draw.TooManyEvents events) = TooManyEvents events
-draw_fault draw.OutOfMemory = OutOfMemory
 
 -- the fault of words that ask for nothing: their refusal, or out of memory
 abbrev pub words_fault : WordsFault → ProgramFault
@@ -80,15 +59,10 @@ program_fault_text (Words text) = string_bytes text
 program_fault_text WordIsNoText = codes "ira: a word is not UTF-8\n"
 program_fault_text (CannotRead name) = unread_text name
 program_fault_text (CannotReadSome names) = flat_map unread_text names.items
-program_fault_text RingSize = codes "ira: ring size\n"
-program_fault_text (NoMoment fault) = cut_fault_text fault
-program_fault_text NoPlace = codes "ira: --leads names a node that the ring has not\n"
-program_fault_text (TooManyEvents events) = too_many_text events
-program_fault_text (RunRefused fault) = run_fault_text fault
+program_fault_text (Refused fault) = command_fault_text fault
 program_fault_text (CannotWriteLog folder place) =
     codes "ira: cannot write " ++ printed_name (Log folder place) ++ codes "\n"
 program_fault_text (WouldOverwrite name) = codes "ira: would overwrite " ++ printed_name name ++ codes "\n"
 program_fault_text (CannotWrite name) = codes "ira: cannot write " ++ shown name.now ++ codes "\n"
-program_fault_text CertificatePastLimits = codes "ira: certificate past the limits\n"
 program_fault_text CannotWriteAnswer = codes "ira: cannot write the answer\n"
 program_fault_text OutOfMemory = codes "ira: out of memory\n"

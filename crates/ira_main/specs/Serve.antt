@@ -1,24 +1,17 @@
 -- What the program does.
-use Rattle.std.specs.Prelude.{◌≡◌, ◌≢◌, ◌⊎◌, ℕ, ◌+◌, Bool, true, false, List, [], ◌∷◌, Some, None, Ok, Err, codes}
+use Rattle.std.specs.Prelude.{◌≡◌, ◌≢◌, ◌⊎◌, ℕ, ◌+◌, Bool, true, Err, List, [], None, Some, codes}
+use Rattle.std.specs.Borrow.{Bor}
+use Rattle.std.specs.Option.{is_some}
 use Rattle.ira_event.specs.Limits.{MAX_TEXT}
-use Rattle.ira_event.specs.RingSize.{IsRingSize}
-use Rattle.ira_event.specs.Sink.{SinkState, Takes, StopsIn}
-use Rattle.ira_pred.specs.Pairs.{ArePairCases}
-use Rattle.ira_pred.specs.Question.{QuestionCases}
-use Rattle.ira_pred.specs.QuestionText.{question_text}
-use Rattle.ira_audit.specs.LogTextAnswer.{IsLogTextAnswer}
-use Rattle.ira_audit.specs.CheckAnswer.{IsCheckAnswer}
-use Rattle.ira_audit.specs.RingAnswer.{IsRingAnswer}
-use Rattle.ira_audit.specs.Never.{NoCaseIsMet}
-use Rattle.ira_audit.specs.TextRuns.{AreTextsOfRuns}
-use Rattle.ira_audit.specs.declared.answer.Answer.{Answer}
-use Rattle.ira_audit.specs.declared.answer.Answer.TheVariants as audit
-use Rattle.ira_ring.specs.EndsWriter.{ends_text}
-use Rattle.ira_ring.specs.Run.{Run}
-use Rattle.ira_ring_setup.specs.declared.run_fault.RunFault.{RunFault}
+use Rattle.ira_event.specs.Sink.{SinkState}
+use Rattle.ira_commands.specs.Check.{ChecksTexts}
+use Rattle.ira_commands.specs.Decide.{DecidesTexts, PrintsDecided}
+use Rattle.ira_commands.specs.Judging.{JudgesLog, JudgesLogs}
+use Rattle.ira_commands.specs.Pairs.{AsksPairs}
+use Rattle.ira_commands.specs.Reply.{Reply, Reports, ReportsAs}
+use Rattle.ira_commands.specs.Upgrade.{UpgradesTexts}
 use Rattle.ira_main_cli.specs.Request.{IsCheckLine, IsDecideLine, IsDrawLine, IsEachLine, IsExplainLine, IsLogsLine, IsMendLine}
 use Rattle.ira_main_cli.specs.Request.{IsPairsLine, IsRunLine, IsShowLine, IsUpgradeLine, IsVersionLine, MayBeRefused}
-use Rattle.ira_main_cli.specs.declared.case_selection.CaseSelection.{CaseSelection}
 use Rattle.ira_main_cli.specs.declared.check_request.CheckRequest.{CheckRequest}
 use Rattle.ira_main_cli.specs.declared.decide_request.DecideRequest.{DecideRequest}
 use Rattle.ira_main_cli.specs.declared.draw_request.DrawRequest.{DrawRequest}
@@ -38,154 +31,70 @@ use Rattle.ira_main_files.specs.FileName.{file_name}
 use Rattle.ira_main_files.specs.ReadText.{IsReadTo}
 use Rattle.ira_main_files.specs.Shelf.{Reading, Writing}
 use Rattle.ira_main_files.specs.declared.file_name.FileName.{FileName}
-use Rattle.ira_main.specs.AskedRun.{IsAskedRun, IsAskedRunFault}
-use Rattle.ira_main.specs.Decide.{Decides, DecidesTogether, IsUndecided}
+use Rattle.ira_main.specs.AskedRun.{RunsAsked}
+use Rattle.ira_main.specs.Delivery.{Tells, TellsAndKeeps, TellsAndRecords}
 use Rattle.ira_main.specs.Draw.{DrawsLogs}
 use Rattle.ira_main.specs.Each.{JudgesEach}
-use Rattle.ira_main.specs.Explain.{ExplainsCheck, ExplainsFindings, ExplainsLog, ExplainsLogs}
-use Rattle.ira_main.specs.FilesRead.{IsFilesFault, ReadsFiles, names_of}
-use Rattle.ira_main.specs.LogFiles.{StopsInLogs, WritesLogs}
-use Rattle.ira_main.specs.Mend.{MendsLogs}
-use Rattle.ira_main.specs.Outcome.{GivesNoAnswer, Outcome, Prints, Reports, ReportsAs, Telling}
-use Rattle.ira_main.specs.ProgramFault.{run_fault, words_fault}
+use Rattle.ira_main.specs.Explain.{ExplainsCheckIn, ExplainsFindingsOf, ExplainsInput, ExplainsLogsOf}
+use Rattle.ira_main.specs.Given.{IsNoMemory, IsUnread, OfFiles}
+use Rattle.ira_main.specs.Mend.{IsUnmended, MendsLogs}
+use Rattle.ira_main.specs.Moment.{question_of}
+use Rattle.ira_main.specs.Outcome.{Outcome, Prints}
+use Rattle.ira_main.specs.ProgramFault.{words_fault}
 use Rattle.ira_main.specs.Show.{ShowsLogs}
-use Rattle.ira_main.specs.SourceNames.{OfSource}
-use Rattle.ira_view.specs.Status.{IsElectionStatus}
-use Rattle.ira_main.specs.Upgrade.{Upgrades}
 use Rattle.ira_main.specs.Version.{version_line}
 use Rattle.ira_main.specs.declared.program_fault.ProgramFault.{ProgramFault}
-use Rattle.ira_main.specs.declared.program_fault.ProgramFault.TheVariants.{CannotRead, CannotWriteAnswer, OutOfMemory}
-use Rattle.ira_main.specs.declared.program_fault.ProgramFault.TheVariants.{RingSize}
-use Rattle.ira_view.specs.declared.status.Status.{Status}
+use Rattle.ira_main.specs.declared.program_fault.ProgramFault.TheVariants.{CannotRead, OutOfMemory}
 use Rattle.ira_view.specs.declared.status.Status.TheVariants.{Yes}
 
--- the text that the input had left was judged, and its answer told; or a read failed, or there was no memory, and
--- nothing was written
-pub data OneLogOutcome (Tells : List ℕ → Telling) (old new : Reads) (out out' : SinkState) (outcome : Outcome)
-    : Type 0 where
-  judged : (text : List ℕ) (answer : Answer) → IsReadTo (MAX_TEXT + 1) old new text → IsLogTextAnswer text answer
-      → Tells text answer out out' outcome → OneLogOutcome Tells old new out out' outcome
-  unread : (name : FileName) → file_name name ≡ codes "-" → new.has_failed ≡ true → new.is_over ≡ true
-      → out' ≡ out → outcome ≡ Err (CannotRead name) → OneLogOutcome Tells old new out out' outcome
-  no_memory : out' ≡ out → outcome ≡ Err OutOfMemory → OneLogOutcome Tells old new out out' outcome
+-- the input had this text left, and such a reply comes of it
+abbrev pub OfInput : (List ℕ → Reply → Type 0) → Reads → Reads → Reply → Type 0
+OfInput IsReply old new reply = (text : List ℕ) × IsReadTo (MAX_TEXT + 1) old new text × IsReply text reply
 
--- the files of these names were read, their texts were judged together, and their answer told; after a yes they are the
--- texts of runs
-pub record LogsOutcome (Tells : List (List ℕ) → List (List ℕ) → Telling) {S : Type 0} (reads : Reading S)
-    (names : List (List ℕ)) (shelf : S) (out out' : SinkState) (outcome : Outcome) : Type 0 where
-  pub texts : List (List ℕ)
-  pub given : ReadsFiles reads names shelf texts
-  pub answer : Answer
-  pub judged : IsRingAnswer texts answer
-  pub runs : answer ≡ audit.Yes → AreTextsOfRuns texts
-  pub told : Tells names texts answer out out' outcome
+-- why none comes of it: a read failed, or memory ran out
+abbrev pub IsInputFault : Reads → ProgramFault → Type 0
+IsInputFault new f =
+    ((name : FileName) × (file_name name ≡ codes "-") × (new.has_failed ≡ true) × (new.is_over ≡ true)
+    × (f ≡ CannotRead name))
+    ⊎ (f ≡ OutOfMemory)
 
--- the logs of a source were judged together, and their answer told; or no answer is given
-abbrev pub JudgesLogs : (List (List ℕ) → List (List ℕ) → Telling) → {S : Type 0} → Reading S → LogSource → S → SinkState
-    → SinkState → Outcome → Type 0
-JudgesLogs Tells reads source shelf out out' outcome =
-    OfSource reads source shelf shelf out out' outcome (λ names.
-    LogsOutcome Tells reads (names_of names) shelf out out' outcome
-    ⊎ GivesNoAnswer (IsFilesFault reads (names_of names) shelf) out out' outcome)
+-- what comes of files that are read is told: of logs alone; of a question and logs; or of these with a certificate
+abbrev pub TellsOfLogs : {S : Type 0} → Reading S → LogSource → S → SinkState → SinkState → Outcome
+    → (List (List ℕ) → List (List ℕ) → Reply → Type 0) → Type 0
+TellsOfLogs reads source shelf out out' outcome IsReply =
+    Tells (OfFiles reads None None None source shelf (λ names _ _. IsReply names))
+    (IsUnread reads None None None source shelf) out out' outcome
 
--- the names of the files to check: the question's, the certificate's and the logs'
-abbrev pub check_names : List ℕ → List ℕ → List FileName → List (List ℕ)
-check_names asked certified names = asked ∷ certified ∷ names_of names
+abbrev pub TellsOfQuestion : {S : Type 0} → Reading S → Bor (List ℕ) → LogSource → S → SinkState → SinkState → Outcome
+    → (List (List ℕ) → List ℕ → List (List ℕ) → Reply → Type 0) → Type 0
+TellsOfQuestion reads question source shelf out out' outcome IsReply =
+    Tells (OfFiles reads None (Some question) None source shelf (λ names asked _. IsReply names asked))
+    (IsUnread reads None (Some question) None source shelf) out out' outcome
 
--- the files of a question, a certificate and logs were read, the texts of the logs were judged together with the text
--- of the question and the text of the certificate, and their answer told; after a yes no case of the question is met
-pub record CheckOutcome (Tells : List (List ℕ) → List ℕ → List ℕ → List (List ℕ) → Telling) {S : Type 0} (reads : Reading S)
-    (asked certified : List ℕ) (names : List FileName) (shelf : S) (out out' : SinkState) (outcome : Outcome)
-    : Type 0 where
-  pub question : List ℕ
-  pub certificate : List ℕ
-  pub texts : List (List ℕ)
-  pub given : ReadsFiles reads (check_names asked certified names) shelf (question ∷ certificate ∷ texts)
-  pub answer : Answer
-  pub judged : IsCheckAnswer texts question certificate answer
-  pub never : answer ≡ audit.Yes → NoCaseIsMet texts question certificate
-  pub told : Tells (names_of names) question certificate texts answer out out' outcome
-
--- the logs of a source were judged with a question and a certificate, and their answer told; or no answer is given
-abbrev pub JudgesCheck : (List (List ℕ) → List ℕ → List ℕ → List (List ℕ) → Telling) → {S : Type 0} → Reading S → List ℕ
-    → List ℕ → LogSource → S → SinkState → SinkState → Outcome → Type 0
-JudgesCheck Tells reads asked certified source shelf out out' outcome =
-    OfSource reads source shelf shelf out out' outcome (λ names.
-    CheckOutcome Tells reads asked certified names shelf out out' outcome
-    ⊎ GivesNoAnswer (IsFilesFault reads (check_names asked certified names) shelf) out out' outcome)
-
--- the question is decided of the logs of the source that is named; or no answer is given, and the shelf is as it was
-abbrev pub DecidesLogs : Type 0 → {S : Type 0} → Reading S → Writing S → DecideRequest → S → S → SinkState → SinkState
-    → Outcome → Type 0
-DecidesLogs A reads writes decide shelf shelf' out out' outcome =
-    OfSource reads decide.logs shelf shelf' out out' outcome (λ names.
-    Decides A reads writes decide names shelf shelf' out out' outcome
-    ⊎ ((shelf' ≡ shelf) × GivesNoAnswer (IsUndecided reads decide names shelf) out out' outcome))
-
--- a question is decided of the logs of a source, and why what is found is so is told; or no answer is given
-abbrev pub ExplainsQuestion : Type 0 → Bool → {S : Type 0} → Reading S → CaseSelection → LogSource → S → SinkState
-    → SinkState → Outcome → Type 0
-ExplainsQuestion A is_json reads asked source shelf out out' outcome =
-    OfSource reads source shelf shelf out out' outcome (λ names.
-    DecidesTogether (ExplainsFindings A is_json asked (names_of names) out out' outcome) reads asked.question.now names
-    shelf
-    ⊎ GivesNoAnswer (IsFilesFault reads (asked.question.now ∷ names_of names) shelf) out out' outcome)
+abbrev pub TellsOfCertificate : {S : Type 0} → Reading S → Bor (List ℕ) → Bor (List ℕ) → LogSource → S → SinkState
+    → SinkState → Outcome → (List (List ℕ) → List ℕ → List ℕ → List (List ℕ) → Reply → Type 0) → Type 0
+TellsOfCertificate reads question certificate source shelf out out' outcome IsReply =
+    Tells (OfFiles reads None (Some question) (Some certificate) source shelf IsReply)
+    (IsUnread reads None (Some question) (Some certificate) source shelf) out out' outcome
 
 -- the answer that is asked for was explained; that of one log is none of these, since it comes of the input
 abbrev pub ExplainsAnswer : Type 0 → Bool → {S : Type 0} → Reading S → ExplainedAnswer → S → SinkState → SinkState
     → Outcome → Type 0
 ExplainsAnswer A is_json reads OneLog shelf out out' outcome = ⊥
 ExplainsAnswer A is_json reads (Logs source) shelf out out' outcome =
-    JudgesLogs (ExplainsLogs A is_json) reads source shelf out out' outcome
+    TellsOfLogs reads source shelf out out' outcome (ExplainsLogsOf A is_json)
 ExplainsAnswer A is_json reads (Findings asked source) shelf out out' outcome =
-    ExplainsQuestion A is_json reads asked source shelf out out' outcome
+    TellsOfQuestion reads asked.question source shelf out out' outcome (ExplainsFindingsOf A is_json asked)
 ExplainsAnswer A is_json reads (Certificate question certificate source) shelf out out' outcome =
-    JudgesCheck (ExplainsCheck A is_json question.now certificate.now) reads question.now certificate.now source shelf out
-    out' outcome
-
--- the question whether two nodes of a ring of so many ever lead at once was printed
-pub record AsksPairs (nodes : ℕ) (out out' : SinkState) (outcome : Outcome) : Type 0 where
-  pub size : IsRingSize nodes
-  pub question : QuestionCases
-  pub nodes_are : question.nodes ≡ nodes
-  pub cases_are : ArePairCases nodes question.cases
-  pub printed : Prints (question_text question) Yes out out' outcome
-
--- why that question isn't printed: no ring has so many nodes, or memory ran out
-abbrev pub IsPairsFault : ℕ → ProgramFault → Type 0
-IsPairsFault nodes f = (¬ (IsRingSize nodes) × (f ≡ RingSize)) ⊎ (f ≡ OutOfMemory)
-
--- the ends of a run were printed whole, and the status says whether a node leads; or the output stopped within them
-abbrev pub ReportsEnds : Run → SinkState → SinkState → Outcome → Type 0
-ReportsEnds run out out' outcome =
-    ((status : Status) × IsElectionStatus run.ends status × Takes (ends_text run) out out'
-    × (outcome ≡ Ok status))
-    ⊎ (StopsIn (ends_text run) out out' × (outcome ≡ Err CannotWriteAnswer))
-
--- why the ring that a request names isn't run: no ring has so many nodes, or a fault of the run
-abbrev pub IsRunFault : RunRequest → ProgramFault → Type 0
-IsRunFault request f =
-    (¬ (IsRingSize request.nodes) × (f ≡ RingSize))
-    ⊎ ((fault : RunFault) × IsAskedRunFault request fault × (f ≡ run_fault fault))
-
--- a run that the request asks for was made: each log was written to its file, and then its ends were reported; or a
--- log wasn't written, and nothing was printed. Or no run was made, and the shelf is as it was
-pub data RunOutcome {S : Type 0} (writes : Writing S) (request : RunRequest) (shelf shelf' : S)
-    (out out' : SinkState) (outcome : Outcome) : Type 0 where
-  recorded : (run : Run) → IsAskedRun request run → WritesLogs writes request.folder.now run.logs shelf shelf'
-      → ReportsEnds run out out' outcome → RunOutcome writes request shelf shelf' out out' outcome
-  unwritten : (run : Run) → IsAskedRun request run
-      → GivesNoAnswer (StopsInLogs writes request.folder run.logs shelf shelf') out out' outcome
-      → RunOutcome writes request shelf shelf' out out' outcome
-  not_run : shelf' ≡ shelf → GivesNoAnswer (IsRunFault request) out out' outcome
-      → RunOutcome writes request shelf shelf' out out' outcome
+    TellsOfCertificate reads question certificate source shelf out out' outcome
+    (ExplainsCheckIn A is_json question.now certificate.now)
 
 -- what is done for words: they are refused; or they ask for logs, or for the evidence of an answer, and their texts
--- are judged together, or those of each of some folders; or to show logs, and what happened by them is printed; or to draw them, and a picture is kept;
--- or to check logs, and their texts are judged with those of a question and of a certificate; or to decide a question
--- of them, and it is decided of their texts; or for the question of all pairs, and it is printed; or for a ring, and
--- it is run; or to upgrade logs, or to mend them, and it is done; or for the version, and it is printed. Or no answer
--- is given, for a fault that the command can have. The shelf is as it was but for the files of a run, of upgraded or
+-- are judged together, or those of each of some folders; or to show logs, and what happened by them is printed; or to draw
+-- them, and a picture is kept; or to check logs, and their texts are judged with those of a question and of a certificate; or
+-- to decide a question of them, and it is decided of their texts; or for the question of all pairs, and it is printed; or for
+-- a ring, and it is run; or to upgrade logs, or to mend them, and it is done; or for the version, and it is printed. Or no
+-- answer is given, for a fault that the command can have. The shelf is as it was but for the files of a run, of upgraded or
 -- mended logs, of a certificate and of a picture
 pub data CommandOutcome (A : Type 0) {S : Type 0} (reads : Reading S) (writes : Writing S)
     (words : List (List ℕ)) (shelf shelf' : S) (out out' : SinkState)
@@ -194,7 +103,7 @@ pub data CommandOutcome (A : Type 0) {S : Type 0} (reads : Reading S) (writes : 
       → outcome ≡ Err (words_fault fault)
       → CommandOutcome A reads writes words shelf shelf' out out' outcome
   judged : (logs : LogsRequest) → IsLogsLine words logs → shelf' ≡ shelf
-      → JudgesLogs (λ _ _. ReportsAs logs.is_json) reads logs.logs shelf out out' outcome
+      → TellsOfLogs reads logs.logs shelf out out' outcome (λ _. JudgesLogs (ReportsAs logs.is_json))
       → CommandOutcome A reads writes words shelf shelf' out out' outcome
   each : (asked : EachRequest) → IsEachLine words asked → shelf' ≡ shelf → JudgesEach reads asked shelf out out' outcome
       → CommandOutcome A reads writes words shelf shelf' out out' outcome
@@ -203,27 +112,36 @@ pub data CommandOutcome (A : Type 0) {S : Type 0} (reads : Reading S) (writes : 
       → CommandOutcome A reads writes words shelf shelf' out out' outcome
   shown : (show : ShowRequest) → IsShowLine words show → shelf' ≡ shelf → ShowsLogs reads show shelf out out' outcome
       → CommandOutcome A reads writes words shelf shelf' out out' outcome
-  drawn : (draw : DrawRequest) → IsDrawLine words draw → DrawsLogs A reads writes draw shelf shelf' out out' outcome
+  drawn : (draw : DrawRequest) → IsDrawLine words draw
+      → TellsAndKeeps writes (Some draw.picture)
+      (OfFiles reads (Some draw.picture) (question_of draw.moment) None draw.logs shelf (DrawsLogs A draw))
+      (IsUnread reads (Some draw.picture) (question_of draw.moment) None draw.logs shelf)
+      shelf shelf' out out' outcome
       → CommandOutcome A reads writes words shelf shelf' out out' outcome
   certified : (check : CheckRequest) → IsCheckLine words check → shelf' ≡ shelf
-      → JudgesCheck (λ _ _ _ _. ReportsAs check.is_json) reads check.question.now check.certificate.now check.logs shelf
-      out out' outcome
+      → TellsOfCertificate reads check.question check.certificate check.logs shelf out out' outcome
+      (λ _. ChecksTexts (ReportsAs check.is_json))
       → CommandOutcome A reads writes words shelf shelf' out out' outcome
   decided : (decide : DecideRequest) → IsDecideLine words decide
-      → DecidesLogs A reads writes decide shelf shelf' out out' outcome
+      → TellsAndKeeps writes decide.certificate
+      (OfFiles reads decide.certificate (Some decide.question) None decide.logs shelf
+      (λ _ question _. DecidesTexts {A = A} (PrintsDecided decide.is_json (is_some decide.certificate)) question))
+      (IsUnread reads decide.certificate (Some decide.question) None decide.logs shelf)
+      shelf shelf' out out' outcome
       → CommandOutcome A reads writes words shelf shelf' out out' outcome
-  pairs : (nodes : ℕ) → IsPairsLine words nodes → shelf' ≡ shelf
-      → AsksPairs nodes out out' outcome ⊎ GivesNoAnswer (IsPairsFault nodes) out out' outcome
+  pairs : (nodes : ℕ) → IsPairsLine words nodes → shelf' ≡ shelf → Tells (AsksPairs nodes) IsNoMemory out out' outcome
       → CommandOutcome A reads writes words shelf shelf' out out' outcome
   recorded : (request : RunRequest) → IsRunLine words request
-      → RunOutcome writes request shelf shelf' out out' outcome
+      → TellsAndRecords writes request.folder (RunsAsked request) IsNoMemory shelf shelf' out out' outcome
       → CommandOutcome A reads writes words shelf shelf' out out' outcome
   upgraded : (upgrade : RewriteRequest) → IsUpgradeLine words upgrade
-      → OfSource reads upgrade.logs shelf shelf' out out' outcome
-      (λ names. Upgrades reads writes upgrade (names_of names) shelf shelf' out out' outcome)
+      → TellsAndRecords writes upgrade.folder
+      (OfFiles reads None None None upgrade.logs shelf (λ _ _ _. UpgradesTexts))
+      (IsUnread reads None None None upgrade.logs shelf) shelf shelf' out out' outcome
       → CommandOutcome A reads writes words shelf shelf' out out' outcome
   mended : (mend : MendRequest) → IsMendLine words mend
-      → MendsLogs reads writes mend shelf shelf' out out' outcome
+      → TellsAndRecords writes mend.folder (MendsLogs reads mend shelf) (IsUnmended reads mend shelf)
+      shelf shelf' out out' outcome
       → CommandOutcome A reads writes words shelf shelf' out out' outcome
   versioned : IsVersionLine words → shelf' ≡ shelf → Prints version_line Yes out out' outcome
       → CommandOutcome A reads writes words shelf shelf' out out' outcome
@@ -233,10 +151,11 @@ pub data CommandOutcome (A : Type 0) {S : Type 0} (reads : Reading S) (writes : 
 pub data Serves (A : Type 0) {S : Type 0} (reads : Reading S) (writes : Writing S)
     (words : List (List ℕ)) (input input' : Reads) (shelf shelf' : S)
     (out out' : SinkState) (outcome : Outcome) : Type 0 where
-  without_words : words ≡ [] → shelf' ≡ shelf → OneLogOutcome (λ _. Reports) input input' out out' outcome
+  without_words : words ≡ [] → shelf' ≡ shelf
+      → Tells (OfInput (JudgesLog Reports) input input') (IsInputFault input') out out' outcome
       → Serves A reads writes words input input' shelf shelf' out out' outcome
   explained : (explain : ExplainRequest) → IsExplainLine words explain → explain.answer ≡ OneLog → shelf' ≡ shelf
-      → OneLogOutcome (ExplainsLog A explain.is_json) input input' out out' outcome
+      → Tells (OfInput (ExplainsInput A explain.is_json) input input') (IsInputFault input') out out' outcome
       → Serves A reads writes words input input' shelf shelf' out out' outcome
   with_words : words ≢ [] → input' ≡ input → CommandOutcome A reads writes words shelf shelf' out out' outcome
       → Serves A reads writes words input input' shelf shelf' out out' outcome

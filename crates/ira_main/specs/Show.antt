@@ -27,7 +27,8 @@ use Rattle.ira_main.specs.FilesRead.{IsFilesFault, ReadsFiles, names_of}
 use Rattle.ira_main.specs.Outcome.{GivesNoAnswer, Outcome, ReportsAs}
 use Rattle.ira_main.specs.SourceNames.{OfSource}
 use Rattle.ira_view.specs.Status.{IsLeadsStatus}
-use Rattle.ira_main.specs.declared.program_fault.ProgramFault.TheVariants.{CannotWriteAnswer, NoMoment, NoPlace}
+use Rattle.ira_commands.specs.declared.command_fault.CommandFault.TheVariants.{NoMoment, NoPlace}
+use Rattle.ira_main.specs.declared.program_fault.ProgramFault.TheVariants.{CannotWriteAnswer, Refused}
 use Rattle.ira_main.specs.declared.program_fault.ProgramFault.TheVariants.{OutOfMemory}
 use Rattle.ira_view.specs.declared.status.Status.{Status}
 
@@ -137,9 +138,9 @@ pub data TellsRing (texts : List (List ℕ)) (show : ShowRequest) (question : Li
   refused : (r : Reason) → IsReasonAgainst texts show.moment question r
       → ReportsAs show.is_json (audit.No r) out out' outcome → TellsRing texts show question out out' outcome
   no_moment : (logs : List Log) (f : CutFault) → AreGoodLogs texts logs → IsCutFaultOf logs show.moment f → out' ≡ out
-      → outcome ≡ Err (NoMoment f) → TellsRing texts show question out out' outcome
+      → outcome ≡ Err (Refused (NoMoment f)) → TellsRing texts show question out out' outcome
   no_place : (logs : List Log) → AreGoodLogs texts logs → AreNoPlaces logs show.leads → out' ≡ out
-      → outcome ≡ Err NoPlace → TellsRing texts show question out out' outcome
+      → outcome ≡ Err (Refused NoPlace) → TellsRing texts show question out out' outcome
 
 -- the files that are named were read, that of a question first, and the ring was shown by their texts
 pub record ShowsTogether {S : Type 0} (reads : Reading S) (show : ShowRequest) (names : List FileName) (shelf : S)

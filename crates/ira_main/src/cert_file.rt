@@ -2,36 +2,16 @@ ghost use Rattle.std.specs.Prelude.{◌≡◌};
 ghost use Rattle.ira_cert_text.specs.Certificate as certificate;
 ghost use Rattle.ira_cert_text.specs.CertText.{cert_text};
 ghost use Rattle.ira_main_files.specs.Shelf.{MakesFile, writing_by};
-ghost use Rattle.ira_main.specs.CertFile.{IsTextToKeep, KeepsCertificate};
+ghost use Rattle.ira_main.specs.CertFile.{KeepsCertificate};
 ghost use Rattle.ira_main.specs.Outcome.{Outcome, ReportsOutcome, outcome_number};
 
 use crate::program_fault::{ProgramFault, report_outcome};
-use crate::text_file::write_text;
 use ira_cert_text::{Certificate, write_cert};
+use ira_commands::CommandFault;
 use ira_event::Sink;
 use ira_main_files::{Shelf, ShelfFault};
 use ira_view::Status;
 use std::alloc::Allocator;
-
-/// What comes of keeping the text of a certificate in a new file of this name. There is none where it is past the
-/// limits.
-pub(crate) fn keep_written<'a, F: Shelf>(
-    text: Option<&[u8]>,
-    name: &'a str,
-    shelf: &mut F,
-) -> Result<Status, ProgramFault<'a>>
-    ensures { (c : certificate.Certificate) → IsTextToKeep text.entry c
-        → KeepsCertificate (writing_by F.creates F.closes F.keeps F.Out.state) c name.entry
-        shelf.old shelf.new result }
-{
-    let Some(text) = text else {
-        return Err(ProgramFault::CertificatePastLimits);
-    };
-    match write_text(text, name, shelf) {
-        Ok(()) => Ok(Status::Yes),
-        Err(fault) => Err(ProgramFault::cannot_write(name, fault)),
-    }
-}
 
 // Writes the text of the certificate to a new file of this name.
 fn write_new<A: Allocator, F: Shelf>(
@@ -49,7 +29,7 @@ fn write_new<A: Allocator, F: Shelf>(
 }
 
 /// What comes of keeping the certificate in a new file of this name.
-pub(crate) fn keep<'a, A: Allocator, F: Shelf>(
+fn keep<'a, A: Allocator, F: Shelf>(
     certificate: &Certificate<A>,
     name: &'a str,
     shelf: &mut F,
@@ -58,7 +38,7 @@ pub(crate) fn keep<'a, A: Allocator, F: Shelf>(
         shelf.old shelf.new result }
 {
     if !certificate.readable() {
-        return Err(ProgramFault::CertificatePastLimits);
+        return Err(ProgramFault::Refused(CommandFault::CertificatePastLimits));
     }
     match write_new(certificate, name, shelf) {
         Ok(()) => Ok(Status::Yes),

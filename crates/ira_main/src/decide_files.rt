@@ -1,105 +1,65 @@
-ghost use Rattle.std.specs.Prelude.{◌≡◌, ◌⊎◌, Bool, Err};
+ghost use Rattle.std.specs.Prelude.{ℕ, IfOk, List, MatchResult, None, Some};
 ghost use Rattle.std.specs.Option.{is_some};
-ghost use Rattle.ira_audit.specs.AskedQuestion.{AreFoundOf};
-ghost use Rattle.ira_audit.specs.DecidedCases.{AreDecided};
-ghost use Rattle.ira_audit.specs.declared.findings.Findings.{Findings};
-ghost use Rattle.ira_main_files.specs.Shelf.{writing_by};
-ghost use Rattle.ira_main.specs.Decide.{KeepsFindings, PrintsFindings, PrintsFound};
-ghost use Rattle.ira_main.specs.Serve.{DecidesLogs};
-ghost use Rattle.ira_main.specs.declared.program_fault.ProgramFault.TheVariants.{OutOfMemory};
+ghost use Rattle.ira_audit.specs.RingAudit.{HasTaken};
+ghost use Rattle.ira_commands.specs.Decide.{DecidesTexts, PrintsDecided};
+ghost use Rattle.ira_main.specs.Given.{IsUnread, OfFiles};
 
-use crate::cert_file::keep_written;
-use crate::overwriting::keep_inputs;
+use crate::given::{Given, Inputs, read_given};
 use crate::program_fault::ProgramFault;
-use crate::read_files::{read_file, read_logs};
-use crate::report::{report_as, written};
-use crate::source_names::source_names;
-use ira_audit::{Answer, AskedQuestion, DecidedCases, Refusal};
-use ira_event::Sink;
+use ira_audit::RingAudit;
+use ira_commands::{Reply, decide_asked};
+use ira_event::OutOfMemory;
 use ira_main_cli::DecideRequest;
-use ira_main_files::{FileName, Shelf};
-use ira_view::{Status, write_decided_as};
+use ira_main_files::Shelf;
 use std::alloc::Allocator;
 use std::thread::Threads;
 
-// Keeps the certificate of what was found, if there is one, in a new file of this name, if there is one.
-fn keep_found<'a, A: Allocator, F: Shelf>(
-    decided: &DecidedCases<A>,
-    name: Option<&'a str>,
-    shelf: &mut F,
-) -> Result<Status, ProgramFault<'a>>
-    ensures { (findings : Findings A) → AreDecided (is_some name.entry) findings decided.now
-        → KeepsFindings (writing_by F.creates F.closes F.keeps F.Out.state) findings name.entry
-        shelf.old shelf.new result }
-{
-    if !decided.are_absent {
-        return Ok(Status::No);
-    }
-    match name {
-        Some(name) => keep_written(decided.certificate_text(), name, shelf),
-        None => Ok(Status::Yes),
-    }
-}
-
-// Prints what was found, with its status, as JSON where that is wanted, or else its lines.
-fn print_found<'a, A: Allocator + Clone, W: Sink>(
+/// What is found for a question about the logs that an audit has taken.
+fn decide_taken<R: Threads, A: Allocator + Clone + Sync>(
+    rt: &R,
     alloc: A,
-    is_json: bool,
-    decided: &DecidedCases<A>,
-    out: &mut W,
-) -> Result<Status, ProgramFault<'a>>
-    ensures { (certify : Bool) (findings : Findings A) → AreDecided certify findings decided.now
-        → PrintsFound is_json (W.state out.old) (W.state out.new) result findings
-        ⊎ ((W.state out.new ≡ W.state out.old) × (result ≡ Err OutOfMemory)) }
+    decide: &DecideRequest<'_>,
+    question: &[u8],
+    audit: RingAudit<A>,
+) -> Result<Reply<A>, OutOfMemory>
+    requires { (texts : List (List ℕ)) × HasTaken audit texts }
+    ensures { (texts : List (List ℕ)) → HasTaken audit texts
+        → IfOk result (DecidesTexts {A = A} (PrintsDecided decide.now.is_json (is_some decide.now.certificate))
+        question.now texts) }
 {
-    let wrote = write_decided_as(alloc, is_json, decided, out);
-    written(wrote, Status::of_absent(decided.are_absent))
+    let judged = audit.judge_on_threads(rt)?;
+    decide_asked(
+        alloc,
+        decide.is_json,
+        decide.certificate.is_some(),
+        question,
+        &judged,
+    )
 }
 
-// Prints what is found for the question, and then keeps its certificate, where a name is given for one.
-fn decide_asked<'a, A: Allocator + Clone, F: Shelf, W: Sink>(
-    alloc: A,
-    asked: &AskedQuestion<'_, A>,
-    decide: &DecideRequest<'a>,
-    shelf: &mut F,
-    out: &mut W,
-) -> Result<Status, ProgramFault<'a>>
-    ensures { ((findings : Findings A) × AreFoundOf asked.now findings
-        × PrintsFindings (writing_by F.creates F.closes F.keeps F.Out.state) decide.now.is_json decide.now.certificate
-        shelf.old shelf.new (W.state out.old) (W.state out.new) result findings)
-        ⊎ ((shelf.new ≡ shelf.old) × (W.state out.new ≡ W.state out.old) × (result ≡ Err OutOfMemory)) }
-{
-    let decided = asked.decide_counted(decide.certificate.is_some())?;
-    print_found(alloc, decide.is_json, &decided, out)?;
-    keep_found(&decided, decide.certificate, shelf)
-}
-
-/// Reads the question and then the logs, all before one is judged, decides the question, and prints what is found. A
-/// certificate is kept only once that is printed, and never over one of these files. The steps of no case are kept: they
-/// are counted, or, where a certificate is asked for, written into its text.
-pub(crate) fn decide_files<'a, R, A, F, W>(
+/// Decides a question of the logs of a source.
+pub(crate) fn decide_files<'a, R, A, F>(
     rt: &R,
     alloc: A,
     decide: &DecideRequest<'a>,
-    shelf: &mut F,
-    out: &mut W,
-) -> Result<Status, ProgramFault<'a>>
+    shelf: &F,
+) -> Result<Reply<A>, ProgramFault<'a>>
 where
     R: Threads + Sync,
     A: Allocator + Clone + Send + Sync,
     F: Shelf + Sync,
-    W: Sink,
-    ensures { DecidesLogs A F.reads (writing_by F.creates F.closes F.keeps F.Out.state) decide.now
-        shelf.old shelf.new (W.state out.old) (W.state out.new) result }
+    ensures { MatchResult result
+        (OfFiles F.reads decide.now.certificate (Some decide.now.question) None decide.now.logs shelf.now
+        (λ _ question _ texts. DecidesTexts {A = A}
+        (PrintsDecided decide.now.is_json (is_some decide.now.certificate)) question texts))
+        (IsUnread F.reads decide.now.certificate (Some decide.now.question) None decide.now.logs shelf.now) }
 {
-    let names = source_names(&alloc, &decide.logs, shelf)?;
-    keep_inputs(&alloc, decide.certificate, Some(decide.question), &names)?;
-    let question = read_file(&alloc, FileName::Given(decide.question), shelf)?;
-    let audit = read_logs(rt, alloc.clone()?, &names, shelf)?;
-    let judged = audit.judge_on_threads(rt)?;
-    match judged.ask(question.bytes()) {
-        Ok(asked) => decide_asked(alloc, &asked, decide, shelf, out),
-        Err(Refusal::No(reason)) => report_as(alloc, decide.is_json, &Answer::No(reason), out),
-        Err(Refusal::OutOfMemory) => Err(ProgramFault::OutOfMemory),
-    }
+    let inputs = Inputs {
+        question: Some(decide.question),
+        certificate: None,
+        logs: &decide.logs,
+        made: decide.certificate,
+    };
+    let Given { first, audit } = read_given(rt, &alloc, inputs, shelf)?;
+    Ok(decide_taken(rt, alloc, decide, first.question.bytes(), audit)?)
 }

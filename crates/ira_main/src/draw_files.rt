@@ -1,178 +1,126 @@
-ghost use Rattle.std.specs.Prelude.{◌≡◌, ◌++◌, ◌⊎◌, ℕ, Err, List, MatchResult, length, string_bytes, true};
-ghost use Rattle.ira_audit.specs.GoodLogs.{AreGoodLogs};
-ghost use Rattle.ira_audit.specs.Judged.{IsJudged};
-ghost use Rattle.ira_audit.specs.Report.{IsReportable};
-ghost use Rattle.ira_main_files.specs.Shelf.{writing_by};
-ghost use Rattle.ira_main_files.specs.declared.file_name.FileName.{FileName as Name};
-ghost use Rattle.ira_main.specs.Draw.{DrawsLogs, IsJudgedToldOf, KeepsPicture, PrintsDrawn, TellsDrawn, names_page};
-ghost use Rattle.ira_main.specs.FilesRead.{names_of};
-ghost use Rattle.ira_main.specs.ProgramFault.{draw_fault};
-ghost use Rattle.ira_main.specs.Overwriting.{input_names};
-ghost use Rattle.ira_main.specs.Show.{moment_names};
-ghost use Rattle.ira_main.specs.declared.program_fault.ProgramFault.TheVariants.{OutOfMemory};
+ghost use Rattle.std.specs.Prelude.{◌≡◌, ℕ, IfOk, List, MatchResult, None, Some, length};
+ghost use Rattle.ira_audit.specs.RingAudit.{HasTaken};
+ghost use Rattle.ira_commands.specs.declared.ring_form.RingForm.TheVariants.{Html, Picture};
+ghost use Rattle.ira_main.specs.Draw.{DrawsLogs, ShowsLogsAt, columns_of, names_page};
+ghost use Rattle.ira_main.specs.Given.{IsUnread, OfFiles};
+ghost use Rattle.ira_main.specs.Moment.{question_of};
+ghost use Rattle.ira_main.specs.NamedFile.{names_in, texts_in};
 
-use crate::drawn_text::{refused_text, ring_text};
-use crate::overwriting::keep_inputs;
+use crate::given::{Given, GivenTexts, Inputs, read_given, read_given_texts};
+use crate::moment::{moment_of, question_of};
+use crate::named_file::{NamedFile, named_texts};
 use crate::program_fault::ProgramFault;
-use crate::read_to_draw::{ToDraw, read_to_draw};
-use crate::report::report;
-use crate::show_files::{read_asked, ring_at};
-use crate::source_names::source_names;
-use crate::text_file::write_text;
-use ira_audit::{Answer, GoodLogs, Judged, write_report};
-use ira_event::{Sink, WriteFault};
-use ira_main_cli::{AskedMoment, DrawRequest};
+use crate::ring_printer::paths;
+use ira_audit::RingAudit;
+use ira_commands::{Reply, RingForm, show_ring, told_in_page};
+use ira_event::OutOfMemory;
+use ira_main_cli::DrawRequest;
 use ira_main_files::{FileName, Shelf};
-use ira_view::{RingFault, Status};
-use ira_view_page::PageText;
-use ira_view_picture::DrawFault;
+use ira_view::judge_texts;
+use ira_view_picture::ColumnRange;
 use std::alloc::Allocator;
 use std::thread::Threads;
 
-// The file of the question whose first moment is asked for, if one is.
-fn asked_name<'a>(moment: &AskedMoment<'a>) -> Option<&'a str>
-    ensures { (logs : List Name) → input_names result logs ≡ moment_names moment.now ++ names_of logs }
+/// Whether a name is that of a page.
+fn is_page(name: &str) -> bool
+    ensures { result ≡ names_page name.now }
 {
-    match moment {
-        AskedMoment::OfQuestion(asked) => Some(asked.question),
-        AskedMoment::AtEnd | AskedMoment::AtCut(_) => None,
+    name.as_bytes().ends_with(b".html")
+}
+
+/// The columns that are asked for.
+fn columns_of(draw: &DrawRequest<'_>) -> ColumnRange
+    ensures { result ≡ columns_of draw.now }
+{
+    ColumnRange {
+        from: draw.from,
+        to: draw.to,
     }
 }
 
-// Keeps the picture in a new file of this name. The status is that of the answer.
-fn keep_picture<'a, A: Allocator, F: Shelf>(
-    answer: &Answer,
-    picture: &PageText<A>,
-    name: &'a str,
-    shelf: &mut F,
-) -> Result<Status, ProgramFault<'a>>
-    ensures { KeepsPicture (writing_by F.creates F.closes F.keeps F.Out.state) answer.now picture.now name.entry
-        shelf.old shelf.new result }
-{
-    match write_text(picture.bytes(), name, shelf) {
-        Ok(()) => Ok(Status::of_answer(answer)),
-        Err(fault) => Err(ProgramFault::cannot_write(name, fault)),
-    }
-}
-
-// Prints the line of the answer, and then keeps the picture.
-fn print_drawn<'a, A: Allocator, F: Shelf, W: Sink>(
-    answer: &Answer,
-    picture: &PageText<A>,
-    name: &'a str,
-    shelf: &mut F,
-    out: &mut W,
-) -> Result<Status, ProgramFault<'a>>
-    requires { IsReportable answer.now }
-    ensures { PrintsDrawn (writing_by F.creates F.closes F.keeps F.Out.state) answer.now picture.now name.entry
-        shelf.old shelf.new (W.state out.old) (W.state out.new) result }
-{
-    match write_report(answer, out) {
-        Ok(()) => keep_picture(answer, picture, name, shelf),
-        Err(WriteFault) => Err(ProgramFault::CannotWriteAnswer),
-    }
-}
-
-// Prints the line of the answer and keeps the picture, if there is one.
-fn tell_drawn<'a, A: Allocator, F: Shelf, W: Sink>(
-    answer: &Answer,
-    picture: Result<PageText<A>, DrawFault>,
-    name: &'a str,
-    shelf: &mut F,
-    out: &mut W,
-) -> Result<Status, ProgramFault<'a>>
-    requires { IsReportable answer.now }
-    ensures { MatchResult picture
-        (λ page. PrintsDrawn (writing_by F.creates F.closes F.keeps F.Out.state) answer.now page name.entry
-        shelf.old shelf.new (W.state out.old) (W.state out.new) result)
-        (λ f. (shelf.new ≡ shelf.old) × (W.state out.new ≡ W.state out.old) × (result ≡ Err (draw_fault f))) }
-{
-    match picture {
-        Ok(picture) => print_drawn(answer, &picture, name, shelf, out),
-        Err(fault) => Err(ProgramFault::undrawn(fault)),
-    }
-}
-
-// Draws good logs, in the files of these names, at the moment that is asked for; where a question isn't one of their ring, its
-// line is printed alone.
-fn draw_good<'a, A: Allocator + Clone, F: Shelf, W: Sink>(
+/// A picture of the logs that an audit has taken from the files of these names.
+fn draw_taken<R: Threads, A: Allocator + Clone + Sync>(
+    rt: &R,
     alloc: A,
-    logs: GoodLogs<A>,
-    draw: &DrawRequest<'a>,
+    draw: &DrawRequest<'_>,
     question: &[u8],
-    names: &[FileName<'a>],
-    shelf: &mut F,
-    out: &mut W,
-) -> Result<Status, ProgramFault<'a>>
-    requires { length names.now ≡ length logs }
-    ensures { (texts : List (List ℕ)) → AreGoodLogs texts logs
-        → TellsDrawn A (writing_by F.creates F.closes F.keeps F.Out.state) (names_of names.now) texts draw.now
-        question.now shelf.old shelf.new (W.state out.old) (W.state out.new) result
-        ⊎ ((shelf.new ≡ shelf.old) × (W.state out.new ≡ W.state out.old) × (result ≡ Err OutOfMemory)) }
+    names: &[FileName<'_>],
+    audit: RingAudit<A>,
+) -> Result<Reply<A>, OutOfMemory>
+    requires { (texts : List (List ℕ)) × HasTaken audit texts × (length names.now ≡ length texts) }
+    ensures { (files texts : List (List ℕ)) → HasTaken audit texts
+        → IfOk result (ShowsLogsAt A (Picture (columns_of draw.now)) draw.now.moment files question.now texts) }
 {
-    match ring_at(alloc.clone()?, logs, &draw.moment, question) {
-        Ok(ring) => {
-            let kept = ring_text(alloc, &ring, names, draw);
-            tell_drawn(&Answer::Yes, kept, draw.picture, shelf, out)
-        }
-        Err(RingFault::No(reason)) => report(&Answer::No(reason), out),
-        Err(RingFault::Cut(fault)) => Err(ProgramFault::NoMoment(fault)),
-        Err(RingFault::OutOfMemory) => Err(ProgramFault::OutOfMemory),
-    }
+    let judged = audit.judge_on_threads(rt)?;
+    let names = paths(&alloc, names)?;
+    let form = RingForm::Picture(columns_of(draw));
+    show_ring(
+        alloc,
+        form,
+        &moment_of(&draw.moment),
+        question,
+        &names,
+        b"",
+        judged,
+    )
 }
 
-// Draws what was read from the files of these names; where the texts aren't those of the logs of one ring, the line of the
-// reason is printed alone.
-fn draw_judged<'a, A: Allocator + Clone, F: Shelf, W: Sink>(
+/// A page to move in a picture of logs in files that were read, and have these names.
+fn draw_read<R: Threads, A: Allocator + Clone + Sync>(
+    rt: &R,
     alloc: A,
-    read: ToDraw<A>,
-    draw: &DrawRequest<'a>,
+    draw: &DrawRequest<'_>,
     question: &[u8],
-    names: &[FileName<'a>],
-    shelf: &mut F,
-    out: &mut W,
-) -> Result<Status, ProgramFault<'a>>
-    requires { (texts : List (List ℕ)) × IsJudged texts read.judged × (length names.now ≡ length texts) }
-    ensures { (texts : List (List ℕ)) → IsJudged texts read.judged
-        → (names_page draw.now.picture.now ≡ true
-        → IsJudgedToldOf (names_of names.now) texts read.judged (string_bytes read.told))
-        → TellsDrawn A (writing_by F.creates F.closes F.keeps F.Out.state) (names_of names.now) texts draw.now
-        question.now shelf.old shelf.new (W.state out.old) (W.state out.new) result
-        ⊎ ((shelf.new ≡ shelf.old) × (W.state out.new ≡ W.state out.old) × (result ≡ Err OutOfMemory)) }
+    names: &[FileName<'_>],
+    logs: &[NamedFile<A>],
+) -> Result<Reply<A>, OutOfMemory>
+    requires { length names.now ≡ length logs.now }
+    ensures { IfOk result (ShowsLogsAt A (Html (columns_of draw.now)) draw.now.moment (names_in logs.now) question.now
+        (texts_in logs.now)) }
 {
-    let ToDraw { judged, told } = read;
-    match judged {
-        Judged::Good(logs) => draw_good(alloc, logs, draw, question, names, shelf, out),
-        Judged::Refused(refused) => {
-            let kept = refused_text(alloc, &refused, told.as_bytes(), draw);
-            let answer = Answer::No(refused.reason());
-            tell_drawn(&answer, kept, draw.picture, shelf, out)
-        }
-        Judged::NoRing(reason) => report(&Answer::No(reason), out),
-    }
+    let logs = named_texts(alloc.clone()?, logs)?;
+    let judged = judge_texts(rt, alloc.clone()?, &logs)?;
+    let names = paths(&alloc, names)?;
+    let form = RingForm::Html(columns_of(draw));
+    let told = told_in_page(alloc.clone()?, form, &logs, &judged)?;
+    show_ring(
+        alloc,
+        form,
+        &moment_of(&draw.moment),
+        question,
+        &names,
+        told.as_bytes(),
+        judged,
+    )
 }
 
-/// Judges the logs of this source together, prints the line of their answer, and keeps a picture of them in the file
-/// that is named, which is none of those that are read; or a page with the picture, where the name is that of a page. The
-/// text of a question is read first, and all of them are before anything is judged.
-pub(crate) fn draw_files<'a, R, A, F, W>(
+/// Draws the logs of a source: a picture, or a page to move in one, where the name of the file that is made is that of a page.
+/// For a page the texts are kept, since it tells of a no with their lines.
+pub(crate) fn draw_files<'a, R, A, F>(
     rt: &R,
     alloc: A,
     draw: &DrawRequest<'a>,
-    shelf: &mut F,
-    out: &mut W,
-) -> Result<Status, ProgramFault<'a>>
+    shelf: &F,
+) -> Result<Reply<A>, ProgramFault<'a>>
 where
     R: Threads + Sync,
     A: Allocator + Clone + Send + Sync,
     F: Shelf + Sync,
-    W: Sink,
-    ensures { DrawsLogs A F.reads (writing_by F.creates F.closes F.keeps F.Out.state) draw.now shelf.old shelf.new
-        (W.state out.old) (W.state out.new) result }
+    ensures { MatchResult result
+        (OfFiles F.reads (Some draw.now.picture) (question_of draw.now.moment) None draw.now.logs shelf.now
+        (DrawsLogs A draw.now))
+        (IsUnread F.reads (Some draw.now.picture) (question_of draw.now.moment) None draw.now.logs shelf.now) }
 {
-    let names = source_names(&alloc, &draw.logs, shelf)?;
-    keep_inputs(&alloc, Some(draw.picture), asked_name(&draw.moment), &names)?;
-    let question = read_asked(&alloc, &draw.moment, shelf)?;
-    let read = read_to_draw(rt, alloc.clone()?, draw, &names, shelf)?;
-    draw_judged(alloc, read, draw, question.bytes(), &names, shelf, out)
+    let inputs = Inputs {
+        question: question_of(&draw.moment),
+        certificate: None,
+        logs: &draw.logs,
+        made: Some(draw.picture),
+    };
+    if is_page(draw.picture) {
+        let GivenTexts { first, logs } = read_given_texts(&alloc, inputs, shelf)?;
+        return Ok(draw_read(rt, alloc, draw, first.question.bytes(), &first.names, &logs)?);
+    }
+    let Given { first, audit } = read_given(rt, &alloc, inputs, shelf)?;
+    Ok(draw_taken(rt, alloc, draw, first.question.bytes(), &first.names, audit)?)
 }

@@ -1,65 +1,191 @@
-ghost use Rattle.std.specs.Prelude.{◌≤◌, ◌+◌};
-ghost use Rattle.ira_main.specs.Explain.{ExplainsLog, ExplainsLogs};
-ghost use Rattle.ira_main.specs.Serve.{OneLogOutcome, JudgesLogs};
+ghost use Rattle.std.specs.Prelude.{◌≡◌, ◌≤◌, ◌+◌, IfOk, MatchResult, None, Some};
+ghost use Rattle.ira_main.specs.Explain.{ExplainsCheckIn, ExplainsCheckOf, ExplainsFindingsOf, ExplainsInput, ExplainsLogsOf};
+ghost use Rattle.ira_main.specs.Given.{IsUnread, OfFiles};
+ghost use Rattle.ira_main.specs.NamedFile.{names_in, texts_in};
+ghost use Rattle.ira_main.specs.Serve.{IsInputFault, OfInput};
 
-use crate::named_file::{named_texts, read_named};
+use crate::given::{GivenTexts, Inputs, read_given_texts};
+use crate::named_file::{NamedFile, named_texts};
 use crate::program_fault::ProgramFault;
-use crate::source_names::source_names;
-use crate::view_printer::print_view;
-use ira_event::{MAX_TEXT, Sink};
-use ira_main_cli::LogSource;
+use ira_commands::{Reply, explain_all, explain_asked, explain_one, tell_view};
+use ira_event::{MAX_TEXT, OutOfMemory};
+use ira_main_cli::{CaseSelection, LogSource};
 use ira_main_files::{CountingReader, FileName, TextBuffer, TextSource};
-use ira_view::{Status, explain_text, explain_texts, judge_texts};
+use ira_view::{AskedFiles, explain_certified, judge_texts};
 use ira_view_page::NamedText;
 use std::alloc::Allocator;
 use std::io::Read;
+use std::sync::Wait;
 use std::thread::Threads;
-
-/// Judges the logs of this source together, and says why the answer is as it is. The texts are kept meanwhile, since a
-/// pipe can't be read twice; the page is put together before anything is printed.
-pub(crate) fn explain_files<'a, R, A, F, W>(
-    rt: &R,
-    alloc: A,
-    is_json: bool,
-    source: &LogSource<'a>,
-    shelf: &F,
-    out: &mut W,
-) -> Result<Status, ProgramFault<'a>>
-where
-    R: Threads,
-    A: Allocator + Clone + Sync,
-    F: TextSource,
-    W: Sink,
-    ensures { JudgesLogs (ExplainsLogs A is_json) F.reads source.now shelf.now
-        (W.state out.old) (W.state out.new) result }
-{
-    let names = source_names(&alloc, source, shelf)?;
-    let files = read_named(&alloc, &names, shelf)?;
-    let named = named_texts(alloc.clone()?, &files)?;
-    let judged = judge_texts(rt, alloc.clone()?, &named)?;
-    let view = explain_texts(alloc.clone()?, &named, &judged)?;
-    print_view(alloc, is_json, &view, out)
-}
+use std::time::Clock;
 
 /// Judges the log on the input, and says why the answer is as it is.
-pub(crate) fn explain_input<'a, A: Allocator + Clone, I: Read, W: Sink>(
+pub(crate) fn explain_input<'a, A: Allocator + Clone, I: Read>(
     alloc: A,
     is_json: bool,
     input: &mut CountingReader<I>,
-    out: &mut W,
-) -> Result<Status, ProgramFault<'a>>
-    ensures judged { OneLogOutcome (ExplainsLog A is_json) input.old input.new
-        (W.state out.old) (W.state out.new) result }
+) -> Result<Reply<A>, ProgramFault<'a>>
+    ensures judged { MatchResult result (OfInput (ExplainsInput A is_json) input.old input.new)
+        (IsInputFault input.new) }
     ensures reads { input.new.reads ≤ input.old.reads + (MAX_TEXT + 1) }
 {
     let mut text = TextBuffer::new(alloc.clone()?);
     if let Err(fault) = text.fill(input) {
         return Err(ProgramFault::cannot_read(FileName::Given("-"), fault));
     }
-    let named = NamedText {
+    let log = NamedText {
         name: "-",
         text: text.bytes(),
     };
-    let view = explain_text(alloc.clone()?, &named)?;
-    print_view(alloc, is_json, &view, out)
+    Ok(explain_one(alloc, is_json, &log)?)
+}
+
+/// The answer of logs in files that were read, and why it is so.
+fn explain_read<R: Threads, A: Allocator + Clone + Sync>(
+    rt: &R,
+    alloc: A,
+    is_json: bool,
+    logs: &[NamedFile<A>],
+) -> Result<Reply<A>, OutOfMemory>
+    ensures { IfOk result (ExplainsLogsOf A is_json (names_in logs.now) (texts_in logs.now)) }
+{
+    let logs = named_texts(alloc.clone()?, logs)?;
+    let judged = judge_texts(rt, alloc.clone()?, &logs)?;
+    explain_all(alloc, is_json, &logs, &judged)
+}
+
+/// Judges the logs of a source together, and says why the answer is as it is.
+pub(crate) fn explain_files<'a, R, A, F>(
+    rt: &R,
+    alloc: A,
+    is_json: bool,
+    source: &LogSource<'a>,
+    shelf: &F,
+) -> Result<Reply<A>, ProgramFault<'a>>
+where
+    R: Threads,
+    A: Allocator + Clone + Sync,
+    F: TextSource,
+    ensures { MatchResult result
+        (OfFiles F.reads None None None source.now shelf.now (λ names _ _. ExplainsLogsOf A is_json names))
+        (IsUnread F.reads None None None source.now shelf.now) }
+{
+    let GivenTexts { logs, .. } = read_given_texts(&alloc, Inputs::logs(source), shelf)?;
+    Ok(explain_read(rt, alloc, is_json, &logs)?)
+}
+
+/// What is found for a question about logs in files that were read, and why it is so.
+fn explain_question_read<R: Threads, A: Allocator + Clone + Sync>(
+    rt: &R,
+    alloc: A,
+    is_json: bool,
+    asked: CaseSelection<'_>,
+    question: &[u8],
+    logs: &[NamedFile<A>],
+) -> Result<Reply<A>, OutOfMemory>
+    ensures { IfOk result
+        (ExplainsFindingsOf A is_json asked.entry (names_in logs.now) question.now (texts_in logs.now)) }
+{
+    let logs = named_texts(alloc.clone()?, logs)?;
+    let judged = judge_texts(rt, alloc.clone()?, &logs)?;
+    let question = NamedText {
+        name: asked.question,
+        text: question,
+    };
+    let files = AskedFiles {
+        logs: &logs,
+        question: &question,
+    };
+    explain_asked(alloc, is_json, asked.case, files, &judged)
+}
+
+/// Decides a question of the logs of a source, and says why what is found is so.
+pub(crate) fn explain_question_files<'a, R, A, F>(
+    rt: &R,
+    alloc: A,
+    is_json: bool,
+    asked: CaseSelection<'a>,
+    source: &LogSource<'a>,
+    shelf: &F,
+) -> Result<Reply<A>, ProgramFault<'a>>
+where
+    R: Threads,
+    A: Allocator + Clone + Sync,
+    F: TextSource,
+    ensures { MatchResult result
+        (OfFiles F.reads None (Some asked.entry.question) None source.now shelf.now
+        (λ names question _. ExplainsFindingsOf A is_json asked.entry names question))
+        (IsUnread F.reads None (Some asked.entry.question) None source.now shelf.now) }
+{
+    let inputs = Inputs {
+        question: Some(asked.question),
+        certificate: None,
+        logs: source,
+        made: None,
+    };
+    let GivenTexts { first, logs } = read_given_texts(&alloc, inputs, shelf)?;
+    let question = first.question.bytes();
+    Ok(explain_question_read(rt, alloc, is_json, asked, question, &logs)?)
+}
+
+/// The answer of logs in files that were read, of a question and of a certificate, and why it is so.
+fn explain_check_read<R, A>(
+    rt: &R,
+    alloc: A,
+    is_json: bool,
+    question: &NamedText<'_>,
+    certificate: &NamedText<'_>,
+    logs: &[NamedFile<A>],
+) -> Result<Reply<A>, OutOfMemory>
+where
+    R: Threads + Wait + Clock + Sync,
+    A: Allocator + Clone + Send + Sync,
+    ensures { IfOk result
+        (ExplainsCheckOf A is_json question.now certificate.now (names_in logs.now) (texts_in logs.now)) }
+{
+    let logs = named_texts(alloc.clone()?, logs)?;
+    let judged = judge_texts(rt, alloc.clone()?, &logs)?;
+    let files = AskedFiles {
+        logs: &logs,
+        question,
+    };
+    let view = explain_certified(rt, alloc.clone()?, files, certificate, &judged)?;
+    tell_view(alloc, is_json, &view)
+}
+
+/// Judges the logs of a source with a question and a certificate, and says why the answer is as it is.
+pub(crate) fn explain_check_files<'a, R, A, F>(
+    rt: &R,
+    alloc: A,
+    is_json: bool,
+    question: &'a str,
+    certificate: &'a str,
+    source: &LogSource<'a>,
+    shelf: &F,
+) -> Result<Reply<A>, ProgramFault<'a>>
+where
+    R: Threads + Wait + Clock + Sync,
+    A: Allocator + Clone + Send + Sync,
+    F: TextSource,
+    ensures { MatchResult result
+        (OfFiles F.reads None (Some question.entry) (Some certificate.entry) source.now shelf.now
+        (ExplainsCheckIn A is_json question.now certificate.now))
+        (IsUnread F.reads None (Some question.entry) (Some certificate.entry) source.now shelf.now) }
+{
+    let inputs = Inputs {
+        question: Some(question),
+        certificate: Some(certificate),
+        logs: source,
+        made: None,
+    };
+    let GivenTexts { first, logs } = read_given_texts(&alloc, inputs, shelf)?;
+    let question = NamedText {
+        name: question,
+        text: first.question.bytes(),
+    };
+    let certificate = NamedText {
+        name: certificate,
+        text: first.certificate.bytes(),
+    };
+    Ok(explain_check_read(rt, alloc, is_json, &question, &certificate, &logs)?)
 }

@@ -1,35 +1,33 @@
-ghost use Rattle.std.specs.Prelude.{◌≡◌, ◌≤◌, ◌+◌, map};
+ghost use Rattle.std.specs.Prelude.{◌≡◌, ◌≤◌, ◌+◌, MatchResult, map};
 ghost use Rattle.ira_event.specs.Sink.{SinkState};
+ghost use Rattle.ira_commands.specs.Pairs.{AsksPairs};
 ghost use Rattle.ira_main_files.specs.Shelf.{writing_by};
-ghost use Rattle.ira_main.specs.Outcome.{Outcome, Reports, ReportsAs, ReportsOutcome, outcome_number};
+ghost use Rattle.ira_main.specs.Given.{IsNoMemory};
+ghost use Rattle.ira_main.specs.Outcome.{Outcome, ReportsOutcome, outcome_number};
 ghost use Rattle.ira_main.specs.Progress.{ServesOrLeaves};
 ghost use Rattle.ira_main.specs.Unread.{TellsUnread, wants_json};
-ghost use Rattle.ira_main.specs.Serve.{OneLogOutcome, JudgesCheck, JudgesLogs, Serves};
+ghost use Rattle.ira_main.specs.Serve.{Serves};
 
 use crate::decide_files::decide_files;
+use crate::delivery::{deliver, deliver_and_keep, record_and_deliver};
 use crate::draw_files::draw_files;
-use crate::explain_files::{explain_files, explain_input};
-use crate::explain_question::{explain_check_files, explain_question_files};
-use crate::input_audit::audit_input;
+use crate::explain_files::{
+    explain_check_files, explain_files, explain_input, explain_question_files,
+};
 use crate::judge_each::judge_each;
+use crate::judge_files::{check_files, judge_files, judge_input};
 use crate::mend_files::mend_files;
-use crate::print_pairs::print_pairs;
 use crate::program_fault::{ProgramFault, report_outcome};
 use crate::progress::Progress;
-use crate::read_files::{read_file, read_logs};
 use crate::record_run::{record_run_alone, record_run_on_threads};
-use crate::report::{report, report_as};
 use crate::show_files::show_files;
-use crate::source_names::source_names;
 use crate::tell_unread::tell_unread;
 use crate::upgrade_files::upgrade_files;
 use crate::version::print_version;
+use ira_commands::{Reply, ask_pairs};
 use ira_event::{MAX_TEXT, Sink};
-use ira_links::OpenGate;
-use ira_main_cli::{
-    CheckRequest, ExplainRequest, ExplainedAnswer, LogsRequest, Request, read_words,
-};
-use ira_main_files::{CountingReader, FileName, Shelf};
+use ira_main_cli::{ExplainRequest, ExplainedAnswer, Request, read_words};
+use ira_main_files::{CountingReader, Shelf};
 use ira_view::Status;
 use std::alloc::Allocator;
 use std::io::Read;
@@ -37,69 +35,11 @@ use std::sync::Wait;
 use std::thread::Threads;
 use std::time::Clock;
 
-// Judges the log on the input.
-fn judge_input<'a, A: Allocator, I: Read, W: Sink>(
-    alloc: A,
-    input: &mut CountingReader<I>,
-    out: &mut W,
-) -> Result<Status, ProgramFault<'a>>
-    ensures judged { OneLogOutcome (λ _. Reports) input.old input.new (W.state out.old) (W.state out.new) result }
-    ensures reads { input.new.reads ≤ input.old.reads + (MAX_TEXT + 1) }
+// The question whether two nodes of a ring of so many ever lead at once.
+fn pairs<'a, A: Allocator + Clone>(alloc: A, nodes: u64) -> Result<Reply<A>, ProgramFault<'a>>
+    ensures { MatchResult result (AsksPairs nodes) IsNoMemory }
 {
-    match audit_input(alloc, input) {
-        Ok(answer) => report(&answer, out),
-        Err(fault) => Err(ProgramFault::cannot_read(FileName::Given("-"), fault)),
-    }
-}
-
-// Judges the logs of this source together. Each file is read before an answer is given.
-fn judge_files<'a, R, A, F, W>(
-    rt: &R,
-    alloc: A,
-    asked: &LogsRequest<'a>,
-    shelf: &F,
-    out: &mut W,
-) -> Result<Status, ProgramFault<'a>>
-where
-    R: Threads + Sync,
-    A: Allocator + Clone + Send + Sync,
-    F: Shelf + Sync,
-    W: Sink,
-    ensures { JudgesLogs (λ _ _. ReportsAs asked.now.is_json) F.reads asked.now.logs shelf.now
-        (W.state out.old) (W.state out.new) result }
-{
-    let names = source_names(&alloc, &asked.logs, shelf)?;
-    let audit = read_logs(rt, alloc.clone()?, &names, shelf)?;
-    let answer = audit.judge_on_threads(rt)?.answer();
-    report_as(alloc, asked.is_json, &answer, out)
-}
-
-// Judges the logs with the question and the certificate in the files that are named. The files are read in this order,
-// all before an answer is given: question, certificate, logs.
-fn check_files<'a, R, A, F, W>(
-    rt: &R,
-    alloc: A,
-    check: &CheckRequest<'a>,
-    shelf: &F,
-    out: &mut W,
-) -> Result<Status, ProgramFault<'a>>
-where
-    R: Threads + Wait + Clock + Sync,
-    A: Allocator + Clone + Send + Sync,
-    F: Shelf + Sync,
-    W: Sink,
-    requires depth { check.now.depth ≤ 4 }
-    ensures { JudgesCheck (λ _ _ _ _. ReportsAs check.now.is_json) F.reads check.now.question.now
-        check.now.certificate.now check.now.logs shelf.now (W.state out.old) (W.state out.new) result }
-{
-    let names = source_names(&alloc, &check.logs, shelf)?;
-    let question = read_file(&alloc, FileName::Given(check.question), shelf)?;
-    let certificate = read_file(&alloc, FileName::Given(check.certificate), shelf)?;
-    let audit = read_logs(rt, alloc.clone()?, &names, shelf)?;
-    let (question, certificate) = (question.bytes(), certificate.bytes());
-    let judged = audit.judge_on_threads(rt)?;
-    let answer = judged.check(rt, question, certificate, check.depth, &OpenGate)?;
-    report_as(alloc, check.is_json, &answer, out)
+    Ok(ask_pairs(alloc, nodes)?)
 }
 
 /// Does what the words ask for, unless that waits: it leaves a check, the evidence of one, and a run with a thread for
@@ -128,17 +68,22 @@ where
         Err(fault) => return Progress::Ended(Err(fault.into())),
     };
     match request {
-        Request::OneLog => Progress::Ended(judge_input(alloc, input, out)),
-        Request::Logs(logs) => Progress::Ended(judge_files(rt, alloc, &logs, shelf, out)),
+        Request::OneLog => Progress::Ended(deliver(judge_input(alloc, input), out)),
+        Request::Logs(logs) => {
+            Progress::Ended(deliver(judge_files(rt, alloc, &logs, shelf), out))
+        }
         Request::Each(each) => Progress::Ended(judge_each(rt, alloc, &each, shelf, out)),
         Request::Explain(ExplainRequest { answer, is_json }) => match answer {
-            ExplainedAnswer::OneLog => Progress::Ended(explain_input(alloc, is_json, input, out)),
-            ExplainedAnswer::Logs(logs) => {
-                Progress::Ended(explain_files(rt, alloc, is_json, &logs, shelf, out))
+            ExplainedAnswer::OneLog => {
+                Progress::Ended(deliver(explain_input(alloc, is_json, input), out))
             }
-            ExplainedAnswer::Findings { asked, logs } => Progress::Ended(explain_question_files(
-                rt, alloc, is_json, asked, &logs, shelf, out,
-            )),
+            ExplainedAnswer::Logs(logs) => {
+                Progress::Ended(deliver(explain_files(rt, alloc, is_json, &logs, shelf), out))
+            }
+            ExplainedAnswer::Findings { asked, logs } => {
+                let reply = explain_question_files(rt, alloc, is_json, asked, &logs, shelf);
+                Progress::Ended(deliver(reply, out))
+            }
             ExplainedAnswer::Certificate {
                 question,
                 certificate,
@@ -151,21 +96,32 @@ where
             },
         },
         Request::Show(show) => Progress::Ended(show_files(rt, alloc, &show, shelf, out)),
-        Request::Draw(draw) => Progress::Ended(draw_files(rt, alloc, &draw, shelf, out)),
+        Request::Draw(draw) => {
+            let reply = draw_files(rt, alloc, &draw, shelf);
+            Progress::Ended(deliver_and_keep(reply, Some(draw.picture), shelf, out))
+        }
         Request::Check(check) => Progress::Check(check),
-        Request::Decide(decide) => Progress::Ended(decide_files(rt, alloc, &decide, shelf, out)),
-        Request::Pairs(nodes) => Progress::Ended(print_pairs(alloc, nodes, out)),
+        Request::Decide(decide) => {
+            let reply = decide_files(rt, alloc, &decide, shelf);
+            Progress::Ended(deliver_and_keep(reply, decide.certificate, shelf, out))
+        }
+        Request::Pairs(nodes) => Progress::Ended(deliver(pairs(alloc, nodes), out)),
         Request::Run(ring) => {
             if ring.is_alone {
-                Progress::Ended(record_run_alone(alloc, &ring, shelf, out))
+                let reply = record_run_alone(&alloc, &ring);
+                Progress::Ended(record_and_deliver(&alloc, reply, ring.folder, shelf, out))
             } else {
                 Progress::Run(ring)
             }
         }
-        Request::Upgrade(upgrade) => Progress::Ended(upgrade_files(
-            rt, alloc, &upgrade, shelf, out,
-        )),
-        Request::Mend(mend) => Progress::Ended(mend_files(alloc, &mend, shelf, out)),
+        Request::Upgrade(upgrade) => {
+            let reply = upgrade_files(rt, &alloc, &upgrade, shelf);
+            Progress::Ended(record_and_deliver(&alloc, reply, upgrade.folder, shelf, out))
+        }
+        Request::Mend(mend) => {
+            let reply = mend_files(&alloc, &mend, shelf);
+            Progress::Ended(record_and_deliver(&alloc, reply, mend.folder, shelf, out))
+        }
         Request::Version => Progress::Ended(print_version(out)),
     }
 }
@@ -193,23 +149,28 @@ where
     let waiting = alloc.clone()?;
     match serve_without_wait(rt, alloc.clone()?, words, input, shelf, out) {
         Progress::Ended(outcome) => outcome,
-        Progress::Check(check) => check_files(rt, waiting, &check, shelf, out),
+        Progress::Check(check) => deliver(check_files(rt, waiting, &check, shelf), out),
         Progress::ExplainCheck {
             is_json,
             question,
             certificate,
             logs,
-        } => explain_check_files(
-            rt,
-            waiting,
-            is_json,
-            question,
-            certificate,
-            &logs,
-            shelf,
-            out,
-        ),
-        Progress::Run(ring) => record_run_on_threads(rt, waiting, &ring, shelf, out),
+        } => {
+            let reply = explain_check_files(
+                rt,
+                waiting,
+                is_json,
+                question,
+                certificate,
+                &logs,
+                shelf,
+            );
+            deliver(reply, out)
+        }
+        Progress::Run(ring) => {
+            let reply = record_run_on_threads(rt, &waiting, &ring);
+            record_and_deliver(&waiting, reply, ring.folder, shelf, out)
+        }
     }
 }
 

@@ -3,18 +3,16 @@ ghost use Rattle.std.specs.List.{flat_map};
 ghost use Rattle.ira_event.specs.Sink.{Wrote};
 ghost use Rattle.ira_main_files.specs.FileName.{slash_after};
 ghost use Rattle.ira_view_page.specs.Printable.{shown};
-ghost use Rattle.ira_main.specs.ProgramFault.{draw_fault, printed_name, program_fault_text, unread_text, read_fault, write_fault, write_log_fault};
+ghost use Rattle.ira_main.specs.ProgramFault.{printed_name, program_fault_text, unread_text, read_fault, write_fault, write_log_fault};
 ghost use Rattle.ira_main.specs.Outcome.{ReportsOutcome, outcome_number};
 ghost use Rattle.ira_main.specs.ProgramFault.{program_fault_status};
 
 use crate::shown_name::write_shown;
+use ira_commands::CommandFault;
 use ira_event::{Line, OutOfMemory, Sink, WriteFault, write_bytes};
 use ira_main_cli::WordsFault;
 use ira_main_files::{FileName, ShelfFault, slash_after};
-use ira_ring::RunFault;
-use ira_view::{Status, refused_run, too_many_events, write_cut_fault};
-use ira_view_moment::CutFault;
-use ira_view_picture::DrawFault;
+use ira_view::Status;
 use std::alloc::{AllocError, AllocFailed};
 
 /// Why the program ends with neither yes nor no.
@@ -28,24 +26,14 @@ pub enum ProgramFault<'a> {
     CannotRead(FileName<'a>),
     /// These files can't be read, each of a folder whose logs were to be judged.
     CannotReadSome(Vec<FileName<'a>>),
-    /// A ring of so many nodes is none.
-    RingSize,
-    /// The numbers of events that are asked for are no consistent cut of the logs.
-    NoMoment(CutFault),
-    /// A node that is to lead is none of the ring.
-    NoPlace,
-    /// So many events have the columns that are asked for, and these are too many for one picture.
-    TooManyEvents(u32),
-    /// The run was refused, or came to nothing.
-    RunRefused(RunFault),
+    /// What is asked for is refused.
+    Refused(CommandFault),
     /// The log of the node at this place can't be written to its file in this folder.
     CannotWriteLog(&'a str, u8),
     /// A new file would be written over the one of this name, which is one of the input.
     WouldOverwrite(FileName<'a>),
     /// A certificate or a picture can't be written to the file of this name.
     CannotWrite(&'a str),
-    /// The text of the certificate couldn't be read back.
-    CertificatePastLimits,
     CannotWriteAnswer,
     OutOfMemory,
 }
@@ -87,16 +75,6 @@ impl<'a> ProgramFault<'a> {
         }
     }
 
-    /// There is no picture.
-    pub(crate) fn undrawn(fault: DrawFault) -> ProgramFault<'a>
-        ensures { result ≡ draw_fault fault }
-    {
-        match fault {
-            DrawFault::TooManyEvents { events } => ProgramFault::TooManyEvents(events),
-            DrawFault::OutOfMemory => ProgramFault::OutOfMemory,
-        }
-    }
-
     /// The status that the program ends with.
     fn status(&self) -> Status
         ensures { result ≡ program_fault_status self.now }
@@ -116,13 +94,7 @@ impl<'a> ProgramFault<'a> {
             ProgramFault::WordIsNoText => write_bytes(b"ira: a word is not UTF-8\n", err),
             ProgramFault::CannotRead(name) => write_file_named(b"ira: cannot read ", *name, err),
             ProgramFault::CannotReadSome(names) => write_unread(names, err),
-            ProgramFault::RingSize => write_bytes(b"ira: ring size\n", err),
-            ProgramFault::NoMoment(fault) => write_cut_fault(*fault, err),
-            ProgramFault::NoPlace => {
-                write_bytes(b"ira: --leads names a node that the ring has not\n", err)
-            }
-            ProgramFault::TooManyEvents(events) => too_many_events(*events).write(err),
-            ProgramFault::RunRefused(fault) => refused_run(*fault).write(err),
+            ProgramFault::Refused(fault) => fault.write(err),
             ProgramFault::CannotWriteLog(folder, place) => {
                 write_file_named(b"ira: cannot write ", FileName::Log(folder, *place), err)
             }
@@ -131,9 +103,6 @@ impl<'a> ProgramFault<'a> {
             }
             ProgramFault::CannotWrite(name) => {
                 write_named(b"ira: cannot write ", name, &line_feed(), err)
-            }
-            ProgramFault::CertificatePastLimits => {
-                write_bytes(b"ira: certificate past the limits\n", err)
             }
             ProgramFault::CannotWriteAnswer => write_bytes(b"ira: cannot write the answer\n", err),
             ProgramFault::OutOfMemory => write_bytes(b"ira: out of memory\n", err),
@@ -247,20 +216,6 @@ impl<'a, T: Drop> From<AllocFailed<T>> for ProgramFault<'a> {
 
     fn from(_refused: AllocFailed<T>) -> ProgramFault<'a> {
         ProgramFault::OutOfMemory
-    }
-}
-
-impl<'a> From<RunFault> for ProgramFault<'a> {
-    ghost use Rattle.std.specs.Prelude.{◌≡◌};
-    ghost use Rattle.ira_main.specs.ProgramFault.{run_fault};
-
-    ghost from_gives = { λ f c. c ≡ run_fault f };
-
-    fn from(fault: RunFault) -> ProgramFault<'a> {
-        match fault {
-            RunFault::OutOfMemory => ProgramFault::OutOfMemory,
-            refused => ProgramFault::RunRefused(refused),
-        }
     }
 }
 

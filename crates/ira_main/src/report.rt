@@ -1,37 +1,23 @@
 ghost use Rattle.std.specs.Prelude.{◌≡◌, ◌⊎◌, Err};
 ghost use Rattle.ira_audit.specs.Report.{IsReportable};
-ghost use Rattle.ira_main.specs.Outcome.{Reports, ReportsAs, written_outcome};
+ghost use Rattle.ira_main.specs.Outcome.{ReportsAs, written_outcome};
 ghost use Rattle.ira_main.specs.declared.program_fault.ProgramFault.TheVariants.{OutOfMemory};
 
 use crate::program_fault::ProgramFault;
-use ira_audit::{Answer, write_report};
-use ira_event::{Sink, WriteFault};
+use ira_audit::Answer;
+use ira_event::Sink;
 use ira_view::{Status, write_answer_as};
 use ira_view_page::ShowFault;
 use std::alloc::Allocator;
 
 /// What comes of a text that goes with this status, and was written or not.
-pub(crate) fn written<'a>(
-    wrote: Result<(), ShowFault>,
-    status: Status,
-) -> Result<Status, ProgramFault<'a>>
+fn written<'a>(wrote: Result<(), ShowFault>, status: Status) -> Result<Status, ProgramFault<'a>>
     ensures { result ≡ written_outcome wrote status }
 {
     match wrote {
         Ok(()) => Ok(status),
         Err(ShowFault::Write) => Err(ProgramFault::CannotWriteAnswer),
         Err(ShowFault::OutOfMemory) => Err(ProgramFault::OutOfMemory),
-    }
-}
-
-/// Writes the answer's line, and gives the answer's status.
-pub(crate) fn report<'a, W: Sink>(answer: &Answer, out: &mut W) -> Result<Status, ProgramFault<'a>>
-    requires { IsReportable answer.now }
-    ensures { Reports answer.now (W.state out.old) (W.state out.new) result }
-{
-    match write_report(answer, out) {
-        Ok(()) => Ok(Status::of_answer(answer)),
-        Err(WriteFault) => Err(ProgramFault::CannotWriteAnswer),
     }
 }
 

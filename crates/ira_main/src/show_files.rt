@@ -1,9 +1,10 @@
 ghost use Rattle.std.specs.Prelude.{◌≡◌, ◌⊎◌, ℕ, Err, List, MatchResult, length, option_map};
 ghost use Rattle.ira_audit.specs.GoodLogs.{AreGoodLogs};
+ghost use Rattle.ira_commands.specs.declared.command_fault.CommandFault.TheVariants.{NoPlace};
 ghost use Rattle.ira_main.specs.FilesRead.{IsFilesFault, ReadsFiles};
 ghost use Rattle.ira_main.specs.Show.{AreAskedDifferences, AreNoPlaces, IsAskedRing, IsNoAskedRing, ShowsLogs, TellsRing};
 ghost use Rattle.ira_main.specs.Show.{moment_names, moment_texts, named_places};
-ghost use Rattle.ira_main.specs.declared.program_fault.ProgramFault.TheVariants.{NoPlace, OutOfMemory};
+ghost use Rattle.ira_main.specs.declared.program_fault.ProgramFault.TheVariants.{OutOfMemory, Refused};
 
 use crate::program_fault::ProgramFault;
 use crate::read_files::{read_file, read_logs};
@@ -11,6 +12,7 @@ use crate::report::report_as;
 use crate::ring_printer::print_ring;
 use crate::source_names::source_names;
 use ira_audit::{Answer, GoodLogs};
+use ira_commands::CommandFault;
 use ira_event::Sink;
 use ira_main_cli::{AskedLeaders, AskedMoment, ShowRequest};
 use ira_main_files::{FileName, TextBuffer, TextSource};
@@ -72,7 +74,7 @@ fn asked_differences<'a, A: Allocator + Clone>(
     leads: &Option<AskedLeaders>,
 ) -> Result<PageText<A>, ProgramFault<'a>>
     ensures { MatchResult result (AreAskedDifferences logs.now leads.now)
-        (λ f. ((f ≡ NoPlace) × AreNoPlaces logs.now leads.now) ⊎ (f ≡ OutOfMemory)) }
+        (λ f. ((f ≡ Refused NoPlace) × AreNoPlaces logs.now leads.now) ⊎ (f ≡ OutOfMemory)) }
 {
     let Some(leads) = leads else {
         return Ok(Page::new(alloc).finish()?);
@@ -81,7 +83,7 @@ fn asked_differences<'a, A: Allocator + Clone>(
         AskedLeaders::Any => Ok(missing_leader(alloc, logs)?),
         AskedLeaders::Places(places) => match differences(alloc, logs, places)? {
             Some(differences) => Ok(differences),
-            None => Err(ProgramFault::NoPlace),
+            None => Err(ProgramFault::Refused(CommandFault::NoPlace)),
         },
     }
 }
@@ -104,7 +106,7 @@ fn show_good<'a, A: Allocator + Clone, W: Sink>(
     match ring_at(alloc.clone()?, logs, &show.moment, question) {
         Ok(ring) => print_ring(alloc, &ring, &differences, names, show, out),
         Err(RingFault::No(reason)) => report_as(alloc, show.is_json, &Answer::No(reason), out),
-        Err(RingFault::Cut(fault)) => Err(ProgramFault::NoMoment(fault)),
+        Err(RingFault::Cut(fault)) => Err(ProgramFault::Refused(CommandFault::NoMoment(fault))),
         Err(RingFault::OutOfMemory) => Err(ProgramFault::OutOfMemory),
     }
 }

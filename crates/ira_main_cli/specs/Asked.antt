@@ -1,5 +1,5 @@
 -- What words ask for, by the options and names that are given after a command.
-use Rattle.std.specs.Prelude.{ℕ, Bool, List, None, Option, Some, [], codes, false, is_some, map, option_map, true}
+use Rattle.std.specs.Prelude.{ℕ, All, Bool, List, None, Option, Some, [], codes, false, is_some, map, option_map, true}
 use Rattle.std.specs.Prelude.{◌≡◌, ◌≢◌, ◌≤◌, ◌⊎◌}
 use Rattle.std.specs.Borrow.{Bor}
 use Rattle.clap.specs.Takes.{is_given}
@@ -128,10 +128,11 @@ pub record HasLogsToJudge (rows : List Row) (request : LogsRequest) : Type 0 whe
   pub together : is_given (codes "each") rows ≡ false
   pub logs : HasLogs rows request.logs
 
--- the names are those of the folders, of which there is at least one
+-- the names are those of the folders, of which there is at least one, and none is empty
 pub record HasFolders (rows : List Row) (folders : List (Bor Text)) : Type 0 where
   pub names : all_of (codes "LOG") rows ≡ Some (map (λ name. name.now) folders)
   pub some : folders ≢ []
+  pub named : All (λ folder. folder.now ≢ []) folders
   pub folder : IsLeftOut (codes "dir") rows
 
 -- the same where `--each` is given
@@ -140,9 +141,12 @@ pub record HasFoldersToJudge (rows : List Row) (request : EachRequest) : Type 0 
   pub each : is_given (codes "each") rows ≡ true
   pub folders : HasFolders rows request.folders.items
 
--- names are given, and no folder of one ring's logs
-abbrev pub NamesFolders : List Row → Type 0
-NamesFolders rows = IsLeftOut (codes "dir") rows × (is_some (all_of (codes "LOG") rows) ≡ true)
+-- names are given, none of which is empty, and no folder of one ring's logs
+pub record NamesFolders (rows : List Row) : Type 0 where
+  pub folder : IsLeftOut (codes "dir") rows
+  pub names : List Text
+  pub given : all_of (codes "LOG") rows ≡ Some names
+  pub named : All (λ name. name ≢ []) names
 
 -- where each folder is to be judged folders are named, and else logs
 pub record NamesLogsToJudge (rows : List Row) : Type 0 where

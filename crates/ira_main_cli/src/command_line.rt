@@ -339,6 +339,7 @@ fn folders<'a>(alloc: Global, matches: &ArgMatches<'a>) -> Result<Vec<&'a str>, 
     match text(matches, "dir") {
         None => match names(matches, "LOG") {
             None => Err(OptionsFault::Folders),
+            Some(names) if names.contains(&"") => Err(OptionsFault::EmptyFolder),
             Some(names) => Ok(names.to_vec(alloc)?),
         },
         Some(_) => Err(OptionsFault::Folders),
@@ -642,14 +643,44 @@ fn request_of_words<'a>(alloc: Global, words: &'a [&'a str]) -> Result<Request<'
     }
 }
 
-// The text of a refusal.
-fn refusal(alloc: Global, refused: &Error) -> WordsFault
+/// The word with each byte that isn't printable as pages show it.
+fn shown_word(alloc: Global, word: &str) -> Result<String, AllocError> {
+    let mut shown = String::new(alloc);
+    for byte in word.bytes() {
+        match byte {
+            b' '..=b'~' => shown.push(char::from(byte))?,
+            b'\t' => shown.push_str("\\t")?,
+            b'\r' => shown.push_str("\\r")?,
+            _ => write!(shown, "\\x{byte:02x}")?,
+        }
+    }
+    Ok(shown)
+}
+
+/// The text of a refusal of these words. They are named there as pages show them, so that no word makes a line of its own.
+fn refusal_text(alloc: Global, words: &[&str], refused: &Error) -> Result<String, AllocError> {
+    let shown = words
+        .iter()
+        .map(|word| shown_word(alloc, word))
+        .try_collect::<Vec<String>>(alloc)?;
+    let shown = shown
+        .iter()
+        .map(|word| word.as_str())
+        .collect::<Vec<&str>>(alloc)?;
+    match request_of_words(alloc, &shown) {
+        Ok(_) => refused.to_string(alloc),
+        Err(refused) => refused.to_string(alloc),
+    }
+}
+
+/// The refusal of these words.
+fn refusal(alloc: Global, words: &[&str], refused: &Error) -> WordsFault
     ensures { kind_of refused.now ≡ kind.OutOfMemory → result ≡ fault.OutOfMemory }
 {
     if refused.kind() == ErrorKind::OutOfMemory {
         return WordsFault::OutOfMemory;
     }
-    match refused.to_string(alloc) {
+    match refusal_text(alloc, words, refused) {
         Ok(text) => WordsFault::Refused(text),
         Err(AllocError) => WordsFault::OutOfMemory,
     }
@@ -680,6 +711,6 @@ pub fn read_words<'a>(alloc: Global, words: &'a [&'a str]) -> Result<Request<'a>
     }
     match request_of_words(alloc, words) {
         Ok(request) => Ok(request),
-        Err(refused) => Err(refusal(alloc, &refused)),
+        Err(refused) => Err(refusal(alloc, words, &refused)),
     }
 }

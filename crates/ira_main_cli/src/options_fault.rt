@@ -11,6 +11,8 @@ pub enum OptionsFault {
     Sources,
     /// Folders are to be judged each, and none are named, or one as that of a ring's logs.
     Folders,
+    /// One of the folders to be judged each has an empty name.
+    EmptyFolder,
     /// A case is named, and no question.
     CaseWithoutQuestion,
     /// A certificate is named, and no question.
@@ -41,7 +43,9 @@ impl OptionsFault {
             OptionsFault::CaseWithoutQuestion | OptionsFault::CertificateWithoutQuestion => {
                 ErrorKind::MissingRequiredArgument
             }
-            OptionsFault::NoNumbers | OptionsFault::Start => ErrorKind::ValueValidation,
+            OptionsFault::EmptyFolder | OptionsFault::NoNumbers | OptionsFault::Start => {
+                ErrorKind::ValueValidation
+            }
             OptionsFault::OutOfMemory => ErrorKind::OutOfMemory,
         }
     }
@@ -50,6 +54,7 @@ impl OptionsFault {
         match self {
             OptionsFault::Sources => "the logs are named either by <LOG>... or by --dir <DIR>",
             OptionsFault::Folders => "--each takes the names of folders alone: --each <DIR>...",
+            OptionsFault::EmptyFolder => "--each takes names of folders, and none is empty",
             OptionsFault::CaseWithoutQuestion => "--case <K> needs --question <Q>",
             OptionsFault::CertificateWithoutQuestion => "--cert <C> needs --question <Q>",
             OptionsFault::CaseAndCertificate => "--case <K> and --cert <C> exclude one another",

@@ -78,11 +78,12 @@ pub(crate) fn judge_range<C: HappenedBefore, A: Allocator>(
     ensures fault { (case : List Conjunct) → HasDifferentPlaces case → AreTables (C.logs_of ordered.now) case tables.now
         → IsRangeFault (C.logs_of ordered.now) case steps.now from to result }
 {
+    let mut last = None;
     for k in from..to {
         let step = &steps[k];
         let own = queue_head_at(tables, counts, step.node);
         let other = queue_head_at(tables, counts, step.other);
-        if let Err(why) = judge_step(ordered, step, own, other) {
+        if let Err(why) = judge_step(ordered, step, own, other, &mut last) {
             return Some(SectionFault::Step(k, why));
         }
         counts[usize::from(step.node)] += 1;

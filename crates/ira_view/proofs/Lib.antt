@@ -3,6 +3,7 @@ pub mod Htmls
 pub mod LogLines
 pub mod Moments
 pub mod Pairs
+pub mod Pictures
 pub mod Statuses
 pub mod Texts
 pub mod Written

@@ -6,7 +6,6 @@ use Rattle.std.specs.Option.{option_map}
 use Rattle.std.proofs.lemmas.List.{map-append}
 use Rattle.std.proofs.lemmas.Option.{slice_get-get_or, slice_get-map}
 use Rattle.ira_event.specs.Log.{Log}
-use Rattle.ira_view_page.specs.declared.named_text.NamedText.{NamedText}
 use Rattle.ira_view_json.proofs.LineTexts.{lines_append, one_line}
 use Rattle.ira_view_json.specs.Line.{AreLinesOf, IsLineOf}
 use Rattle.ira_view_json.specs.LogValue.{log_value}
@@ -15,10 +14,9 @@ use Rattle.ira_audit.proofs.LogTexts.{next_taken}
 use Rattle.ira_view.specs.Html.{AreLogLines}
 
 -- the name at an index
-pub name_at : (files : List NamedText) (i k : ℕ) (d : NamedText) → k ≡ i → i < length files
-    → slice_get (map (λ file. file.name.now) files) i ≡ Some (get_or files k d).name.now
-name_at files i k d same within =
-    let name : NamedText → List ℕ = λ file. file.name.now in
+pub name_at : {F : Type 0} (name : F → List ℕ) (files : List F) (i k : ℕ) (d : F) → k ≡ i → i < length files
+    → slice_get (map name files) i ≡ Some (name (get_or files k d))
+name_at name files i k d same within =
     subst (λ j. slice_get (map name files) i ≡ Some (name (get_or files j d))) (sym same)
     (slice_get-map name files i ∙ ap (option_map name) (slice_get-get_or files i d within))
 

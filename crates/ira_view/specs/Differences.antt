@@ -2,7 +2,9 @@
 use Rattle.std.specs.Prelude.{◌≡◌, ◌<◌, ◌↔◌, ℕ, List, [], Contains, length}
 use Rattle.ira_event.specs.Log.{Log}
 use Rattle.ira_view_moment.specs.Moment.{AreLeaders, IsMoment, Moment, whole_cut}
-use Rattle.ira_view_show.specs.Leaders.{SomeNodeLeads, differences_text, missing_text}
+use Rattle.ira_view_election.specs.ElectionAt.{SomeNodeLeads, StandsAt}
+use Rattle.ira_view_election.specs.Election.{Standing, over, unfinished_text}
+use Rattle.ira_view_show.specs.Leaders.{differences_text, missing_text}
 use Rattle.ira_view_show.specs.Summary.{leader_from}
 
 -- each node that is to lead is one of the ring
@@ -22,3 +24,10 @@ pub record TellsOfLeader (logs : List Log) (differences : List ℕ) : Type 0 whe
   pub is_end : IsMoment logs (whole_cut logs) moment
   pub text : differences ≡ missing_text (leader_from 0 moment.nodes)
   pub none : (differences ≡ []) ↔ SomeNodeLeads moment
+
+-- the lines on an election that isn't over when the logs end: none exactly where it is over then
+pub record TellsUnfinished (logs : List Log) (lines : List ℕ) : Type 0 where
+  pub standing : Standing
+  pub stands : StandsAt logs (whole_cut logs) standing
+  pub text : lines ≡ unfinished_text standing
+  pub none : (lines ≡ []) ↔ (standing ≡ over)

@@ -1,5 +1,6 @@
 -- What is told of texts beside their answer.
-use Rattle.std.specs.Prelude.{◌≡◌, ℕ, List, [], ◌∷◌, None, Option, Some, length}
+use Rattle.std.specs.Prelude.{◌≡◌, ℕ, List, [], ◌∷◌, ◌++◌, None, Option, Some, codes, length, ⊤}
+use Rattle.ira_event.specs.Log.{Log}
 use Rattle.ira_cert_text.specs.Certificate.{Certificate, Section}
 use Rattle.ira_cert_text.specs.CertText.{IsCertText}
 use Rattle.ira_audit.specs.AskedQuestion.{AskedQuestion}
@@ -12,13 +13,17 @@ use Rattle.ira_audit.specs.declared.answer.Answer.TheVariants.{No, Yes}
 use Rattle.ira_audit.specs.declared.findings.Findings.{Findings}
 use Rattle.ira_audit.specs.declared.findings.Findings.TheVariants.{Refused}
 use Rattle.ira_audit.specs.declared.judged.Judged.{Judged}
-use Rattle.ira_audit.specs.declared.judged.Judged.TheVariants.{Good}
+use Rattle.ira_audit.specs.declared.judged.Judged.TheVariants.{Good, NoRing}
+use Rattle.ira_audit.specs.declared.judged.Judged.TheVariants.{Refused as JudgedRefused}
 use Rattle.ira_audit.specs.declared.reason.Reason.{Reason}
 use Rattle.ira_audit.specs.declared.reason.Reason.TheVariants.{Question, QuestionSize}
 use Rattle.ira_view_page.specs.declared.explanation.Explanation.{Explanation}
 use Rattle.ira_view_page.specs.declared.named_text.NamedText.{NamedText}
 use Rattle.ira_view_page.specs.Counts.{counts}
 use Rattle.ira_view_explain.specs.Counts.{ring_of}
+use Rattle.ira_view_election.specs.Election.{Standing, standing_text}
+use Rattle.ira_view_election.specs.ElectionAt.{StandsAt}
+use Rattle.ira_view_moment.specs.Moment.{whole_cut}
 use Rattle.ira_view_explain.specs.LogTold.{IsLogTold}
 use Rattle.ira_view_explain.specs.Refused.{IsTold}
 use Rattle.ira_view_explain_question.specs.declared.asked_files.AskedFiles.{AskedFiles}
@@ -32,11 +37,26 @@ pub record IsLogExplanation {A : Type 0} (file : NamedText) (answer : Answer) (e
   pub ring : explanation.ring ≡ None
   pub told : IsLogTold file answer explanation.state_before explanation.evidence.items
 
--- of texts that were judged: how many nodes and events there are, and the evidence for the answer
+-- a page ends with how the election stands when the logs end, below an empty line
+pub record EndsWithElection (logs : List Log) (page : List ℕ) : Type 0 where
+  pub standing : Standing
+  pub stands : StandsAt logs (whole_cut logs) standing
+  pub above : List ℕ
+  pub text : page ≡ above ++ codes "\n" ++ standing_text standing
+
+-- of good logs the page does
+abbrev pub TellsElection : {A : Type 0} → Judged A → List ℕ → Type 0
+TellsElection (Good logs) page = EndsWithElection logs page
+TellsElection (JudgedRefused refused) page = ⊤
+TellsElection (NoRing reason) page = ⊤
+
+-- of texts that were judged: how many nodes and events there are, the evidence for the answer, and of good logs how the
+-- election stands
 pub record IsExplanation {A : Type 0} (files : List NamedText) (judged : Judged A) (explanation : Explanation A)
     : Type 0 where
   pub ring : explanation.ring ≡ ring_of judged
   pub told : IsTold files judged explanation.state_before explanation.evidence.items
+  pub election : TellsElection judged explanation.page
 
 -- it is explained why a question isn't asked of the ring of these logs: by its own text, or else by theirs
 abbrev pub IsNotAskedExplained : {A : Type 0} → AskedFiles → Judged A → Reason → Explanation A → Type 0

@@ -3,17 +3,38 @@ ghost use Rattle.ira_audit.specs.Judged.{IsJudged};
 ghost use Rattle.ira_audit.specs.LogTextAnswer.{IsLogTextAnswer};
 ghost use Rattle.ira_audit.specs.RingAnswer.{IsRingAnswer};
 ghost use Rattle.ira_audit.specs.Report.{IsReportable};
-ghost use Rattle.ira_view.specs.Explained.{IsExplanation, IsLogExplanation};
+ghost use Rattle.ira_order.specs.Matching.{Matches};
+ghost use Rattle.ira_order.specs.Run.{AreLocalRuns};
+ghost use Rattle.ira_view.specs.Explained.{EndsWithElection, IsExplanation, IsLogExplanation};
 ghost use Rattle.ira_view.specs.Texts.{texts_of};
 
 use crate::view::View;
 use ira_audit::Judged;
-use ira_event::OutOfMemory;
+use ira_event::{Logs, OutOfMemory};
+use ira_view_election::{election_at_end, print_election};
 use ira_view_explain::{explain_log, explain_logs};
-use ira_view_page::NamedText;
+use ira_view_page::{NamedText, Page, PageText};
 use std::alloc::Allocator;
 
-/// What was judged of the texts of a ring's logs, and why it is so.
+/// The page of good logs, and below it how the election stands when they end.
+fn page_with_election<A: Allocator + Clone>(
+    alloc: A,
+    page: &PageText<A>,
+    logs: &Logs<A>,
+) -> Result<PageText<A>, OutOfMemory>
+    requires matches { Matches logs.now }
+    requires local { AreLocalRuns logs.now }
+    ensures { IfOk result (EndsWithElection logs.now) }
+{
+    let election = election_at_end(alloc.clone()?, logs)?;
+    let mut whole = Page::new(alloc);
+    whole.words(page.as_str());
+    whole.blank();
+    print_election(&mut whole, &election);
+    whole.finish()
+}
+
+/// What was judged of the texts of a ring's logs, and why it is so; of good logs also how the election stands when they end.
 pub fn explain_texts<A: Allocator + Clone>(
     alloc: A,
     texts: &[NamedText<'_>],
@@ -25,7 +46,14 @@ pub fn explain_texts<A: Allocator + Clone>(
     ensures explained { IfOk result (λ view. IsExplanation texts.now judged.now view.explanation) }
 {
     let answer = judged.answer();
-    let explanation = explain_logs(alloc, texts, judged)?;
+    let mut explanation = explain_logs(alloc.clone()?, texts, judged)?;
+    match judged {
+        Judged::Good(logs) => {
+            explanation.page = page_with_election(alloc, &explanation.page, logs.logs())?;
+        }
+        Judged::Refused(_) => {}
+        Judged::NoRing(_) => {}
+    }
     Ok(View {
         answer,
         explanation,

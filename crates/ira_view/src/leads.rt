@@ -1,10 +1,11 @@
 ghost use Rattle.std.specs.Prelude.{◌≡◌, ◌≤◌, ℕ, Contains, IfOk, MatchOption};
-ghost use Rattle.ira_view.specs.Differences.{AreDifferences, ArePlaces, TellsOfLeader};
+ghost use Rattle.ira_view.specs.Differences.{AreDifferences, ArePlaces, TellsOfLeader, TellsUnfinished};
 
 use ira_audit::GoodLogs;
 use ira_event::OutOfMemory;
+use ira_view_election::{election_at_end, print_unfinished};
 use ira_view_moment::Moment;
-use ira_view_page::PageText;
+use ira_view_page::{Page, PageText};
 use ira_view_show::{leader_missing, leads_differ};
 use std::alloc::{AllocError, Allocator};
 
@@ -55,4 +56,17 @@ pub fn missing_leader<A: Allocator + Clone>(
 {
     let moment = Moment::at_end(alloc.clone()?, logs.logs())?;
     leader_missing(alloc, &moment)
+}
+
+/// Lines where the election isn't over when the logs end: that it isn't, and which nodes can go on, and with what.
+pub fn unfinished_election<A: Allocator + Clone>(
+    alloc: A,
+    logs: &GoodLogs<A>,
+) -> Result<PageText<A>, OutOfMemory>
+    ensures { IfOk result (TellsUnfinished logs.now) }
+{
+    let election = election_at_end(alloc.clone()?, logs.logs())?;
+    let mut page = Page::new(alloc);
+    print_unfinished(&mut page, &election);
+    page.finish()
 }

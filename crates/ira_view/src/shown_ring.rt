@@ -1,23 +1,29 @@
-ghost use Rattle.std.specs.Prelude.{◌≡◌, ℕ, Err, IfErr, IfOk, List, MatchResult, OnOk, Some, length, option_map};
+ghost use Rattle.std.specs.Prelude.{◌≡◌, ℕ, Err, IfErr, IfOk, List, MatchResult, None, OnOk, Some, length, option_map};
+ghost use Rattle.std.specs.Prelude.{string_bytes};
 ghost use Rattle.ira_event.specs.Sink.{Takes};
 ghost use Rattle.ira_view_moment.specs.Told.{at_end};
 ghost use Rattle.ira_view_moment.specs.Moment.{whole_cut};
 ghost use Rattle.ira_view_json.specs.ShownAnswer.{AreTold, WroteRing};
 ghost use Rattle.ira_view_picture.specs.DrawFault.{IsDrawFault};
 ghost use Rattle.ira_view_show.specs.Showed.{Showed};
+ghost use Rattle.ira_view_json.specs.PageLine.{IsYesLine};
 ghost use Rattle.ira_view_page.specs.Printable.{IsPrintable};
+ghost use Rattle.ira_view.specs.Html.{IsPictureTold};
 ghost use Rattle.ira_view.specs.ShownRing.{AreEventsOf, HasTooManyAt, IsAtCut, IsNoCut, IsNoQuestion, IsOfQuestion};
 ghost use Rattle.ira_view.specs.ShownRing.{IsPageOf, IsPictureOf};
+ghost use Rattle.ira_view.specs.Status.{status_number};
+ghost use Rattle.ira_view.specs.declared.status.Status.TheVariants.{Yes};
 
 use crate::find_moment::{asked_cut, first_moment};
 use crate::ring_fault::RingFault;
+use crate::status::Status;
 use ira_audit::GoodLogs;
-use ira_event::{OutOfMemory, Sink};
+use ira_event::{Logs, OutOfMemory, Sink};
 use ira_view_draw::draw;
-use ira_view_json::{ShownAnswer, write_ring};
+use ira_view_json::{ShownAnswer, picture_line, write_ring, yes_line};
 use ira_view_moment::ChosenMoment;
 use ira_view_page::{PageText, ShowFault};
-use ira_view_picture::{ColumnRange, DrawFault};
+use ira_view_picture::{ColumnRange, DrawFault, Picture};
 use ira_view_show::{show_events, show_moment};
 use std::alloc::Allocator;
 use std::marker::Model;
@@ -125,5 +131,40 @@ impl<A: Allocator + Clone> ShownRing<A> {
             → HasTooManyAt self.now columns.from columns.to events }
     {
         draw(alloc, self.logs.logs(), &self.moment, columns)
+    }
+
+    /// The logs.
+    pub(crate) fn logs(&self) -> &Logs<A>
+        ensures { result.now ≡ self.now.logs }
+    {
+        self.logs.logs()
+    }
+
+    /// The line of JSON of its yes, with its moment.
+    pub(crate) fn answer_line(&self, alloc: A) -> Result<String<A>, OutOfMemory>
+        ensures { IfOk result (λ line. IsYesLine self.now.logs None (status_number Yes) self.now.told self.now.cut
+            (string_bytes line)) }
+    {
+        let answer = ShownAnswer {
+            status: Status::Yes.number(),
+            named: None,
+        };
+        yes_line(alloc, self.logs.logs(), &self.moment, answer)
+    }
+
+    /// The line of JSON of what happened at these columns, with a line at the moment where it isn't the end of the logs.
+    pub(crate) fn picture_line(
+        &self,
+        alloc: A,
+        columns: ColumnRange,
+    ) -> Result<String<A>, DrawFault>
+        ensures picture { IfOk result (λ line. IsPictureTold self.now.logs self.now.told self.now.cut columns.from columns.to (string_bytes line)) }
+        ensures events { (events : ℕ) → result ≡ Err (DrawFault.TooManyEvents events)
+            → HasTooManyAt self.now columns.from columns.to events }
+    {
+        let ColumnRange { from, to } = columns;
+        let logs = self.logs.logs();
+        let picture = Picture::of(alloc.clone()?, logs, self.moment.cut(), from, to)?;
+        Ok(picture_line(alloc, &picture, &self.moment)?)
     }
 }

@@ -26,7 +26,7 @@ pub use laws::{some_faulty_event_is_an_origin, stuck_receipts_are_a_circle};
 pub use link_cause::LinkCause;
 pub use link_evidence::LinkEvidence;
 pub use link_sides::LinkSides;
-pub use load_difference::{LoadDifference, LoadField};
+pub use load_difference::{FieldPair, LoadDifference, LoadField};
 pub use log_between::find_log_between;
 pub use node_evidence::NodeEvidence;
 pub use origin::{Origin, origins};

@@ -1,5 +1,5 @@
-ghost use Rattle.std.specs.Prelude.{◌↔◌, IfSome, IsTrue};
-ghost use Rattle.ira_view_evidence.specs.LoadDifference.{DiffersBy, IsOtherIn, IsRaised, IsTurned};
+ghost use Rattle.std.specs.Prelude.{◌≡◌, ◌↔◌, IsTrue};
+ghost use Rattle.ira_view_evidence.specs.LoadDifference.{DifferAlike, DiffersBy, IsExchanged, IsOtherIn, IsRaised, exchanged};
 
 use ira_event::{Load, Msg};
 
@@ -12,6 +12,14 @@ pub enum LoadField {
     Bit,
 }
 
+/// Two fields of a message.
+#[derive(Clone, Copy, Debug, PartialEq, Eq)]
+pub enum FieldPair {
+    RoundAndId,
+    RoundAndHop,
+    IdAndHop,
+}
+
 /// How a receipt differs from its sending.
 #[derive(Clone, Copy, Debug, PartialEq, Eq)]
 pub enum LoadDifference {
@@ -21,8 +29,8 @@ pub enum LoadDifference {
     LoweredHop,
     /// In this field alone.
     OneField(LoadField),
-    /// Round and ID are exchanged.
-    RoundAndId,
+    /// These are exchanged.
+    Exchanged(FieldPair),
 }
 
 /// Whether the other load is this one with the hop raised by one.
@@ -70,33 +78,69 @@ impl LoadField {
     }
 }
 
-/// Whether the other load differs from this one, and is it with round and ID exchanged.
-fn is_turned(load: Load, other: Load) -> bool
-    ensures { IsTrue result ↔ IsTurned load other }
-{
-    match (load, other) {
-        (Load::Msg(message), Load::Msg(other)) => {
-            let turned = Msg {
-                round: message.id,
-                id: message.round,
+impl FieldPair {
+    /// The message with these two exchanged.
+    fn exchanged(self, message: Msg) -> Msg
+        ensures { result ≡ exchanged self message }
+    {
+        let Msg { round, id, hop, .. } = message;
+        match self {
+            FieldPair::RoundAndId => Msg {
+                round: id,
+                id: round,
                 ..message
-            };
-            other == turned && other != message
+            },
+            FieldPair::RoundAndHop => Msg {
+                round: hop,
+                hop: round,
+                ..message
+            },
+            FieldPair::IdAndHop => Msg {
+                id: hop,
+                hop: id,
+                ..message
+            },
         }
-        _ => false,
+    }
+
+    /// Whether the other load differs from this one, and is it with these two exchanged.
+    fn are_exchanged(self, load: Load, other: Load) -> bool
+        ensures { IsTrue result ↔ IsExchanged self load other }
+    {
+        match (load, other) {
+            (Load::Msg(message), Load::Msg(other)) => {
+                other == self.exchanged(message) && other != message
+            }
+            _ => false,
+        }
     }
 }
 
 impl LoadDifference {
     /// Whether a receipt differs so from a sending.
-    pub fn is_between(self, sending: Load, receipt: Load) -> bool
+    fn is_between(self, sending: Load, receipt: Load) -> bool
         ensures { IsTrue result ↔ DiffersBy self sending receipt }
     {
         match self {
             LoadDifference::RaisedHop => is_raised(sending, receipt),
             LoadDifference::LoweredHop => is_raised(receipt, sending),
             LoadDifference::OneField(field) => field.is_other(sending, receipt),
-            LoadDifference::RoundAndId => is_turned(sending, receipt),
+            LoadDifference::Exchanged(pair) => pair.are_exchanged(sending, receipt),
         }
+    }
+
+    /// Whether each receipt has a sending, and is of its load or differs from it so.
+    pub fn is_between_all(self, sent: &[Load], received: &[Load]) -> bool
+        ensures { IsTrue result ↔ DifferAlike self sent.now received.now }
+    {
+        if received.len() > sent.len() {
+            return false;
+        }
+        for i in 0..received.len() {
+            if received[i] != sent[i] && !self.is_between(sent[i], received[i]) {
+                return false;
+            }
+        }
+        true
     }
 }

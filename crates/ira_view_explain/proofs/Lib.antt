@@ -2,4 +2,5 @@ mod Findings
 mod HeadNumbers
 mod LogFiles
 mod Reading
+mod Reorderings
 mod Told

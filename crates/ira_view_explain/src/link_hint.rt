@@ -4,6 +4,7 @@ use crate::ring_hint::RingHint;
 use crate::rows_hint::RowsHint;
 use ira_event::Load;
 use ira_node::NodeState;
+use ira_view_evidence::{LoadDifference, LoadField};
 use ira_view_page::Page;
 use std::alloc::Allocator;
 
@@ -24,14 +25,13 @@ pub(crate) enum LinkHint<'a, A: Allocator> {
         state: NodeState,
         load: Load,
     },
-    /// The reader recorded no reset that it took, or the writer none that it sent.
-    Resets {
-        node: u8,
-        is_writer: bool,
-    },
     /// The writer recorded its own messages alone.
     PassedOn {
         writer: u8,
+    },
+    /// This sending is the one before it once more.
+    SentTwice {
+        sending: u32,
     },
     /// Sendings from this number on, so many, have no receipt.
     NoReceipt {
@@ -58,24 +58,17 @@ pub(crate) enum LinkHint<'a, A: Allocator> {
         count: u32,
         writer: u8,
     },
-    /// Both are exchanged with the next ones.
-    Turned {
+    /// The receipts from one number to another are the sendings of these numbers, in another order.
+    Reordered {
         first: u32,
+        last: u32,
     },
-    /// This sending was received as that receipt, after later ones.
-    HeldBack {
-        sending: u32,
-        receipt: u32,
-    },
-    /// This receipt is that sending, before earlier ones.
-    CameEarly {
-        receipt: u32,
-        sending: u32,
-    },
-    /// What was received is nowhere among what was sent.
+    /// What was received is nowhere among what was sent, nor is among the writer's receipts what it would be passed on
+    /// from, which was sent to it.
     NeverSent {
         writer: u8,
         load: Load,
+        call: Option<Load>,
     },
 }
 
@@ -98,12 +91,16 @@ fn add_numbers<A: Allocator>(text: &mut Page<A>, one: &str, several: &str, first
 }
 
 impl<A: Allocator> LinkHint<'_, A> {
-    /// Whether it is likelier than that a node is missing on the link, where that explains it too.
-    pub(crate) fn is_sure(&self) -> bool {
+    /// Whether a cause of the ring is likelier, where so many other links don't match: that a node is missing on this one,
+    /// or that there are logs of two runs.
+    pub(crate) fn is_doubtful(&self, others: u32) -> bool {
         match self {
-            LinkHint::NoReceipt { count, .. } | LinkHint::NoSending { count, .. } => *count == 1,
-            LinkHint::Rows(RowsHint::RaisedHop) => false,
-            _ => true,
+            LinkHint::NoReceipt { count, .. } | LinkHint::NoSending { count, .. } => {
+                others == 0 && *count > 1
+            }
+            LinkHint::Rows(RowsHint::HopOfOneSide) => others == 0,
+            LinkHint::Rows(RowsHint::Each(LoadDifference::OneField(LoadField::Id))) => others == 1,
+            _ => false,
         }
     }
 
@@ -135,22 +132,16 @@ impl<A: Allocator> LinkHint<'_, A> {
                     " for its lesser pair: a dropped message is a receipt too, and is recorded.",
                 );
             }
-            LinkHint::Resets { node, is_writer } => {
-                text.numbered("node ", u32::from(*node));
-                text.words(if *is_writer {
-                    " records no reset that it sends"
-                } else {
-                    " records no reset that it receives"
-                });
-                text.words(
-                    ", and all else matches: each sending and receipt of a reset is recorded.",
-                );
-            }
             LinkHint::PassedOn { writer } => {
                 text.numbered("node ", u32::from(*writer));
                 text.words(
                     " records the messages that it begins, and none that it passes on: record each sending.",
                 );
+            }
+            LinkHint::SentTwice { sending } => {
+                text.numbered("sendings ", sending.saturating_sub(1));
+                text.numbered(" and ", *sending);
+                text.words(" are the same message: it was recorded twice, or sent twice.");
             }
             LinkHint::NoReceipt { first, count } => {
                 text.numbered("from receipt ", *first);
@@ -180,7 +171,8 @@ impl<A: Allocator> LinkHint<'_, A> {
                     " on each is the sending before its own: message ",
                     receipt.saturating_sub(1),
                 );
-                text.numbered(" came twice, or a sending of node ", u32::from(*writer));
+                text.words(" came twice, or its receipt is recorded twice, or");
+                text.numbered(" a sending of node ", u32::from(*writer));
                 text.words(" is not recorded.");
             }
             LinkHint::SeveralTwice { count, writer } => {
@@ -212,32 +204,29 @@ impl<A: Allocator> LinkHint<'_, A> {
                     " are not recorded."
                 });
             }
-            LinkHint::Turned { first } => {
-                let next = first.saturating_add(1);
+            LinkHint::Reordered { first, last } => {
                 text.numbered("receipts ", *first);
-                text.numbered(" and ", next);
-                text.numbered(" are sendings ", next);
-                text.numbered(" and ", *first);
+                if last_of(*first, 2) == *last {
+                    text.numbered(" and ", *last);
+                    text.numbered(" are sendings ", *last);
+                    text.numbered(" and ", *first);
+                } else {
+                    text.numbered(" to ", *last);
+                    text.words(" are the sendings of these numbers in another order");
+                }
                 text.words(": the link changed their order, or the records were sorted.");
             }
-            LinkHint::HeldBack { sending, receipt } => {
-                text.numbered("sending ", *sending);
-                text.numbered(" is receipt ", *receipt);
-                text.words(
-                    ", after later ones: the link changed their order, or the records were sorted.",
-                );
-            }
-            LinkHint::CameEarly { receipt, sending } => {
-                text.numbered("receipt ", *receipt);
-                text.numbered(" is sending ", *sending);
-                text.words(
-                    ", before earlier ones: the link changed their order, or the records were sorted.",
-                );
-            }
-            LinkHint::NeverSent { writer, load } => {
+            LinkHint::NeverSent { writer, load, call } => {
                 text.numbered("by its log node ", u32::from(*writer));
                 text.words(" never sent ");
                 text.load(*load);
+                if let Some(call) = call {
+                    text.words(", nor received ");
+                    text.load(*call);
+                    text.words(
+                        ", which was sent to it and calls for that: perhaps both records are missing",
+                    );
+                }
                 text.words(".");
             }
         }

@@ -1,96 +1,155 @@
 use crate::faulty_link::FaultyLink;
 use crate::link_hint::LinkHint;
+use crate::reordering::{are_reordered, place_of};
+use crate::ring_hint::RingHint;
 use ira_event::OutOfMemory;
 use ira_view_evidence::LinkCause;
 use std::alloc::Allocator;
 
+/// A change of order is looked for among at most so many messages.
+const MOST_TURNED: usize = 1_000;
+
 impl<'a, 'l, A: Allocator + Clone> FaultyLink<'a, 'l, A> {
-    /// What is told of a cause that explains the link.
-    fn hint_of(&self, cause: LinkCause) -> Option<LinkHint<'a, &'l A>> {
-        let (k, writer) = (self.k, self.link);
-        Some(match cause {
-            LinkCause::HeldBack(1) | LinkCause::CameEarly(1) => LinkHint::Turned { first: k },
-            LinkCause::HeldBack(count) => LinkHint::HeldBack {
-                sending: k,
-                receipt: k.saturating_add(u32::try_from(count).ok()?),
-            },
-            LinkCause::CameEarly(count) => LinkHint::CameEarly {
-                receipt: k,
-                sending: k.saturating_add(u32::try_from(count).ok()?),
-            },
-            LinkCause::NoReceipt(count) => LinkHint::NoReceipt {
-                first: k,
-                count: u32::try_from(count).ok()?,
-            },
-            LinkCause::NoSending(count) => LinkHint::NoSending {
-                first: k,
-                count: u32::try_from(count).ok()?,
-                writer,
-            },
-            LinkCause::CameTwice => LinkHint::CameTwice { receipt: k, writer },
-            LinkCause::Changed => {
-                LinkHint::Rows(self.changed(self.sending?.load, self.receipt.load))
+    /// The number of the last receipt that isn't its sending.
+    fn last_difference(&self) -> u32 {
+        let (mut row, mut last) = (0u32, self.k);
+        for (sending, receipt) in self.sides.sent.iter().zip(self.sides.received.iter()) {
+            row = row.saturating_add(1);
+            if sending != receipt {
+                last = row;
             }
-            LinkCause::EachRow(how) => LinkHint::Rows(self.each_row(how)),
+        }
+        last
+    }
+
+    /// Where receipts are the sendings of their numbers in another order, and the others are their sendings.
+    fn reordered(&self) -> Result<Option<LinkHint<'a, &'l A>>, OutOfMemory> {
+        let (first, last) = (self.k, self.last_difference());
+        let (from, to) = ((first as usize).saturating_sub(1), last as usize);
+        let (sent, received) = (self.sides.sent.as_slice(), self.sides.received.as_slice());
+        if received.len() > sent.len() || from > to || to > received.len() {
+            return Ok(None);
+        }
+        if to - from > MOST_TURNED {
+            return Ok(None);
+        }
+        Ok(if are_reordered(self.alloc, &sent[from..to], &received[from..to])? {
+            Some(LinkHint::Reordered { first, last })
+        } else {
+            None
         })
     }
 
-    /// The cause that explains the link, where nothing is dropped or something.
-    fn link_hint(&self, has_dropped: bool) -> Option<LinkHint<'a, &'l A>> {
-        if let Some(hint) = self.owed_at_end() {
-            return Some(hint);
-        }
-        let cause = LinkCause::find(&self.sides.sent, &self.sides.received, self.k as usize);
-        let is_of_several = matches!(
-            cause,
-            Some(LinkCause::NoReceipt(2..) | LinkCause::NoSending(2..))
-        );
-        if is_of_several || cause.is_none() {
-            let kind = self.missing_kind();
-            if kind.is_some() {
-                return kind;
-            }
-        }
-        match cause {
-            Some(cause) => self.hint_of(cause),
-            None => self.missing_several(has_dropped),
-        }
+    /// Whether this explains the link.
+    fn is_explained_by(&self, cause: LinkCause) -> bool {
+        cause.explains(&self.sides.sent, &self.sides.received, self.k as usize)
     }
 
-    /// What is told where nothing explains the link: that what was received was never sent, where it wasn't.
-    fn never_sent(&self) -> Option<LinkHint<'a, &'l A>> {
-        let load = self.receipt.load;
-        if self.sides.sent.contains(&load) {
+    /// The sending before the named receipt's, where that is the same and was received once.
+    fn sent_twice(&self) -> Option<LinkHint<'a, &'l A>> {
+        let sent = &self.sides.sent;
+        let before = sent.get((self.k as usize).checked_sub(2)?)?;
+        let again = sent.get((self.k as usize).checked_sub(1)?)?;
+        if before == again && self.is_explained_by(LinkCause::NoReceipt(1)) {
+            return Some(LinkHint::SentTwice { sending: self.k });
+        }
+        None
+    }
+
+    /// Where sendings have no receipt, or receipts no sending, one after the other.
+    fn missing_run(&self) -> Option<LinkHint<'a, &'l A>> {
+        let (first, writer) = (self.k, self.link);
+        let from = (first as usize).saturating_sub(1);
+        let sent = self.sides.sent.as_slice().get(from..)?;
+        let received = self.sides.received.as_slice().get(from..)?;
+        if let Some(lost) = place_of(sent, *received.first()?)
+            && (lost == 1 || received.len() > 1)
+            && self.is_explained_by(LinkCause::NoReceipt(lost))
+        {
+            let count = u32::try_from(lost).ok()?;
+            return Some(LinkHint::NoReceipt { first, count });
+        }
+        if self.is_explained_by(LinkCause::CameTwice) {
+            return Some(LinkHint::CameTwice {
+                receipt: first,
+                writer,
+            });
+        }
+        let added = place_of(received, *sent.first()?)?;
+        if !self.is_explained_by(LinkCause::NoSending(added)) {
             return None;
         }
-        Some(LinkHint::NeverSent {
-            writer: self.link,
-            load,
+        Some(LinkHint::NoSending {
+            first,
+            count: u32::try_from(added).ok()?,
+            writer,
         })
     }
 
-    /// The cause of this link, of which nothing is dropped or something, where so many others don't match.
-    fn cause(
-        &self,
-        others: u32,
-        has_dropped: bool,
-    ) -> Result<Option<LinkHint<'a, &'l A>>, OutOfMemory> {
-        let own = self.link_hint(has_dropped);
-        let is_sure = match &own {
-            Some(hint) => hint.is_sure(),
-            None => false,
-        };
-        if !is_sure
-            && !has_dropped
-            && others == 0
-            && let Some(cause) = self.node_between()?
+    /// What is missing on one side, where nothing is dropped or something.
+    fn missing(&self, has_dropped: bool) -> Option<LinkHint<'a, &'l A>> {
+        let run = self.missing_run();
+        if let Some(
+            LinkHint::NoReceipt { count: 1, .. }
+            | LinkHint::NoSending { count: 1, .. }
+            | LinkHint::CameTwice { .. },
+        ) = &run
         {
-            return Ok(Some(LinkHint::Ring(cause)));
+            return run;
         }
-        if own.is_none() && !has_dropped {
-            return Ok(self.never_sent());
+        if let Some(hint) = self.passed_on() {
+            return Some(hint);
         }
-        Ok(own)
+        if run.is_some() {
+            return run;
+        }
+        if let Some(rows) = self.changed_rows(1)
+            && self.sides.received.len() > 1
+        {
+            return Some(LinkHint::Rows(rows));
+        }
+        self.missing_several(has_dropped)
+    }
+
+    /// The cause that explains all that was recorded of the link, where nothing that is missing does so.
+    fn whole_cause(&self) -> Result<Option<LinkHint<'a, &'l A>>, OutOfMemory> {
+        if let Some(hint) = self.owed_at_end() {
+            return Ok(Some(hint));
+        }
+        if let Some(hint) = self.reordered()? {
+            return Ok(Some(hint));
+        }
+        if let Some(rows) = self.changed_rows(2) {
+            return Ok(Some(LinkHint::Rows(rows)));
+        }
+        Ok(self.sent_twice())
+    }
+
+    /// The cause of the ring that explains this link where nothing else does surely.
+    fn far_cause(&self, others: (u32, u8)) -> Result<Option<RingHint<&'l A>>, OutOfMemory> {
+        if others.0 == 0 {
+            return self.node_between();
+        }
+        self.two_runs(others)
+    }
+
+    /// The likeliest cause; where there is none, or another is likelier, one of the ring; else what was never sent.
+    fn last_cause(
+        &self,
+        likely: Option<LinkHint<'a, &'l A>>,
+        others: (u32, u8),
+    ) -> Result<Option<LinkHint<'a, &'l A>>, OutOfMemory> {
+        let is_doubtful = match &likely {
+            Some(hint) => hint.is_doubtful(others.0),
+            None => true,
+        };
+        if is_doubtful && let Some(hint) = self.far_cause(others)? {
+            return Ok(Some(LinkHint::Ring(hint)));
+        }
+        match likely {
+            Some(hint) => Ok(Some(hint)),
+            None => self.never_sent(),
+        }
     }
 
     /// The causes that explain the ring or the link, where they are found.
@@ -101,12 +160,19 @@ impl<'a, 'l, A: Allocator + Clone> FaultyLink<'a, 'l, A> {
             hints.push(LinkHint::Ring(hint))?;
             return Ok(hints);
         }
-        let dropped = self.dropped();
-        let has_dropped = dropped.is_some();
-        if let Some(hint) = dropped {
-            hints.push(hint)?;
+        let mut likely = self.whole_cause()?;
+        if likely.is_none() {
+            let dropped = self.dropped();
+            likely = self.missing(dropped.is_some());
+            if let Some(hint) = dropped {
+                hints.push(hint)?;
+                if let Some(hint) = likely {
+                    hints.push(hint)?;
+                }
+                return Ok(hints);
+            }
         }
-        if let Some(hint) = self.cause(others.0, has_dropped)? {
+        if let Some(hint) = self.last_cause(likely, others)? {
             hints.push(hint)?;
         }
         Ok(hints)

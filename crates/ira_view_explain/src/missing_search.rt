@@ -1,8 +1,12 @@
 use crate::faulty_link::FaultyLink;
 use crate::link_hint::LinkHint;
-use ira_event::{Event, Load, Msg};
+use crate::ring_search::is_passed_on;
+use crate::stopped::is_begun;
+use ira_event::{Event, Load, OutOfMemory};
 use ira_node::{NodeState, Phase};
+use ira_order::predecessor;
 use ira_replay::replay;
+use ira_view_evidence::LinkSides;
 use std::alloc::Allocator;
 
 /// Whether a node in this state drops the load for its lesser pair.
@@ -15,49 +19,15 @@ fn is_dropped(state: NodeState, load: Load) -> bool {
     }
 }
 
-/// Some of the loads of a link.
-#[derive(Clone, Copy)]
-enum Kind {
-    /// Those that aren't resets.
-    Message,
-    Reset,
-    /// Those that the node which sends them begins.
-    Begun,
-}
-
-impl Kind {
-    fn has(self, load: Load) -> bool {
-        match (self, load) {
-            (Kind::Message, Load::Msg(_)) | (Kind::Reset, Load::Reset(_)) => true,
-            (Kind::Begun, Load::Msg(Msg { hop, .. }) | Load::Reset(hop)) => hop == 1,
-            _ => false,
+/// Whether those of what was received that their sender began are the first of what was sent, one by one.
+fn are_begun(sent: &[Load], received: &[Load]) -> bool {
+    let mut taken = sent.iter();
+    for load in received {
+        if is_begun(*load) && taken.next() != Some(load) {
+            return false;
         }
     }
-
-    /// Whether one of the loads is of this kind.
-    fn is_among(self, loads: &[Load]) -> bool {
-        loads.iter().any(|load| self.has(*load))
-    }
-
-    /// The place of the first of the loads from a place on that is of this kind.
-    fn next_among(self, loads: &[Load], from: usize) -> Option<usize> {
-        let further = loads.get(from..)?.iter().position(|load| self.has(*load))?;
-        Some(from.saturating_add(further))
-    }
-
-    /// Whether those of what was received that are of this kind are the first of what was sent that are, one by one.
-    fn matches(self, sent: &[Load], received: &[Load]) -> bool {
-        let mut taken = 0usize;
-        for load in received {
-            if self.has(*load) {
-                match self.next_among(sent, taken) {
-                    Some(at) if sent.get(at) == Some(load) => taken = at.saturating_add(1),
-                    _ => return false,
-                }
-            }
-        }
-        true
-    }
+    true
 }
 
 /// How many of the first loads have to be left out that those which are left begin with the others; nothing where
@@ -145,25 +115,18 @@ impl<'a, 'l, A: Allocator + Clone> FaultyLink<'a, 'l, A> {
         first
     }
 
-    /// Where one kind of record is missing altogether on one side.
-    pub(crate) fn missing_kind(&self) -> Option<LinkHint<'a, &'l A>> {
+    /// Where the sender recorded what it begins alone, and several receipts are of what it passed on.
+    pub(crate) fn passed_on(&self) -> Option<LinkHint<'a, &'l A>> {
         let (sent, received) = (&self.sides.sent, &self.sides.received);
-        let sends_resets = Kind::Reset.is_among(sent);
-        let takes_resets = Kind::Reset.is_among(received);
-        if sends_resets != takes_resets && Kind::Message.matches(sent, received) {
-            return Some(LinkHint::Resets {
-                node: if sends_resets { self.reader } else { self.link },
-                is_writer: takes_resets,
-            });
-        }
-        if sent.iter().all(|load| Kind::Begun.has(*load))
-            && !received.iter().all(|load| Kind::Begun.has(*load))
-            && !sent.is_empty()
-            && Kind::Begun.matches(sent, received)
+        let passed = received.iter().filter(|load| !is_begun(**load)).count();
+        if passed < 2
+            || sent.is_empty()
+            || !sent.iter().all(|load| is_begun(*load))
+            || !are_begun(sent, received)
         {
-            return Some(LinkHint::PassedOn { writer: self.link });
+            return None;
         }
-        None
+        Some(LinkHint::PassedOn { writer: self.link })
     }
 
     /// Where several records are missing, here and there; that messages were lost only where none is dropped.
@@ -187,5 +150,26 @@ impl<'a, 'l, A: Allocator + Clone> FaultyLink<'a, 'l, A> {
             count,
             writer: self.link,
         })
+    }
+
+    /// What is told where nothing explains the link: that what was received was never sent, where it wasn't.
+    pub(crate) fn never_sent(&self) -> Result<Option<LinkHint<'a, &'l A>>, OutOfMemory> {
+        let load = self.receipt.load;
+        if self.sides.sent.contains(&load) {
+            return Ok(None);
+        }
+        let before = predecessor(self.logs.size().get(), self.link);
+        let taken = LinkSides::of_link(self.alloc, self.logs, before)?;
+        let mut call = None;
+        for sent in &taken.sent {
+            if is_passed_on(*sent, load) && !taken.received.contains(sent) {
+                call = Some(*sent);
+            }
+        }
+        Ok(Some(LinkHint::NeverSent {
+            writer: self.link,
+            load,
+            call,
+        }))
     }
 }

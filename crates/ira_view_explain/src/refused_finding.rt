@@ -87,7 +87,7 @@ impl<'a, 'l, A: Allocator + Clone> RefusedFinding<'a, 'l, A> {
         match self {
             RefusedFinding::Link(link) => link.hints(ring.alloc),
             RefusedFinding::Circle(circle) => circle.hints(ring.alloc),
-            RefusedFinding::Steps(steps) => steps.hints(),
+            RefusedFinding::Steps(steps) => steps.hints(ring),
         }
     }
 

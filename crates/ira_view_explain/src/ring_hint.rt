@@ -1,4 +1,7 @@
+use crate::load_differences::{exchanged, field_of, noun_of};
 use crate::place_list::add_places;
+use ira_event::Load;
+use ira_view_evidence::{LoadDifference, LoadField};
 use ira_view_page::Page;
 use std::alloc::Allocator;
 
@@ -11,19 +14,51 @@ pub(crate) enum RingHint<A: Allocator> {
     Exchanged(u8, u8),
     /// In this order of the places all links match.
     OtherOrder(Vec<u8, A>),
-    /// The logs of a ring of two that are local runs and don't fit.
-    TwoRuns,
+    /// The logs from one place to another fit one another, and so do the others, and each is that of a node.
+    TwoRuns {
+        first: u8,
+        last: u8,
+        others_first: u8,
+        others_last: u8,
+    },
+    /// The logs of these places have the same records.
+    SameRecords {
+        place: u8,
+        other: u8,
+    },
+    /// What the node of this place recorded differs so from what both neighbours did, wherever it does.
+    OneRecorder {
+        place: u8,
+        before: u8,
+        after: u8,
+        how: LoadDifference,
+    },
+    /// The node of this place received one load of the node before it, passed it on as another, and recorded neither.
+    Hole {
+        place: u8,
+        load: Load,
+        before: u8,
+        passed: Load,
+    },
     /// The log of this place fits neither neighbour, and with another log there all links would match.
-    AnotherRun { place: u8, before: u8, after: u8 },
+    AnotherRun {
+        place: u8,
+        before: u8,
+        after: u8,
+    },
     /// With one node more between the two the link would match; the ring would have so many nodes then.
-    NodeBetween { writer: u8, reader: u8, nodes: u32 },
+    NodeBetween {
+        writer: u8,
+        reader: u8,
+        nodes: u32,
+    },
 }
 
 /// At most so many places of an order are shown.
 const MOST_PLACES: usize = 16;
 
 /// The node at this place where two nodes have each other's place.
-fn exchanged(place: u8, a: u8, b: u8) -> u8 {
+fn node_at(place: u8, a: u8, b: u8) -> u8 {
     if place == a {
         b
     } else if place == b {
@@ -35,9 +70,9 @@ fn exchanged(place: u8, a: u8, b: u8) -> u8 {
 
 /// Whether an order is that of the places with these two exchanged.
 fn has_exchanged(order: &[u8], a: u8, b: u8) -> bool {
-    let mut place = exchanged(0, a, b);
+    let mut place = node_at(0, a, b);
     for node in order {
-        if *node != exchanged(place, a, b) {
+        if *node != node_at(place, a, b) {
             return false;
         }
         place = place.saturating_add(1);
@@ -105,9 +140,74 @@ impl<A: Allocator> RingHint<A> {
                 add_places(text, order, MOST_PLACES);
                 text.words(" all links match: places are to be in the order of the ring.");
             }
-            RingHint::TwoRuns => text.words(
-                "each of the two logs is that of a node, and neither fits the other: they are of two runs.",
-            ),
+            RingHint::TwoRuns {
+                first,
+                last,
+                others_first,
+                others_last,
+            } => {
+                if first == last {
+                    text.words("neither log fits the other, and each is that of a node");
+                } else {
+                    text.numbered("the logs of nodes ", u32::from(*first));
+                    text.numbered(" to ", u32::from(*last));
+                    text.numbered(
+                        " fit one another, and so do those of nodes ",
+                        u32::from(*others_first),
+                    );
+                    text.numbered(" to ", u32::from(*others_last));
+                    text.words(", but not these with those");
+                }
+                text.words(": perhaps they are of two runs.");
+            }
+            RingHint::SameRecords { place, other } => {
+                text.numbered("the logs of nodes ", u32::from(*place));
+                text.numbered(" and ", u32::from(*other));
+                text.words(" have the same records: perhaps one is a copy of the other.");
+            }
+            RingHint::OneRecorder {
+                place,
+                before,
+                after,
+                how,
+            } => {
+                text.numbered("the log of node ", u32::from(*place));
+                text.numbered(" differs from what node ", u32::from(*before));
+                text.numbered(" sent and from what node ", u32::from(*after));
+                text.words(" received in nothing but ");
+                match field_of(*how) {
+                    Some(field) => {
+                        text.words("the ");
+                        text.words(noun_of(field));
+                        text.numbered(": perhaps node ", u32::from(*place));
+                        text.words(" records another than crosses its links");
+                        text.words(if field == LoadField::Id {
+                            ", or its log is of another run."
+                        } else {
+                            "."
+                        });
+                    }
+                    None => {
+                        text.words("that ");
+                        text.words(exchanged(*how));
+                        text.words(" are exchanged: their order is ROUND ID HOP BIT.");
+                    }
+                }
+            }
+            RingHint::Hole {
+                place,
+                load,
+                before,
+                passed,
+            } => {
+                text.numbered("node ", u32::from(*place));
+                text.words(" records neither that it received ");
+                text.load(*load);
+                text.numbered(", which node ", u32::from(*before));
+                text.words(" sent, nor that it passed it on as ");
+                text.load(*passed);
+                text.words(": perhaps both records are missing.");
+            }
             RingHint::AnotherRun {
                 place,
                 before,
@@ -119,9 +219,7 @@ impl<A: Allocator> RingHint<A> {
                     u32::from(*before),
                 );
                 text.numbered(" sent nor what node ", u32::from(*after));
-                text.words(
-                    " received; the others fit one another, with another log there: it is of another run.",
-                );
+                text.words(" received; the others fit one another: perhaps it is of another run.");
             }
             RingHint::NodeBetween {
                 writer,
@@ -131,7 +229,7 @@ impl<A: Allocator> RingHint<A> {
                 text.numbered("with one node more between node ", u32::from(*writer));
                 text.numbered(" and node ", u32::from(*reader));
                 text.numbered(
-                    " all links match: a log may be missing there, of a ring of ",
+                    " all links match: perhaps a log is missing there, of a ring of ",
                     *nodes,
                 );
                 text.words(" nodes.");

@@ -1,6 +1,5 @@
-ghost use Rattle.ira_view_page.specs.Printable.{IsPrintable};
-
-use ira_view_evidence::LoadField;
+use crate::load_differences::{exchanged, field_of, noun_of};
+use ira_view_evidence::{LoadDifference, LoadField};
 use ira_view_page::Page;
 use std::alloc::Allocator;
 
@@ -9,36 +8,18 @@ use std::alloc::Allocator;
 pub(crate) enum RowsHint {
     /// This message alone differs, and in one field.
     OneField(LoadField),
-    /// This message alone differs.
-    OneMessage,
     /// The reader recorded hops already raised.
     RaisedByReader { reader: u8 },
     /// The writer recorded hops not yet raised.
     UnraisedByWriter { writer: u8 },
-    /// Hops differ by one, and neither log raises them.
+    /// Hops differ by one, and no log says whose.
     HopOfOneSide,
-    /// Hops differ by one, and the logs don't say which of them raises it.
-    RaisedHop,
-    /// Wherever a receipt isn't its sending, this field alone differs.
-    EachField(LoadField),
     /// Each receipt has the other bit than its sending.
     EachBit,
     /// Only the bit differs, in several rows.
     Bit,
-    /// Wherever a receipt isn't its sending, round and ID are exchanged.
-    RoundAndId,
-}
-
-/// Its name in a sentence.
-fn noun_of(field: LoadField) -> &'static str
-    ensures { IsPrintable result.now }
-{
-    match field {
-        LoadField::Round => "round",
-        LoadField::Id => "ID",
-        LoadField::Hop => "hop",
-        LoadField::Bit => "bit",
-    }
+    /// Several differ, or two fields are exchanged.
+    Each(LoadDifference),
 }
 
 impl RowsHint {
@@ -55,9 +36,6 @@ impl RowsHint {
                     " of this message differs: the link changed it, or one side recorded it wrongly.",
                 );
             }
-            RowsHint::OneMessage => text.words(
-                "only this message differs: the link changed it, or one side recorded another.",
-            ),
             RowsHint::RaisedByReader { reader } => {
                 text.words("each receipt that differs has the hop of its sending raised by one: ");
                 text.numbered("node ", u32::from(reader));
@@ -75,22 +53,24 @@ impl RowsHint {
             RowsHint::HopOfOneSide => text.words(
                 "only the hop differs: one side records it before it is raised, the other after.",
             ),
-            RowsHint::RaisedHop => text.words(
-                "each receipt that differs has the hop of its sending raised by one, and is the same else.",
-            ),
-            RowsHint::EachField(field) => {
-                text.words("in each row that differs it is the ");
-                text.words(noun_of(field));
-                text.words(" alone: one side records another ");
-                text.words(noun_of(field));
-                text.words(" than crosses the link.");
-            }
             RowsHint::EachBit => text.words(
                 "only the bit differs, in every row: one side means the contrary by it. `clean` is \"unique so far\".",
             ),
-            RowsHint::RoundAndId => text.words(
-                "round and ID are exchanged in each row that differs: their order is ROUND ID HOP BIT.",
-            ),
+            RowsHint::Each(how) => match field_of(how) {
+                Some(field) => {
+                    text.words("in each row that differs it is the ");
+                    text.words(noun_of(field));
+                    text.words(" alone: one side records another ");
+                    text.words(noun_of(field));
+                    text.words(" than crosses the link.");
+                }
+                None => {
+                    text.words(exchanged(how));
+                    text.words(
+                        " are exchanged in each row that differs: their order is ROUND ID HOP BIT.",
+                    );
+                }
+            },
         }
     }
 }

@@ -1,4 +1,5 @@
 use crate::faulty_link::FaultyLink;
+use crate::load_differences::{DIFFERENCES, differing, field_of};
 use crate::rows_hint::RowsHint;
 use ira_event::{Event, Load};
 use ira_view_evidence::{LoadDifference, LoadField};
@@ -11,17 +12,6 @@ fn has_same_hop(load: Load, other: Load) -> bool {
         (Load::Reset(a), Load::Reset(b)) => a == b,
         _ => false,
     }
-}
-
-/// How many of what was received differs from what was sent, row by row.
-fn differing(sent: &[Load], received: &[Load]) -> usize {
-    let mut count = 0usize;
-    for (receipt, sending) in received.iter().zip(sent.iter()) {
-        if receipt != sending {
-            count = count.saturating_add(1);
-        }
-    }
-    count
 }
 
 impl<A: Allocator + Clone> FaultyLink<'_, '_, A> {
@@ -69,51 +59,49 @@ impl<A: Allocator + Clone> FaultyLink<'_, '_, A> {
     /// Of hops that are raised by one on the way: whose log has them so, where the logs say it.
     fn raised_hops(&self) -> RowsHint {
         match (self.writer_keeps_hops(), self.reader_keeps_hops()) {
-            (true, true) => RowsHint::HopOfOneSide,
             (true, false) => RowsHint::UnraisedByWriter { writer: self.link },
             (false, true) => RowsHint::RaisedByReader {
                 reader: self.reader,
             },
-            (false, false) => RowsHint::RaisedHop,
+            _ => RowsHint::HopOfOneSide,
         }
     }
 
-    /// Of one message that differs.
-    pub(crate) fn changed(&self, sending: Load, receipt: Load) -> RowsHint {
-        if LoadDifference::RaisedHop.is_between(sending, receipt) && self.writer_keeps_hops() {
-            return self.raised_hops();
-        }
-        for field in [
-            LoadField::Bit,
-            LoadField::Id,
-            LoadField::Round,
-            LoadField::Hop,
-        ] {
-            if LoadDifference::OneField(field).is_between(sending, receipt) {
-                return RowsHint::OneField(field);
-            }
-        }
-        RowsHint::OneMessage
+    /// Whether all receipts that aren't their sendings differ so.
+    fn all_differ(&self, how: LoadDifference) -> bool {
+        how.is_between_all(&self.sides.sent, &self.sides.received)
     }
 
-    /// Of several that differ alike.
-    pub(crate) fn each_row(&self, how: LoadDifference) -> RowsHint {
-        let differing = differing(&self.sides.sent, &self.sides.received);
-        match (self.sending, how) {
-            (Some(sending), _) if differing == 1 && self.sides.received.len() > 1 => {
-                self.changed(sending.load, self.receipt.load)
+    /// What is told where so many receipts aren't their sendings, and differ from them so.
+    fn rows_hint(&self, how: LoadDifference, rows: usize) -> RowsHint {
+        match how {
+            LoadDifference::OneField(LoadField::Hop)
+                if self.all_differ(LoadDifference::RaisedHop)
+                    && (rows > 1 || self.writer_keeps_hops()) => { self.raised_hops() }
+            LoadDifference::OneField(LoadField::Hop)
+                if rows > 1 && self.all_differ(LoadDifference::LoweredHop) => {
+                RowsHint::HopOfOneSide
             }
-            (_, LoadDifference::RaisedHop) => self.raised_hops(),
-            (_, LoadDifference::LoweredHop) => RowsHint::HopOfOneSide,
-            (_, LoadDifference::OneField(LoadField::Bit)) => {
-                if differing == self.sides.received.len() {
+            LoadDifference::OneField(LoadField::Bit) if rows > 1 => {
+                if rows == self.sides.received.len() {
                     RowsHint::EachBit
                 } else {
                     RowsHint::Bit
                 }
             }
-            (_, LoadDifference::OneField(field)) => RowsHint::EachField(field),
-            (_, LoadDifference::RoundAndId) => RowsHint::RoundAndId,
+            LoadDifference::OneField(field) if rows == 1 => RowsHint::OneField(field),
+            _ => RowsHint::Each(how),
         }
+    }
+
+    /// How all receipts differ that aren't their sendings: at least so many, or one with fields exchanged.
+    pub(crate) fn changed_rows(&self, least: usize) -> Option<RowsHint> {
+        let rows = differing(&self.sides.sent, &self.sides.received);
+        for how in &DIFFERENCES {
+            if (rows >= least || field_of(*how).is_none()) && self.all_differ(*how) {
+                return Some(self.rows_hint(*how, rows));
+            }
+        }
+        None
     }
 }

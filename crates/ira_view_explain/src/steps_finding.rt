@@ -5,8 +5,9 @@ ghost use Rattle.ira_view_explain.specs.Refused.{AreOtherStops, AreSteps, AreSte
 ghost use Rattle.ira_view_page.specs.Parts.{AreParts};
 
 use crate::ring_files::RingFiles;
-use crate::stopped_log::StoppedLog;
-use ira_event::{Event, OutOfMemory};
+use crate::stop_hint::StopHint;
+use crate::stopped_log::{StoppedLog, hints_of};
+use ira_event::{Event, NodeLog, OutOfMemory};
 use ira_order::{DirectDependencies, FaultyEvent, HappenedBefore};
 use ira_view_evidence::{Origin, origins};
 use ira_view_page::{Emphasis, Evidence, Page, event_at, file_of, log_at};
@@ -149,7 +150,7 @@ impl<'a, 'l, A: Allocator + Clone> StepsFinding<'a, 'l, A> {
             }
             None => self.print_others(ring, page),
         }
-        if self.first().hint.is_some() {
+        if self.hint(ring).is_some() {
             page.blank();
         }
     }
@@ -163,8 +164,20 @@ impl<'a, 'l, A: Allocator + Clone> StepsFinding<'a, 'l, A> {
     }
 
     /// The usual cause of the event to begin with, where there is one.
-    pub(crate) fn hints(&self) -> Result<Vec<String<A>, A>, OutOfMemory> {
-        self.first().hints()
+    fn hint(&self, ring: &RingFiles<'_, '_, A>) -> Option<StopHint> {
+        let first = self.first();
+        match (first.hint, ring.before(first.log.place())) {
+            (None, Some(before)) => first.stopped.missing_receipt(first.log, before),
+            (hint, _) => hint,
+        }
+    }
+
+    /// The same as a sentence.
+    pub(crate) fn hints(
+        &self,
+        ring: &RingFiles<'_, '_, A>,
+    ) -> Result<Vec<String<A>, A>, OutOfMemory> {
+        hints_of(ring.alloc, self.hint(ring))
     }
 
     /// Adds where to begin: those of the events that happened before the named one and before which none did.
@@ -203,6 +216,12 @@ impl<'a, 'l, A: Allocator + Clone> StepsFinding<'a, 'l, A> {
 }
 
 impl<'a, 'l, A: Allocator + Clone> RingFiles<'a, 'l, A> {
+    /// The log of the node before this one.
+    fn before(&self, place: u8) -> Option<&'a NodeLog<A>> {
+        let last = self.logs.size().get().saturating_sub(1);
+        log_at(self.logs, place.checked_sub(1).unwrap_or(last))
+    }
+
     /// Why the event to begin with of the least place that happened before the named one has no step.
     fn beginning(&self, origins: &[Origin]) -> Result<Option<StoppedLog<'a, 'l, A>>, OutOfMemory> {
         let Some(first) = origins.iter().find(|origin| origin.happened_before) else {

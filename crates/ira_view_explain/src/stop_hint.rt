@@ -1,3 +1,4 @@
+use ira_event::Load;
 use ira_view_page::Page;
 use std::alloc::Allocator;
 
@@ -14,14 +15,10 @@ pub(crate) enum StopHint {
     EachDraws,
     /// An ID is none of a ring of so many nodes.
     IdRange { nodes: u8 },
-    /// A leader records what it finds on its link.
-    LeaderReceives,
     /// A reset is sent, and the yield before it isn't recorded.
     YieldsFirst,
     /// What is owed was sent on this line, after the receipt of something else.
     SentLater { line: usize },
-    /// A greater message was dropped.
-    DropsGreater,
     /// What is owed was never sent.
     NeverSends,
     /// The node draws before it passes a reset on, or it never does.
@@ -32,8 +29,6 @@ pub(crate) enum StopHint {
     LeadsLater { line: usize },
     /// The receipt that calls for a sending stands on this line, after it.
     CalledLater { line: usize },
-    /// What a node sends of its own has another hop than 1.
-    HopsFromOne,
     HopNotRaised,
     HopRaisedTwice,
     /// The bit is written the other way round.
@@ -45,6 +40,14 @@ pub(crate) enum StopHint {
     NotDrawn { id: u32 },
     /// The node passes its own reset on.
     ResetIsBack,
+    /// The sending is the event before it once more.
+    SentTwice,
+    /// The node before sent this, which calls for the sending, and no receipt of it is recorded.
+    NeverReceived { call: Load },
+    /// The log has sendings that pass something on, and no receipt.
+    NoReceipts,
+    /// The node chooses in round 1 again, and the log has no reset.
+    NoResets,
 }
 
 impl StopHint {
@@ -71,9 +74,6 @@ impl StopHint {
                 text.numbered("IDs are 1 to N, and N is ", u32::from(nodes));
                 text.words(" (line 2).");
             }
-            StopHint::LeaderReceives => {
-                text.words("what a leader finds on its link is not recorded.");
-            }
             StopHint::YieldsFirst => {
                 text.words("the `yield` is recorded too, in front of its `send reset 1`.");
             }
@@ -82,10 +82,6 @@ impl StopHint {
                 text.number(line as u64);
                 text.words(": a message is passed on before the next one is taken.");
             }
-            StopHint::DropsGreater => text.words(
-                "that sending stands nowhere below: by its log the node dropped a message whose pair is greater than \
-                 its own.",
-            ),
             StopHint::NeverSends => text.words(
                 "that sending stands nowhere below: by its log the node never made it.",
             ),
@@ -110,9 +106,6 @@ impl StopHint {
                     " calls for this sending, and is recorded after it: record a message as soon as it is taken.",
                 );
             }
-            StopHint::HopsFromOne => {
-                text.words("hops begin at 1, with what a node sends of its own.");
-            }
             StopHint::HopNotRaised => text.words("the hop is not raised."),
             StopHint::HopRaisedTwice => text.words("the hop is raised twice."),
             StopHint::BitTurned => {
@@ -130,6 +123,23 @@ impl StopHint {
             }
             StopHint::ResetIsBack => text.words(
                 "its own reset is back: the node that yielded takes it off the ring.",
+            ),
+            StopHint::SentTwice => text.words(
+                "it is the sending before it once more: it was recorded twice, or sent twice.",
+            ),
+            StopHint::NeverReceived { call } => {
+                text.words("by its log the node never received ");
+                text.load(call);
+                text.words(
+                    ", which the node before it sent next and which calls for this: that receipt is missing.",
+                );
+            }
+            StopHint::NoReceipts => text.words(
+                "the log has no receipt at all: perhaps none is recorded. Record each message as it is taken.",
+            ),
+            StopHint::NoResets => text.words(
+                "it chooses in round 1 again, and the log has no reset: perhaps a new term began, and its `yield` and \
+                 resets are not recorded.",
             ),
         }
     }

@@ -31,6 +31,10 @@ pub(crate) struct Stopped {
     sent_later: Option<u32>,
     /// Where the log first has a sending that begins clean.
     first_clean: Option<u32>,
+    /// How many receipts the log has.
+    receipts: u32,
+    /// Whether the log has a yield or a reset.
+    has_reset: bool,
 }
 
 impl Stopped {
@@ -62,6 +66,8 @@ impl Stopped {
             called: called_for(log, *state, position.saturating_add(1)),
             sent_later: sending_after(log, position, state.owed),
             first_clean: first_clean_start(log),
+            receipts: receipts_of(log),
+            has_reset: log.events().any(is_of_reset),
         }
     }
 
@@ -186,10 +192,11 @@ impl Stopped {
             (StepFault::NotOwed, Event::Sent(sent), _) => self.sending_hint(sent),
             (StepFault::NotChoosing, _, Phase::Yielding) => Some(StopHint::ResetNotBack { nodes }),
             (StepFault::NotChoosing, _, _) if self.position == 1 => Some(StopHint::StartsInitiator),
+            (StepFault::NotChoosing | StepFault::Ended, Event::Draw(id), _)
+                if self.begins_again(id) => { Some(StopHint::NoResets) }
             (StepFault::MustDraw, _, _) if self.position == 1 => Some(StopHint::StartsPassive),
             (StepFault::MustDraw, _, _) if self.state.term > 1 => Some(StopHint::EachDraws),
             (StepFault::DrawRange, _, _) => Some(StopHint::IdRange { nodes }),
-            (StepFault::Ended, Event::Got(_), _) => Some(StopHint::LeaderReceives),
             (StepFault::Ended, Event::Sent(Load::Reset(1)), _) => Some(StopHint::YieldsFirst),
             (StepFault::Owes, Event::Got(_), _) => Some(self.unsent_hint()),
             (StepFault::Owes, Event::Draw(_), _) if self.owes_reset() => {
@@ -210,12 +217,11 @@ impl Stopped {
 
     /// Where what is owed was sent, or that by its log the node never sent it.
     fn unsent_hint(&self) -> StopHint {
-        match (self.sent_later, self.last.and_then(debt_rule)) {
-            (Some(later), _) => StopHint::SentLater {
+        match self.sent_later {
+            Some(later) => StopHint::SentLater {
                 line: line_of(later),
             },
-            (None, Some(Rule::GivesIn)) => StopHint::DropsGreater,
-            (None, _) => StopHint::NeverSends,
+            None => StopHint::NeverSends,
         }
     }
 
@@ -255,12 +261,58 @@ impl Stopped {
         }
     }
 
+    /// Whether a draw of this ID begins round 1 again, and the log has no reset.
+    fn begins_again(&self, id: u32) -> bool {
+        let begun = Msg {
+            round: 1,
+            id,
+            hop: 1,
+            dirty: false,
+        };
+        !self.has_reset && self.next == Some(Event::Sent(Load::Msg(begun)))
+    }
+
+    /// What a sending may come from that the node owes nothing for.
+    fn uncalled_hint(&self, sent: Load) -> Option<StopHint> {
+        if self
+            .last
+            .is_some_and(|(_, event)| event == Event::Sent(sent))
+        {
+            return Some(StopHint::SentTwice);
+        }
+        if self.receipts == 0 && self.state.phase != Phase::Yielding && !is_begun(sent) {
+            return Some(StopHint::NoReceipts);
+        }
+        None
+    }
+
+    /// What a sending may come from that the node owes nothing for, by the log of the node before it on the ring.
+    pub(crate) fn missing_receipt<A: Allocator>(
+        &self,
+        log: &NodeLog<A>,
+        before: &NodeLog<A>,
+    ) -> Option<StopHint> {
+        let call = next_sending(before, self.receipts)?;
+        match (self.fault, self.event, self.state.owed) {
+            (StepFault::NotOwed, Event::Sent(sent), None)
+                if owed_after(log.nodes(), self.state, Event::Got(call)) == Some(sent) => {
+                Some(StopHint::NeverReceived { call })
+            }
+            _ => None,
+        }
+    }
+
     /// What a sending that isn't owed may come from.
     fn sending_hint(&self, sent: Load) -> Option<StopHint> {
         if self.called == Some(sent) {
             return Some(StopHint::CalledLater {
                 line: self.next_line(),
             });
+        }
+        if self.state.owed.is_none()
+            && let Some(hint) = self.uncalled_hint(sent)
+        {
+            return Some(hint);
         }
         match (self.state.owed, self.state.phase, sent) {
             (Some(Load::Msg(owed)), _, Load::Msg(sent)) => self.message_hint(sent, owed),
@@ -311,6 +363,46 @@ fn called_for<A: Allocator>(log: &NodeLog<A>, state: NodeState, position: u32) -
     }
 }
 
+/// What a node sent after so many sendings.
+fn next_sending<A: Allocator>(log: &NodeLog<A>, after: u32) -> Option<Load> {
+    let mut sent = 0u32;
+    for event in log.events() {
+        if let Event::Sent(load) = event {
+            if sent == after {
+                return Some(load);
+            }
+            sent = sent.saturating_add(1);
+        }
+    }
+    None
+}
+
+/// How many receipts a log has.
+fn receipts_of<A: Allocator>(log: &NodeLog<A>) -> u32 {
+    let mut receipts = 0u32;
+    for event in log.events() {
+        if let Event::Got(_) = event {
+            receipts = receipts.saturating_add(1);
+        }
+    }
+    receipts
+}
+
+/// Whether an event is of the end of a term.
+fn is_of_reset(event: Event) -> bool {
+    matches!(
+        event,
+        Event::Yield | Event::Sent(Load::Reset(_)) | Event::Got(Load::Reset(_))
+    )
+}
+
+/// Whether the node that sends the load begins it.
+pub(crate) fn is_begun(load: Load) -> bool {
+    match load {
+        Load::Msg(Msg { hop, .. }) | Load::Reset(hop) => hop == 1,
+    }
+}
+
 /// The first event of a log after this one that sends this load.
 fn sending_after<A: Allocator>(log: &NodeLog<A>, position: u32, load: Option<Load>) -> Option<u32> {
     let sending = Event::Sent(load?);
@@ -347,9 +439,7 @@ fn first_clean_start<A: Allocator>(log: &NodeLog<A>) -> Option<u32> {
 
 /// What a node may have done that sent what it owed, with another hop.
 fn hop_hint(sent: u32, owed: u32) -> Option<StopHint> {
-    if owed == 1 {
-        Some(StopHint::HopsFromOne)
-    } else if sent.saturating_add(1) == owed {
+    if sent.saturating_add(1) == owed {
         Some(StopHint::HopNotRaised)
     } else if owed.saturating_add(1) == sent {
         Some(StopHint::HopRaisedTwice)

@@ -139,12 +139,20 @@ impl<'a, 'l, A: Allocator + Clone> StoppedLog<'a, 'l, A> {
 
     /// The usual cause, where there is one.
     pub(crate) fn hints(&self) -> Result<Vec<String<A>, A>, OutOfMemory> {
-        let mut hints = Vec::new(self.alloc.clone()?);
-        if let Some(hint) = self.hint {
-            let mut text = Page::new(self.alloc.clone()?);
-            hint.print(&mut text);
-            hints.push(text.finish()?.into_string())?;
-        }
-        Ok(hints)
+        hints_of(self.alloc, self.hint)
     }
+}
+
+/// The sentence of a hint, where there is one.
+pub(crate) fn hints_of<A: Allocator + Clone>(
+    alloc: &A,
+    hint: Option<StopHint>,
+) -> Result<Vec<String<A>, A>, OutOfMemory> {
+    let mut hints = Vec::new(alloc.clone()?);
+    if let Some(hint) = hint {
+        let mut text = Page::new(alloc.clone()?);
+        hint.print(&mut text);
+        hints.push(text.finish()?.into_string())?;
+    }
+    Ok(hints)
 }

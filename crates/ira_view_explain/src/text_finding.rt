@@ -101,7 +101,20 @@ fn head_hint(due: HeadLine, line: &[u8]) -> Option<TextHint> {
         HeadLine::Place { nodes } if number_of(line, b"place ") == Some(nodes) => {
             Some(TextHint::PlaceIsSize)
         }
-        HeadLine::Version | HeadLine::Place { .. } | HeadLine::Start => None,
+        HeadLine::Version => file_hint(line),
+        HeadLine::Place { .. } | HeadLine::Start => None,
+    }
+}
+
+/// A usual cause why the first line of a file is no log's.
+fn file_hint(line: &[u8]) -> Option<TextHint> {
+    match line {
+        [0xff, 0xfe, ..] | [0xfe, 0xff, ..] | [_, 0, ..] => Some(TextHint::TwoByteLetters),
+        [0x1f, 0x8b, ..] => Some(TextHint::Compressed),
+        _
+            if line.windows(6).any(|part| part == b"irlog ".as_slice())
+                && !line.starts_with(b"irlog ") => { Some(TextHint::InFront) }
+        _ => None,
     }
 }
 
@@ -199,6 +212,8 @@ impl TextFinding {
             },
             hint: if stop == end {
                 Some(TextHint::NotBegun)
+            } else if number == 1 {
+                file_hint(line)
             } else {
                 None
             },

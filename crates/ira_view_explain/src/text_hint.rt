@@ -8,6 +8,12 @@ pub(crate) enum TextHint {
     Slip(Slip),
     /// It is too long.
     OtherFile,
+    /// Its letters are of two bytes.
+    TwoByteLetters,
+    /// It is compressed.
+    Compressed,
+    /// The first line has something in front of what it says.
+    InFront,
     /// The ring has more nodes than one of version 1.
     LargeRing,
     /// The ring has more nodes than any, or fewer than two.
@@ -44,6 +50,13 @@ impl TextHint {
             TextHint::OtherFile => {
                 text.words("such a file is seldom a log: look at the names.");
             }
+            TextHint::TwoByteLetters => text.words(
+                "the file is UTF-16, as `>` of a Windows shell writes. Write ASCII; to mend a file: iconv -f UTF-16 -t ASCII FILE",
+            ),
+            TextHint::Compressed => text.words("the file is compressed: gunzip -c FILE"),
+            TextHint::InFront => text.words(
+                "something stands in front of the line, such as a time: a log has its lines alone.",
+            ),
             TextHint::LargeRing => text.words(
                 "logs of a ring of more than 64 nodes have version 2: `irlog 2`.",
             ),

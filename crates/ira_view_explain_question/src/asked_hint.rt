@@ -12,6 +12,12 @@ pub(crate) enum AskedHint<'a> {
     Brackets { place: &'a [u8], clause: &'a [u8] },
     /// The text goes on as this word begins.
     Word(&'static str),
+    /// This word has a capital.
+    Capital(&'static str),
+    /// `>=` or `<=` stands there.
+    TwoRelations,
+    /// A space is missing beside `<`, `=` or `>`.
+    Spaces,
     /// Two clauses of a case are for one node.
     OneClause,
     /// A place comes after a greater one.
@@ -33,6 +39,17 @@ impl AskedHint<'_> {
                 page.show(word.as_bytes());
                 page.words("` has that beginning.");
             }
+            AskedHint::Capital(word) => {
+                page.words("`");
+                page.show(word.as_bytes());
+                page.words("` is written in small letters.");
+            }
+            AskedHint::TwoRelations => page.words(
+                "there are `<`, `=` and `>`: for `round >= 2` write `(not round < 2)`, for `round <= 2` `(not round > 2)`.",
+            ),
+            AskedHint::Spaces => page.words(
+                "one space stands on each side of `<`, `=` and `>`: `round > 2`.",
+            ),
             AskedHint::OneClause => {
                 page.words("two clauses for one node are one clause with `and`.");
             }

@@ -49,6 +49,34 @@ fn word_begun(text: &[u8]) -> Option<&'static str> {
     None
 }
 
+/// Whether a word that is compared stands in front of its relation with no space between.
+fn lacks_space(text: &[u8]) -> bool {
+    for word in [b"round".as_slice(), b"id", b"term"] {
+        if let Some([b'<' | b'=' | b'>', ..]) = skip_word(text, word) {
+            return true;
+        }
+    }
+    false
+}
+
+/// The word of a clause that the text begins with, but for capitals.
+fn word_in_capitals(text: &[u8]) -> Option<&'static str> {
+    for word in &WORDS {
+        let Some(begun) = text.get(..word.len()) else {
+            continue;
+        };
+        if begun.eq_ignore_ascii_case(word.as_bytes()) {
+            return Some(*word);
+        }
+    }
+    None
+}
+
+/// What of a clause stands in front of this rest of it.
+fn clause_before<'a>(clause: &'a [u8], rest: &[u8]) -> &'a [u8] {
+    &clause[..clause.len().saturating_sub(rest.len())]
+}
+
 /// The byte of a line at which one bracket more is open than may be.
 fn deepest(line: &[u8]) -> usize
     ensures { result ≤ length line.now }
@@ -76,7 +104,18 @@ fn clause_hint<'a>(line: &'a [u8], clause: &'a [u8], rest: &[u8]) -> Option<Aske
         let place = &line[..line.len().saturating_sub(clause.len())];
         return Some(AskedHint::Brackets { place, clause });
     }
-    Some(AskedHint::Word(word_begun(rest)?))
+    match (clause_before(clause, rest), rest) {
+        ([.., b'<' | b'>'], [b'=', ..]) => return Some(AskedHint::TwoRelations),
+        ([.., b'<' | b'=' | b'>'], [b'0'..=b'9', ..]) => return Some(AskedHint::Spaces),
+        _ => {}
+    }
+    if lacks_space(rest) {
+        return Some(AskedHint::Spaces);
+    }
+    match word_begun(rest) {
+        Some(word) => Some(AskedHint::Word(word)),
+        None => Some(AskedHint::Capital(word_in_capitals(rest)?)),
+    }
 }
 
 /// How many digits the number has that a line begins with; all of the line where it begins with none.

@@ -2,11 +2,8 @@
 use Rattle.std.specs.Prelude.{◌≡◌, ℕ, ◌/◌, ◌%◌, Bool, List, [], ◌∷◌, ◌++◌, codes, nat_eq, not, ◌&&◌, ◌||◌, if◌then◌else◌}
 use Rattle.std.specs.List.{flat_map}
 use Rattle.ira_view_page.specs.Printable.{hex_digit_of, is_graphic}
-use Rattle.ira_view_html.specs.declared.frame.TheConstants.{HEAD, MIDDLE}
-use Rattle.ira_view_html.specs.declared.told.TheConstants.{TOLD}
-use Rattle.ira_view_html.specs.declared.view.TheConstants.{VIEW, LINES}
-use Rattle.ira_view_html.specs.declared.panel.TheConstants.{PANEL}
-use Rattle.ira_view_html.specs.declared.moves.TheConstants.{MOVES}
+use Rattle.ira_view_html.specs.declared.frame.TheConstants.{FOOT, HEAD, MIDDLE}
+use Rattle.ira_view_html.specs.declared.script.TheConstants.{SCRIPT}
 
 -- the byte stands in a page as it is: printable ASCII but for `<`, with which each tag begins, or a line feed
 abbrev pub stands : ℕ → Bool
@@ -20,7 +17,6 @@ told_byte c = if stands c then c ∷ [] else codes "\\u00" ++ hex_digit_of (c / 
 abbrev pub told_text : List ℕ → List ℕ
 told_text json = flat_map told_byte json
 
--- the text is the page of a picture and of JSON Lines: the parts of the template, and these two between them
-pub record IsHtmlPage (picture json text : List ℕ) : Type 0 where
-  pub is : text ≡ HEAD.now ++ picture ++ MIDDLE.now ++ told_text json ++ TOLD.now ++ VIEW.now ++ LINES.now ++ PANEL.now
-      ++ MOVES.now
+-- the text is the page of JSON Lines: these between the parts of the template, and its script
+pub record IsHtmlPage (json text : List ℕ) : Type 0 where
+  pub is : text ≡ HEAD.now ++ told_text json ++ MIDDLE.now ++ SCRIPT.now ++ FOOT.now

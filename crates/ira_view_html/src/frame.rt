@@ -1,6 +1,6 @@
-//! What a page has round its picture and what is told.
+//! What a page has round what is told, and round its script.
 
-/// Up to the picture: the style, and what the script fills.
+/// Up to what is told: the style, and what the script fills.
 pub(crate) const HEAD: &str = r#"<!doctype html>
 <html lang="en">
 <head>
@@ -11,13 +11,15 @@ content="default-src 'none'; style-src 'unsafe-inline'; script-src 'unsafe-inlin
 <title>ira</title>
 <style>
 :root{color-scheme:light dark;--back:#fff;--ink:#1f2328;--mute:#57606a;--line:#d0d7de;
---fill:#f6f8fa;--link:#0550ae;--moment:#a8326e;--bad:#b3370a}
-@media(prefers-color-scheme:dark){:root{--back:#0d1117;--ink:#f0f3f6;--mute:#9198a1;--line:#3d444d;
---fill:#151b23;--link:#71b7ff;--moment:#f093c6;--bad:#ff8350}}
+--fill:#f6f8fa;--link:#0550ae;--moment:#a8326e;--bad:#b3370a;--message:#57606a;--choosing:#e69f00;
+--active:#56b4e9;--passive:#c4cad1;--leader:#009e73;--yielding:#cc79a7}
+@media screen and (prefers-color-scheme:dark){:root{--back:#0d1117;--ink:#f0f3f6;--mute:#9198a1;--line:#3d444d;
+--fill:#151b23;--link:#71b7ff;--moment:#f093c6;--bad:#ff8350;--message:#a3acb6;--choosing:#c98a00;
+--active:#2b7bb0;--passive:#4c545d;--leader:#00b083;--yielding:#a85f88}}
 body{margin:0;font:14px/1.4 system-ui,sans-serif;color:var(--ink);background:var(--back)}
-#page{display:none}
-.live #picture{height:0;overflow:hidden}
-.live #page{display:grid;grid-template:auto 1fr auto/1fr 24em;height:100vh}
+#page{display:grid;grid-template:auto 1fr auto/1fr 24em;height:100vh}
+#page.no{grid-template-columns:1fr minmax(24em,36%)}
+#print{display:none}
 header,footer{grid-column:1/-1;display:flex;flex-wrap:wrap;gap:6px 10px;align-items:center;
 padding:7px 12px;background:var(--fill)}
 h1{font-size:16px;margin:0 auto 0 0}
@@ -37,11 +39,14 @@ section{margin:0 0 16px}
 dl{display:grid;grid-template-columns:max-content 1fr;gap:1px 10px;margin:0}
 dd,p{margin:0;overflow-wrap:anywhere}
 td,th{text-align:left;vertical-align:top;padding:0 9px 2px 0;font-weight:400}
+th,td:nth-child(-n+2){white-space:nowrap}
+#why p{margin:0 0 6px}
+#legend div{display:flex;gap:8px;align-items:center}
 .here td{font-weight:600}
 ul{margin:2px 0;padding-left:18px}
 .go{border:0;padding:0;background:none;color:var(--link);text-align:left;cursor:pointer}
-@media(max-width:760px){.live #page{grid-template:auto 55vh auto auto/1fr;height:auto}}
-@media print{.live #page{display:none}.live #picture{height:auto}#picture svg{max-width:100%;height:auto}}
+@media(max-width:760px){#page,#page.no{grid-template:auto 55vh auto auto/1fr;height:auto}}
+@media print{#page{display:none}#print{display:block}#print svg{max-width:100%;height:auto}}
 </style>
 </head>
 <body>
@@ -57,7 +62,7 @@ aria-label="Search by node and event, file and line, round or ID"><ol id="hits">
 </header>
 <div id="stage"><canvas id="view" tabindex="0" role="application"
 aria-label="Picture of the ring: arrow keys go from event to event, and ? lists all keys"
-aria-describedby="d"></canvas></div>
+aria-describedby="d"></canvas><p id="d" hidden></p></div>
 <aside aria-label="What is told"><section id="why"></section><section id="event" aria-live="polite"></section>
 <section id="message"></section><section id="moment" aria-live="polite"></section>
 <details><summary>Legend</summary><div id="legend"></div></details></aside>
@@ -70,10 +75,13 @@ aria-describedby="d"></canvas></div>
 </footer>
 <dialog id="help"><h2>Keys</h2><div id="list"></div><form method="dialog"><button>Close</button></form></dialog>
 </div>
-<div id="picture">
-"#;
-
-/// From the picture to what is told.
-pub(crate) const MIDDLE: &str = r#"</div>
+<div id="print"></div>
+<noscript>This page needs a script. ira draw --out NAME.svg makes a picture that needs none.</noscript>
 <script type="application/x-ndjson" id="data">
 "#;
+
+/// From what is told to the script.
+pub(crate) const MIDDLE: &str = "</script>\n<script>\n";
+
+/// After the script.
+pub(crate) const FOOT: &str = "</script>\n</body>\n</html>\n";

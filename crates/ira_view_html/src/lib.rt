@@ -1,11 +1,8 @@
-//! A page to move in a picture: the picture and what is told beside it, between a style and a script that read both.
+//! A page to move in what happened in a ring: what is told of it as JSON, between a style and a script that draws it.
 #![tactic(auto)]
 
 mod frame;
-mod moves;
 mod page;
-mod panel;
-mod told;
-mod view;
+mod script;
 
 pub use page::html_page;

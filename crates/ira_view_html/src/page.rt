@@ -3,11 +3,8 @@ ghost use Rattle.ira_view_page.specs.Page.{Added};
 ghost use Rattle.ira_view_page.specs.Printable.{IsPrintable, hex_digit_of};
 ghost use Rattle.ira_view_html.specs.HtmlPage.{IsHtmlPage, told_byte, told_text};
 
-use crate::frame::{HEAD, MIDDLE};
-use crate::moves::MOVES;
-use crate::panel::PANEL;
-use crate::told::TOLD;
-use crate::view::{LINES, VIEW};
+use crate::frame::{FOOT, HEAD, MIDDLE};
+use crate::script::SCRIPT;
 use ira_event::OutOfMemory;
 use ira_view_page::{Page, PageText};
 use std::alloc::Allocator;
@@ -44,24 +41,16 @@ fn write_told<A: Allocator>(page: &mut Page<A>, json: &[u8])
     }
 }
 
-/// The text of an HTML file that needs no other: a picture of a ring, and JSON Lines that tell of the same logs. In a
-/// browser its script moves in the picture, and says of each event what is told of it.
-pub fn html_page<A: Allocator>(
-    alloc: A,
-    picture: &PageText<A>,
-    json: &[u8],
-) -> Result<PageText<A>, OutOfMemory>
-    ensures { IfOk result (IsHtmlPage picture.now json.now) }
+/// The text of an HTML file that needs no other: a page to move in what happened in a ring, which these JSON Lines tell. In
+/// a browser its script draws them.
+pub fn html_page<A: Allocator>(alloc: A, json: &[u8]) -> Result<PageText<A>, OutOfMemory>
+    ensures { IfOk result (IsHtmlPage json.now) }
 {
     let mut page = Page::new(alloc);
     page.words(HEAD);
-    page.words(picture.as_str());
-    page.words(MIDDLE);
     write_told(&mut page, json);
-    page.words(TOLD);
-    page.words(VIEW);
-    page.words(LINES);
-    page.words(PANEL);
-    page.words(MOVES);
+    page.words(MIDDLE);
+    page.words(SCRIPT);
+    page.words(FOOT);
     page.finish()
 }

@@ -1,4 +1,5 @@
 pub mod AnswerValue
+pub mod ElectionValue
 pub mod EventValue
 pub mod EvidenceValue
 pub mod ExplainedFindings
@@ -8,6 +9,8 @@ pub mod Line
 pub mod LogValue
 pub mod Members
 pub mod Object
+pub mod PageLine
+pub mod PictureValue
 pub mod ShownAnswer
 pub mod StateValue
 pub mod View

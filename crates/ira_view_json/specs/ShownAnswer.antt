@@ -1,6 +1,6 @@
 -- What is written of good logs: an answer, and lines after it.
 use Rattle.std.specs.Prelude.{◌≡◌, ◌⊎◌, ℕ, Bool, true, false, List, [], ◌∷◌, Option, Some, None, Result, Ok, Err, ⊤}
-use Rattle.std.specs.Prelude.{codes, length}
+use Rattle.std.specs.Prelude.{◌==◌, codes, length, not}
 use Rattle.json.specs.Json.{Json, Members, no_members, null, object}
 use Rattle.ira_event.specs.Log.{Log}
 use Rattle.ira_event.specs.Sink.{SinkState, StopsIn, Takes}
@@ -9,18 +9,21 @@ use Rattle.ira_view_page.specs.declared.show_fault.ShowFault.TheVariants.{OutOfM
 use Rattle.ira_view_moment.specs.Moment.{AreLeaders, IsMoment, Moment, whole_cut}
 use Rattle.ira_view_moment.specs.Told.{Told, at_cut, at_end, of_case, unmet}
 use Rattle.ira_view_moment.specs.Totals.{totals_of}
+use Rattle.ira_view_json.specs.ElectionValue.{with_over}
 use Rattle.ira_view_json.specs.EventValue.{AreEventValues}
 use Rattle.ira_view_json.specs.Line.{AreLinesOf}
 use Rattle.ira_view_json.specs.Members.{naturals, put, with_number, with_words}
 
--- members, and what all events come to, at whose end these nodes lead; the version is that of what members mean
+-- members, and what all events come to, at whose end these nodes lead, and whether the election is over then, which it is
+-- where one does; the version is that of what members mean
 abbrev pub with_totals : Moment → List ℕ → Members → Members
 with_totals end leaders members =
-    put (codes "leaders") (naturals leaders)
+    with_over (not (length leaders == 0))
+    (put (codes "leaders") (naturals leaders)
     (with_number (codes "received") (totals_of end).received
     (with_number (codes "sent") (totals_of end).sent
     (with_number (codes "events") (totals_of end).events
-    (with_number (codes "nodes") (length end.nodes) (with_number (codes "version") 1 members)))))
+    (with_number (codes "nodes") (length end.nodes) (with_number (codes "version") 1 members))))))
 
 -- members, and the places that are to lead, where some are named
 abbrev pub with_named : Option (List ℕ) → Members → Members

@@ -3,6 +3,7 @@
 
 mod answer_lines;
 mod answer_values;
+mod election_values;
 mod event_lines;
 mod evidence_values;
 mod explained;
@@ -13,6 +14,8 @@ mod log_lines;
 mod moment_answer;
 mod moment_lines;
 mod object;
+mod page_lines;
+mod picture_values;
 mod ring_lines;
 mod shown_answer;
 mod value;
@@ -21,5 +24,6 @@ mod values;
 pub use answer_lines::{answer_line, cases_lines, explained_findings_lines, explained_line};
 pub use folder_lines::{folder_answer_line, unread_line};
 pub use log_lines::log_line;
+pub use page_lines::{explanation_line, picture_line, yes_line};
 pub use ring_lines::write_ring;
 pub use shown_answer::ShownAnswer;

@@ -43,6 +43,7 @@ impl<A: Allocator + Clone> Object<A> {
         self.number("sent", totals.sent as u64);
         self.number("received", totals.received as u64);
         self.value("leaders", numbers_value(self.alloc(), leaders));
+        self.over(!leaders.is_empty());
     }
 
     /// Puts the places that are to lead, where some are named.
@@ -71,7 +72,7 @@ impl<A: Allocator + Clone> Object<A> {
 }
 
 /// The answer for logs.
-fn shown_value<A: Allocator + Clone>(
+pub(crate) fn shown_value<A: Allocator + Clone>(
     alloc: &A,
     logs: &Logs<A>,
     chosen: &ChosenMoment<A>,

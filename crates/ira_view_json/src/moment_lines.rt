@@ -10,6 +10,7 @@ use crate::object::Object;
 use crate::value::Value;
 use crate::values::numbers_value;
 use ira_event::{Event, Logs, NodeLog, OutOfMemory, Sink};
+use ira_view_election::{Election, NodeDue, election_at};
 use ira_view_moment::{Moment, NodeProgress, Round, Rounds};
 use ira_view_page::ShowFault;
 use std::alloc::Allocator;
@@ -158,8 +159,49 @@ fn write_links<A: Allocator + Clone, W: Sink>(
     Ok(())
 }
 
-/// Writes, of the moment of a cut, a line for each round, each node, and each link that holds something. These
-/// are the names of the files of the logs, in their order.
+/// A node and what comes next there.
+fn next_value<A: Allocator + Clone>(alloc: &A, next: NodeDue) -> Result<Value<A>, OutOfMemory> {
+    let mut object = Object::of(alloc.clone()?, "next");
+    object.node_due(next);
+    object.finish()
+}
+
+/// Writes a line for each node at which something comes next.
+fn write_next<A: Allocator + Clone, W: Sink>(
+    alloc: &A,
+    election: &Election<A>,
+    lines: &mut LineBlock<A>,
+    sink: &mut W,
+) -> Result<(), ShowFault>
+    ensures { WroteLines result (W.state sink.old) (W.state sink.new) }
+{
+    let Election::GoesOn(next) = election else {
+        return Ok(());
+    };
+    for one in next {
+        lines.add(&next_value(alloc, *one)?, sink)?;
+    }
+    Ok(())
+}
+
+/// Writes a line for each link that holds something, and for each node at which something comes next.
+fn write_way<A: Allocator + Clone, W: Sink>(
+    alloc: &A,
+    logs: &Logs<A>,
+    moment: &Moment<A>,
+    lines: &mut LineBlock<A>,
+    sink: &mut W,
+) -> Result<(), ShowFault>
+    requires { length moment.now.nodes ≡ length logs.now }
+    ensures { WroteLines result (W.state sink.old) (W.state sink.new) }
+{
+    let election = election_at(alloc.clone()?, moment, logs.size())?;
+    write_links(alloc, logs, moment, lines, sink)?;
+    write_next(alloc, &election, lines, sink)
+}
+
+/// Writes, of the moment of a cut, a line for each round, each node, each link that holds something, and each node at which
+/// something comes next. These are the names of the files of the logs, in their order.
 pub(crate) fn write_moment<A: Allocator + Clone, W: Sink>(
     alloc: A,
     logs: &Logs<A>,
@@ -178,6 +220,6 @@ pub(crate) fn write_moment<A: Allocator + Clone, W: Sink>(
     let mut lines = LineBlock::new(alloc.clone()?);
     write_rounds(&alloc, rounds.as_slice(), &mut lines, sink)?;
     write_nodes(&alloc, logs, files, &moment, &mut lines, sink)?;
-    write_links(&alloc, logs, &moment, &mut lines, sink)?;
+    write_way(&alloc, logs, &moment, &mut lines, sink)?;
     lines.flush(sink)
 }

@@ -1,6 +1,6 @@
 -- How far the events of a ring were told.
 use Rattle.std.proofs.Common.{◌≡◌, ◌∙◌, ℕ, ◌+◌, Bool, true, false, List, [], ◌∷◌, ◌++◌, Option, Some, Result, Ok, Err}
-use Rattle.std.proofs.Common.{ap, append-nil, append_assoc, arith, inl, inr, length, map, refl, subst, sym}
+use Rattle.std.proofs.Common.{ap, append-nil, append_assoc, arith, inl, inr, length, refl, subst, sym}
 use Rattle.std.specs.Prelude.{All, OnOk, ◌&&◌}
 use Rattle.std.proofs.lemmas.List.{length-append, length_push, map-append}
 use Rattle.std.proofs.lemmas.List.Elements.{All-nil, All-push}
@@ -9,7 +9,6 @@ use Rattle.ira_event.specs.Sink.{SinkState, Takes}
 use Rattle.ira_event.proofs.Writing.{Appends-nothing, Takes-append}
 use Rattle.ira_view_page.specs.Page.{Added}
 use Rattle.ira_view_page.specs.Printable.{IsPrintable}
-use Rattle.ira_view_page.specs.declared.show_fault.ShowFault.{ShowFault}
 use Rattle.ira_view_trail.specs.declared.state_step.StateStep.{StateStep}
 use Rattle.ira_view_trail.specs.declared.trail_step.TrailStep.{TrailStep}
 use Rattle.ira_view_trail.specs.Trail.{IsTrail}

@@ -7,7 +7,8 @@ use Rattle.ira_node.specs.declared.phase.Phase.{Phase}
 use Rattle.ira_node.specs.declared.phase.Phase.TheVariants.{Choosing, Active, Passive, Leader, Yielding}
 use Rattle.ira_view_moment.specs.Moment.{Moment}
 use Rattle.ira_view_moment.specs.declared.node_progress.NodeProgress.{NodeProgress}
-use Rattle.ira_view_show.specs.Leaders.{SomeNodeLeads, missing_text}
+use Rattle.ira_view_election.specs.ElectionAt.{SomeNodeLeads}
+use Rattle.ira_view_show.specs.Leaders.{missing_text}
 use Rattle.ira_view_page.specs.declared.summary.Leads.{Leads}
 use Rattle.ira_view_show.specs.Summary.{leader_from, leads_as, leads_in, or_else}
 

@@ -7,7 +7,6 @@ use Rattle.ira_node.specs.declared.phase.Phase.TheVariants.{Choosing, Active, Pa
 use Rattle.ira_node.specs.declared.wanted.Wanted.{Wanted}
 use Rattle.ira_node.specs.declared.wanted.Wanted.TheVariants.{Draw, Send, Receipt, Yield, Nothing}
 use Rattle.ira_node.specs.Wanted.{wanted_of}
-use Rattle.ira_view_moment.specs.Moment.{LeadsAt, Moment}
 use Rattle.ira_view_moment.specs.declared.node_progress.NodeProgress.{NodeProgress}
 use Rattle.ira_view_page.specs.declared.summary.Leads.{Leads}
 use Rattle.ira_view_page.specs.Words.{state_text}
@@ -44,10 +43,6 @@ node_difference named node =
 
 abbrev pub differences_text : List ℕ → List NodeProgress → List ℕ
 differences_text named nodes = flat_map (node_difference named) (enumerate_from 0 nodes)
-
--- some node leads at the moment
-abbrev pub SomeNodeLeads : Moment → Type 0
-SomeNodeLeads m = (i : ℕ) × LeadsAt m i
 
 -- the line on a ring that nobody leads
 abbrev pub missing_text : Option Leads → List ℕ

@@ -1,7 +1,8 @@
 ghost use Rattle.std.specs.Prelude.{◌≡◌, ◌==◌, ◌↔◌, [], IfOk};
 ghost use Rattle.std.specs.List.{list_any};
 ghost use Rattle.ira_view_moment.specs.Moment.{AreLeaders};
-ghost use Rattle.ira_view_show.specs.Leaders.{SomeNodeLeads, difference_text, differences_text, due_text, is_leader, missing_text};
+ghost use Rattle.ira_view_election.specs.ElectionAt.{SomeNodeLeads};
+ghost use Rattle.ira_view_show.specs.Leaders.{difference_text, differences_text, due_text, is_leader, missing_text};
 ghost use Rattle.ira_view_show.specs.Summary.{leader_from};
 ghost use Rattle.ira_view_page.specs.Page.{Added};
 

@@ -3,6 +3,7 @@ ghost use Rattle.ira_order.specs.Matching.{Matches};
 ghost use Rattle.ira_order.specs.Run.{AreLocalRuns};
 ghost use Rattle.ira_view_moment.specs.ChosenMoment.{IsMomentOf};
 ghost use Rattle.ira_view_show.specs.MomentText.{TellsChosen, tables_text};
+ghost use Rattle.ira_view_election.specs.Election.{standing_of};
 ghost use Rattle.ira_view_page.specs.Page.{Added};
 
 use crate::heading::print_heading;
@@ -11,32 +12,44 @@ use crate::rounds::show_rounds;
 use crate::summary::show_summary;
 use crate::way::show_way;
 use ira_event::{Logs, OutOfMemory};
+use ira_view_election::{Election, election_at, print_election};
 use ira_view_moment::{ChosenMoment, Moment, Rounds};
 use ira_view_page::{Page, PageText};
 use std::alloc::Allocator;
 
 /// Adds the tables of a moment, with how many events each log has in all where that is asked for.
-fn show_tables<A: Allocator, T: Allocator + Copy, R: Allocator, L: Allocator, M: Allocator>(
+fn show_tables<
+    A: Allocator,
+    T: Allocator + Copy,
+    R: Allocator,
+    L: Allocator,
+    M: Allocator,
+    E: Allocator,
+>(
     page: &mut Page<A>,
     alloc: T,
     logs: &Logs<L>,
     moment: &Moment<M>,
     rounds: &Rounds<R>,
+    election: &Election<E>,
     has_all: bool,
 )
     requires { length moment.now.nodes ≡ length logs.now }
-    ensures { Added page.old (tables_text has_all logs.now moment.now rounds.now) page.new }
+    ensures { Added page.old
+        (tables_text has_all logs.now moment.now rounds.now (standing_of election.now)) page.new }
 {
     page.blank();
     show_rounds(page, alloc, rounds);
     show_nodes(page, alloc, logs, moment, has_all);
     page.blank();
     show_way(page, moment);
+    page.blank();
+    print_election(page, election);
 }
 
 /// What the ring looks like at a moment, as the lines that follow the answer for its logs: who leads at their end, or else
-/// which moment it is; the rounds, a line for each node, and what is on its way. Where no moment meets a case it is said
-/// alone.
+/// which moment it is; the rounds, a line for each node, what is on its way, and whether the election is over then or what
+/// comes next. Where no moment meets a case it is said alone.
 pub fn show_moment<A: Allocator + Clone>(
     alloc: A,
     logs: &Logs<A>,
@@ -53,15 +66,17 @@ pub fn show_moment<A: Allocator + Clone>(
         ChosenMoment::AtEnd => {
             let moment = Moment::at_end(alloc.clone()?, logs)?;
             let rounds = Rounds::of(alloc.clone()?, logs, &moment)?;
+            let election = election_at(alloc.clone()?, &moment, logs.size())?;
             show_summary(&mut page, &moment);
-            show_tables(&mut page, &alloc, logs, &moment, &rounds, false);
+            show_tables(&mut page, &alloc, logs, &moment, &rounds, &election, false);
             page.finish()
         }
         ChosenMoment::AtCut(cut) | ChosenMoment::OfCase { cut, .. } => {
             let moment = Moment::at_cut(alloc.clone()?, logs, cut)?;
             let rounds = Rounds::of(alloc.clone()?, logs, &moment)?;
+            let election = election_at(alloc.clone()?, &moment, logs.size())?;
             print_heading(&mut page, chosen);
-            show_tables(&mut page, &alloc, logs, &moment, &rounds, true);
+            show_tables(&mut page, &alloc, logs, &moment, &rounds, &election, true);
             page.finish()
         }
         ChosenMoment::Unmet(_) => {

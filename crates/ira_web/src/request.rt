@@ -6,15 +6,55 @@ use ira_commands::{AskedMoment, AskedRun, RingForm};
 use ira_view_page::NamedText;
 use ira_view_picture::ColumnRange;
 
+// The numbers of requests. The page, the library for other languages and its check name them in this order too.
+const LOG: u64 = 0;
+
+const LOGS: u64 = 1;
+
+const EXPLAIN_LOG: u64 = 2;
+
+const EXPLAIN: u64 = 3;
+
+const EXPLAIN_QUESTION: u64 = 4;
+
+const EXPLAIN_CERT: u64 = 5;
+
+const SHOW: u64 = 6;
+
+const EVENTS: u64 = 7;
+
+const DRAW: u64 = 8;
+
+const DECIDE: u64 = 9;
+
+const CHECK: u64 = 10;
+
+const PAIRS: u64 = 11;
+
+const UPGRADE: u64 = 12;
+
+const MEND: u64 = 13;
+
+const RUN: u64 = 14;
+
+const PAGE: u64 = 15;
+
+const JSON: u64 = 16;
+
+// What begins a moment that isn't the end of the logs.
+const AT_CUT: u64 = 1;
+
+const OF_QUESTION: u64 = 2;
+
 /// The moment of these values, if they are those of one.
 fn moment_of(values: &[u64]) -> Option<AskedMoment<'_>>
     ensures { IfSome result (λ moment. moment_values moment ≡ values.now) }
 {
     match values {
         [] => Some(AskedMoment::AtEnd),
-        [1, events @ ..] => Some(AskedMoment::AtCut(events)),
-        [2] => Some(AskedMoment::OfQuestion(None)),
-        [2, case] => Some(AskedMoment::OfQuestion(Some(*case))),
+        [AT_CUT, events @ ..] => Some(AskedMoment::AtCut(events)),
+        [OF_QUESTION] => Some(AskedMoment::OfQuestion(None)),
+        [OF_QUESTION, case] => Some(AskedMoment::OfQuestion(Some(*case))),
         _ => None,
     }
 }
@@ -102,15 +142,15 @@ impl<'v> Request<'v> {
         ensures { IfSome result (λ request. HasValues request values.now) }
     {
         match values {
-            [0] => Some(Request::OneLog),
-            [8, from, to, moment @ ..] => Request::picture(*from, *to, moment),
-            [11, nodes] => Some(Request::Pairs(*nodes)),
-            [12] => Some(Request::Upgrade),
-            [13, 0] => Some(Request::Mend(false)),
-            [13, 1] => Some(Request::Mend(true)),
-            [14, run @ ..] => Some(Request::Run(run_of(run)?)),
-            [15, from, to, moment @ ..] => Request::html(*from, *to, moment),
-            [16, told @ ..] => Request::told(true, told),
+            [LOG] => Some(Request::OneLog),
+            [DRAW, from, to, moment @ ..] => Request::picture(*from, *to, moment),
+            [PAIRS, nodes] => Some(Request::Pairs(*nodes)),
+            [UPGRADE] => Some(Request::Upgrade),
+            [MEND, 0] => Some(Request::Mend(false)),
+            [MEND, 1] => Some(Request::Mend(true)),
+            [RUN, run @ ..] => Some(Request::Run(run_of(run)?)),
+            [PAGE, from, to, moment @ ..] => Request::html(*from, *to, moment),
+            [JSON, told @ ..] => Request::told(true, told),
             told => Request::told(false, told),
         }
     }
@@ -120,22 +160,22 @@ impl<'v> Request<'v> {
         ensures { IfSome result (λ request. HasValues request (json_values is_json ++ values.now)) }
     {
         match values {
-            [1] => Some(Request::Logs { is_json }),
-            [2] => Some(Request::ExplainLog { is_json }),
-            [3] => Some(Request::Explain { is_json }),
-            [4] => Some(Request::ExplainQuestion {
+            [LOGS] => Some(Request::Logs { is_json }),
+            [EXPLAIN_LOG] => Some(Request::ExplainLog { is_json }),
+            [EXPLAIN] => Some(Request::Explain { is_json }),
+            [EXPLAIN_QUESTION] => Some(Request::ExplainQuestion {
                 is_json,
                 case: None,
             }),
-            [4, case] => Some(Request::ExplainQuestion {
+            [EXPLAIN_QUESTION, case] => Some(Request::ExplainQuestion {
                 is_json,
                 case: Some(*case),
             }),
-            [5] => Some(Request::ExplainCertificate { is_json }),
-            [6, moment @ ..] => Request::lines(is_json, false, moment),
-            [7, moment @ ..] => Request::lines(is_json, true, moment),
-            [9] => Some(Request::Decide { is_json }),
-            [10] => Some(Request::Check { is_json }),
+            [EXPLAIN_CERT] => Some(Request::ExplainCertificate { is_json }),
+            [SHOW, moment @ ..] => Request::lines(is_json, false, moment),
+            [EVENTS, moment @ ..] => Request::lines(is_json, true, moment),
+            [DECIDE] => Some(Request::Decide { is_json }),
+            [CHECK] => Some(Request::Check { is_json }),
             _ => None,
         }
     }
@@ -154,7 +194,7 @@ impl<'v> Request<'v> {
 
     /// A picture from one column to another, at the moment of these values, if they are those of one.
     fn picture(from: u64, to: u64, moment: &'v [u64]) -> Option<Request<'v>>
-        ensures { IfSome result (λ request. HasValues request (8 ∷ from ∷ to ∷ moment.now)) }
+        ensures { IfSome result (λ request. HasValues request (DRAW ∷ from ∷ to ∷ moment.now)) }
     {
         let form = RingForm::Picture(columns(from, to));
         Some(Request::Show(form, moment_of(moment)?))
@@ -162,7 +202,7 @@ impl<'v> Request<'v> {
 
     /// A page to move in such a picture.
     fn html(from: u64, to: u64, moment: &'v [u64]) -> Option<Request<'v>>
-        ensures { IfSome result (λ request. HasValues request (15 ∷ from ∷ to ∷ moment.now)) }
+        ensures { IfSome result (λ request. HasValues request (PAGE ∷ from ∷ to ∷ moment.now)) }
     {
         let form = RingForm::Html(columns(from, to));
         Some(Request::Show(form, moment_of(moment)?))

@@ -93,7 +93,7 @@ const CASES: &[Case] = &[
         words: &["explain", "--dir=ring"],
         status: 0,
         out: "yes\n\n  Node 0 leads in round 1 with ID 2. 2 nodes, 8 events; 3 messages sent, 3 received, \
-              0 on the way.\n",
+              0 on the way.\n\n  The election is over.\n",
         err: "",
         written: &[],
     },
@@ -172,7 +172,8 @@ const CASES: &[Case] = &[
               0  initiator       1      4      1     0         0        0  \
               active in round 1 with ID 2, owes 1 2 1 clean\n     \
               1  initiator       0      4      0     0         0        0  choosing in round 1\n\n  \
-              No message is on its way.\n",
+              No message is on its way.\n\n  \
+              The election isn't over. What comes next:\n  node 0 sends 1 2 1 clean\n  node 1 draws\n",
         err: "",
         written: &[],
     },
@@ -209,14 +210,16 @@ const CASES: &[Case] = &[
     Case {
         words: &["show", "--json", "--at=0,0", "0.log", "1.log"],
         status: 0,
-        out: "{\"answer\":\"yes\",\"cut\":[0,0],\"events\":8,\"leaders\":[0],\"nodes\":2,\"received\":3,\
-              \"sent\":3,\"status\":0,\"type\":\"answer\",\"version\":1}\n\
+        out: "{\"answer\":\"yes\",\"cut\":[0,0],\"events\":8,\"leaders\":[0],\"nodes\":2,\"over\":true,\
+              \"received\":3,\"sent\":3,\"status\":0,\"type\":\"answer\",\"version\":1}\n\
               {\"draws\":0,\"dropped\":0,\"events\":0,\"file\":\"0.log\",\"node\":0,\"of\":4,\
               \"phase\":\"choosing\",\"received\":0,\"round\":1,\"sent\":0,\"start\":\"initiator\",\
               \"type\":\"node\"}\n\
               {\"draws\":0,\"dropped\":0,\"events\":0,\"file\":\"1.log\",\"node\":1,\"of\":4,\
               \"phase\":\"choosing\",\"received\":0,\"round\":1,\"sent\":0,\"start\":\"initiator\",\
-              \"type\":\"node\"}\n",
+              \"type\":\"node\"}\n\
+              {\"next\":\"draw\",\"node\":0,\"type\":\"next\"}\n\
+              {\"next\":\"draw\",\"node\":1,\"type\":\"next\"}\n",
         err: "",
         written: &[],
     },

@@ -35,5 +35,5 @@ returns-then-not-rules_out-clause-verdict g c = λ case before differ own other.
     not_before c.if-step.false
     (subst (IsFront logs case before s.node) (sym c.if-step-front.false) front)
     (subst (IsFront logs case before s.other) (sym c.if-step-other_front.false) other_front)
-    (λ before. (let t = c.rules_out.ensures.1 before in cc))
+    (λ before. (let t = c.rules_out.ensures.before.1 before in cc))
     refl

@@ -5,8 +5,8 @@ use Rattle.ira_cert.proofs.soundness.rules_out.Goals as goal
 use Rattle.ira_cert.proofs.soundness.rules_out.Goals.{then-step-eq0-via-then-step-eq0}
 use Rattle.ira_cert.proofs.soundness.rules_out.Goals.{then-step-eq0-via-else-step-eq0+then-step-len-2}
 
-pub returns-then-step-len : goal.returns-then-step-len
-returns-then-step-len g c =
+pub returns-then-step-len-clause-before : goal.returns-then-step-len-clause-before
+returns-then-step-len-clause-before g c =
     let logs = (g.C.HappenedBefore.logs_of c.args.ordered.now) in let s = c.args.step.now in
     let at = subst (λ (ls : List Log). slice_get ls s.node
     ≡ Some c.log.result.now) c.logs-logs.ensures c.log.ensures.value in (
@@ -15,8 +15,8 @@ returns-then-step-len g c =
           (omega (arith, c.len.ensures.value)) before),
     )
 
-pub returns-then-step-eq0 : goal.returns-then-step-eq0
-returns-then-step-eq0 g c =
+pub returns-then-step-eq0-clause-before : goal.returns-then-step-eq0-clause-before
+returns-then-step-eq0-clause-before g c =
     let logs = (g.C.HappenedBefore.logs_of c.args.ordered.now) in let s = c.args.step.now in
     elim c.then-step-eq0.branch [
       | then-step-eq0-via-then-step-eq0 w ↦ (

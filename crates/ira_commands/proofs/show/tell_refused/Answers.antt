@@ -1,7 +1,8 @@
 use Rattle.std.specs.Prelude.{None}
 use Rattle.ira_audit.specs.declared.answer.Answer.TheVariants.{No}
+use Rattle.ira_view_moment.specs.Told.{at_end}
 use Rattle.ira_view.proofs.Htmls.{html_told}
-use Rattle.ira_view.specs.Html.{IsHtmlOf}
+use Rattle.ira_view.specs.Html.{IsHtmlOf, IsPictureTold}
 use Rattle.ira_view_draw.specs.Drawing.{IsRefusedDrawing}
 use Rattle.ira_view_picture.specs.DrawFault.{HasTooManyEvents}
 use Rattle.ira_commands.proofs.Served.{if_ok}
@@ -30,7 +31,7 @@ returns-in_ok-clone-in-Html g c = λ names texts told.
     let from = c.in-Html.columns.from in
     let to = c.in-Html.columns.to in
     let AreTold = IsRefusalToldOf g.row.A.Denot names texts logs in
-    let IsPicture = IsRefusedDrawing logs.logs from to in
+    let IsPicture = IsPictureTold logs.logs at_end None from to in
     let html = html_told IsPicture AreTold c.args.told.now c.refused_html-page.result (rw c.in-Html.is at told)
     c.refused_html-page.ensures.html in
     rw c.in-Html.is (if_ok c.tell_picture-in-Html.result (λ reply told.

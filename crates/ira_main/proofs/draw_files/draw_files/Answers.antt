@@ -1,99 +1,86 @@
-use Rattle.std.proofs.Common.{◌∙◌, Ok, inl, inr, refl, rules, sym}
+use Rattle.std.proofs.Common.{List, None, Ok, Some, ap, length, refl, rules, sym, ℕ, ◌∙◌, ◌≡◌}
 use Rattle.std.proofs.lemmas.List.{length-map}
+use Rattle.std.specs.String.{string_bytes}
+use Rattle.std.proofs.lemmas.Result.{err_from_is_err_and}
+use Rattle.ira_audit.specs.RingAudit.{HasTaken}
 use Rattle.ira_audit.proofs.Zipped.{zipped_length}
 use Rattle.ira_main_files.specs.FileName.{file_name}
-use Rattle.ira_main.proofs.FilesRead.{of_back, of_front, reads_both}
+use Rattle.ira_main.proofs.GivenFiles.{no_memory}
 use Rattle.ira_main.specs.FilesRead.{names_of}
-use Rattle.ira_main.specs.Show.{moment_names, moment_texts}
-use Rattle.ira_main.specs.declared.program_fault.ProgramFault.TheVariants.{OutOfMemory}
+use Rattle.ira_main.specs.Moment.{question_of}
+use Rattle.ira_main.specs.NamedFile.{texts_in}
 use Rattle.ira_main.proofs.draw_files.draw_files.Goals as goal
 
-pub returns-in_err-names : goal.returns-in_err-names
-returns-in_err-names g c = inr (refl, (_, c.in_err-names.ensures, refl, search rules))
+pub returns-in_err-first : goal.returns-in_err-first
+returns-in_err-first g c =
+    let p = err_from_is_err_and c.from_residual.result c.from_residual.ensures.1 in
+    rw (p.1, p.2) (rw c.question_of.ensures at c.in_err-first.ensures)
 
-pub returns-in_err-keep_inputs : goal.returns-in_err-keep_inputs
-returns-in_err-keep_inputs g c =
-    let why = rw (
-      c.deref.ensures.value,
-      c.asked_name.ensures c.in_ok-names.names.items,
-    ) at c.in_err-keep_inputs.ensures in
-    elim why [
-      | inl replacing ↦ inl (_, c.in_ok-names.ensures, inr (refl, (_, inl replacing, refl, search rules)))
-      | inr memory ↦ inl (_, c.in_ok-names.ensures, inr (refl, (_, inr (inr memory), refl, search rules)))
-    ]
+pub returns-in_err-draw_read : goal.returns-in_err-draw_read
+returns-in_err-draw_read g c =
+    let p = err_from_is_err_and c.from_residual-in_err-draw_read.result c.from_residual-in_err-draw_read.ensures.1 in
+    rw (p.1, p.2) (
+    no_memory g.F.TextSource.reads (Some c.args.draw.now.picture) (question_of c.args.draw.now.moment) None c.args.draw.now.logs c.args.shelf.now _ refl)
 
-pub returns-in_err-question : goal.returns-in_err-question
-returns-in_err-question g c =
-    let logs = names_of c.in_ok-names.names.items in
-    let asked = moment_names c.args.draw.now.moment in
-    inl (
-      _,
-      c.in_ok-names.ensures,
-      inr (
-        refl,
-        (
-          _,
-          inr (of_front g.F.TextSource.reads asked logs _ _ c.in_err-question.ensures),
-          refl,
-          search rules,
-        ),
-      ),
-    )
+pub draw_read-requires : goal.draw_read-requires
+draw_read-requires g c =
+    let given = c.in_ok-first.field-0 in
+    let many : length c.deref.result.now ≡ length c.deref-then-is_page.result.now =
+    rw (c.deref.ensures.value, c.deref-then-is_page.ensures.value)
+    (sym (length-map given.first.names.items file_name) ∙ sym (ap length c.in_ok-first.ensures.1.named)
+    ∙ length-map given.logs.items (λ file. string_bytes file.name)) in
+    search rules
 
-pub returns-in_err-clone : goal.returns-in_err-clone
-returns-in_err-clone g c = inl (_, c.in_ok-names.ensures, inr (refl, (OutOfMemory, inr (inr refl), refl, search rules)))
+pub returns-then-is_page : goal.returns-then-is_page
+returns-then-is_page g c =
+    let given = rw c.question_of.ensures at c.in_ok-first.ensures in
+    let logs = rw (c.deref-then-is_page.ensures.value, c.bytes.ensures) at c.in_ok-draw_read.ensures in
+    record {
+      names = c.in_ok-first.field-0.first.names.items;
+      asked = c.in_ok-first.field-0.first.question;
+      certified = c.in_ok-first.field-0.first.certificate;
+      texts = texts_in c.in_ok-first.field-0.logs.items;
+      first = given.0;
+      given = given.1.given;
+      reply_is = rw (sym c.is_page.ensures ∙ c.if-is_page.true) (rw given.1.named at logs);
+    }
 
-pub returns-in_err-read : goal.returns-in_err-read
-returns-in_err-read g c =
-    let logs = names_of c.in_ok-names.names.items in
-    let asked = moment_names c.args.draw.now.moment in
-    let fault = rw c.deref-2.ensures.value at c.in_err-read.ensures in
-    inl (
-      _,
-      c.in_ok-names.ensures,
-      inr (
-        refl,
-        (
-          _,
-          inr (of_back g.F.TextSource.reads asked logs _ _ _ c.in_ok-question.ensures fault),
-          refl,
-          search rules,
-        ),
-      ),
-    )
+pub returns-in_err-first-2 : goal.returns-in_err-first-2
+returns-in_err-first-2 g c =
+    let p = err_from_is_err_and c.from_residual-in_err-first-2.result c.from_residual-in_err-first-2.ensures.1 in
+    rw (p.1, p.2) (rw c.question_of.ensures at c.in_err-first-2.ensures)
 
-pub draw_judged-requires : goal.draw_judged-requires
-draw_judged-requires g c =
-    let names = c.in_ok-names.names.items in
-    let read = rw c.deref-2.ensures.value at c.in_ok-read.ensures in
-    let many = sym (length-map names file_name)
-    ∙ sym (zipped_length (λ name text. g.F.TextSource.reads c.args.shelf.now name (Ok text)) (names_of names) read.0
-    read.1) in
-    (read.0, read.2, rw c.deref-3.ensures.value many)
+pub returns-in_err-draw_taken : goal.returns-in_err-draw_taken
+returns-in_err-draw_taken g c =
+    let p = err_from_is_err_and c.from_residual-in_err-draw_taken.result c.from_residual-in_err-draw_taken.ensures.1 in
+    rw (p.1, p.2) (
+    no_memory g.F.TextSource.reads (Some c.args.draw.now.picture) (question_of c.args.draw.now.moment) None c.args.draw.now.logs c.args.shelf.now _ refl)
+
+pub draw_taken-requires : goal.draw_taken-requires
+draw_taken-requires g c =
+    let given = c.in_ok-first-2.ensures in
+    let names = c.in_ok-first-2.field-0.first.names.items in
+    let taken : (texts : List (List ℕ)) × HasTaken c.in_ok-first-2.field-0.audit texts
+    × (length c.deref-2.result.now ≡ length texts) = (
+      given.1,
+      given.2,
+      rw c.deref-2.ensures.value (sym (length-map names file_name)
+          ∙ sym (zipped_length (λ name text. g.F.TextSource.reads c.args.shelf.now name (Ok text)) (names_of names) given.1
+          given.3)),
+    ) in
+    search rules
 
 pub returns : goal.returns
 returns g c =
-    let draw = c.args.draw.now in
-    let logs = names_of c.in_ok-names.names.items in
-    let read = rw c.deref-2.ensures.value at c.in_ok-read.ensures in
-    let kept = rw (
-      c.deref.ensures.value,
-      c.asked_name.ensures c.in_ok-names.names.items,
-    ) at c.in_ok-keep_inputs.ensures in
-    elim (rw c.deref-3.ensures.value at c.draw_judged.ensures read.0 read.2 read.3) [
-      | inl told ↦
-          inl (
-            _,
-            c.in_ok-names.ensures,
-            inl (record {
-              kept = kept;
-              question = c.in_ok-question.question;
-              texts = read.0;
-              given = reads_both g.F.TextSource.reads (moment_names draw.moment) logs _
-                  (moment_texts draw.moment c.in_ok-question.question) _ c.in_ok-question.ensures read.1;
-              told = rw c.bytes.ensures at told;
-            }),
-          )
-      | inr full ↦
-          inl (_, c.in_ok-names.ensures, inr (full.0, (OutOfMemory, inr (inr refl), full.1, full.2)))
-    ]
+    let given = rw c.question_of.ensures at c.in_ok-first-2.ensures in
+    record {
+      names = c.in_ok-first-2.field-0.first.names.items;
+      asked = c.in_ok-first-2.field-0.first.question;
+      certified = c.in_ok-first-2.field-0.first.certificate;
+      texts = given.1;
+      first = given.0;
+      given = given.3;
+      reply_is = rw (sym c.is_page.ensures ∙ c.if-is_page.false)
+          (rw c.bytes-2.ensures at (c.in_ok-draw_taken.ensures (names_of c.in_ok-first-2.field-0.first.names.items)
+          given.1 given.2));
+    }

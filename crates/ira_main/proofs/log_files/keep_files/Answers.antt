@@ -1,4 +1,4 @@
-use Rattle.std.proofs.Common.{◌≡◌, ◌∙◌, ◌+◌, ◌<◌, [], ◌∷◌, ◌++◌, append_assoc, ap, arith, length, length-append, sym}
+use Rattle.std.proofs.Common.{◌≡◌, ◌∙◌, ◌<◌, [], ◌∷◌, ◌++◌, append_assoc, ap, arith, length, length-append, sym}
 use Rattle.std.specs.Vec.Iter.{into_iter_items}
 use Rattle.ira_main_files.specs.Shelf.{writing_by}
 use Rattle.ira_main.proofs.LogFiles.{named_more}

@@ -1,4 +1,4 @@
-use Rattle.std.proofs.Common.{◌≡◌, ◌∙◌, ◌+◌, ◌≤◌, [], ◌∷◌, ◌++◌, ap, arith, drop, inl, inr, length, length-append, subst, sym, take}
+use Rattle.std.proofs.Common.{◌≡◌, ◌∙◌, ◌+◌, ◌≤◌, ap, arith, drop, inl, inr, length, length-append, subst, sym, take}
 use Rattle.std.proofs.lemmas.List.{take_all}
 use Rattle.ira_main_files.specs.Shelf.{writing_by}
 use Rattle.ira_main.proofs.LogFiles.{drafted_next, named_or_not}

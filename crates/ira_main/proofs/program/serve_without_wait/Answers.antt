@@ -1,9 +1,10 @@
 use Rattle.std.proofs.Common.{◌≡◌, ◌∙◌, Err, List, [], ◌∷◌, Ok, Result, ℕ, ap, inl, inr, map, refl, subst, sym}
 use Rattle.ira_main_cli.specs.Request.{IsMadeOf, IsVersionLine}
 use Rattle.ira_main.specs.Serve.CommandOutcome.{decided, drawn, each, judged, mended, pairs, recorded, refused, shown}
-use Rattle.ira_main.specs.Serve.CommandOutcome.{upgraded, versioned}
+use Rattle.ira_main.specs.Serve.CommandOutcome.{upgraded}
 use Rattle.ira_main.specs.Serve.CommandOutcome.{explained as explained_of_logs}
 use Rattle.ira_main.specs.Serve.Serves.{explained, with_words, without_words}
+use Rattle.ira_main.proofs.Delivering.{told, told_and_kept, told_and_recorded}
 use Rattle.ira_main.proofs.program.serve_without_wait.Goals as goal
 
 none_of_none : {X Y : Type 0} (f : X → Y) (xs : List X) → map f xs ≡ [] → xs ≡ []
@@ -30,12 +31,13 @@ returns-in-Err-clause-served g c =
 pub returns-in-OneLog-clause-served : goal.returns-in-OneLog-clause-served
 returns-in-OneLog-clause-served g c =
     let made = subst (IsMadeOf (map (λ w. w.now) c.args.words.now)) c.in-OneLog.is c.in-Ok.ensures.made in
-    without_words made refl c.judge_input.ensures.judged
+    without_words made refl (told _ _ _ _ _ _ c.judge_input.ensures.judged c.deliver.ensures)
 
 pub returns-in-Logs-clause-served : goal.returns-in-Logs-clause-served
 returns-in-Logs-clause-served g c =
     let made = subst (IsMadeOf (map (λ w. w.now) c.args.words.now)) c.in-Logs.is c.in-Ok.ensures.made in
-    with_words (some_words _ _ _ made.line.first) refl (judged _ made refl c.judge_files.ensures)
+    with_words (some_words _ _ _ made.line.first) refl (judged _ made refl
+    (told _ _ _ _ _ _ c.judge_files.ensures c.deliver-in-Logs.ensures))
 
 pub returns-in-Each-clause-served : goal.returns-in-Each-clause-served
 returns-in-Each-clause-served g c =
@@ -45,24 +47,20 @@ returns-in-Each-clause-served g c =
 pub returns-in-OneLog-answer-clause-served : goal.returns-in-OneLog-answer-clause-served
 returns-in-OneLog-answer-clause-served g c =
     let made = subst (IsMadeOf (map (λ w. w.now) c.args.words.now)) c.in-Explain.is c.in-Ok.ensures.made in
-    explained _ made c.in-OneLog-answer.is refl c.explain_input.ensures.judged
+    explained _ made c.in-OneLog-answer.is refl (told _ _ _ _ _ _ c.explain_input.ensures.judged
+    c.deliver-in-OneLog-answer.ensures)
 
 pub returns-in-Logs-answer-clause-served : goal.returns-in-Logs-answer-clause-served
 returns-in-Logs-answer-clause-served g c =
     let made = subst (IsMadeOf (map (λ w. w.now) c.args.words.now)) c.in-Explain.is c.in-Ok.ensures.made in
     with_words (some_words _ _ _ made.first) refl (explained_of_logs _ made refl
-    (rw c.in-Logs-answer.is c.explain_files.ensures))
+    (rw c.in-Logs-answer.is (told _ _ _ _ _ _ c.explain_files.ensures c.deliver-in-Logs-answer.ensures)))
 
 pub returns-in-Findings-clause-served : goal.returns-in-Findings-clause-served
 returns-in-Findings-clause-served g c =
     let made = subst (IsMadeOf (map (λ w. w.now) c.args.words.now)) c.in-Explain.is c.in-Ok.ensures.made in
     with_words (some_words _ _ _ made.first) refl (explained_of_logs _ made refl
-    (rw c.in-Findings.is c.explain_question_files.ensures))
-
-pub returns-in-Certificate-clause-served : goal.returns-in-Certificate-clause-served
-returns-in-Certificate-clause-served g c =
-    let made = subst (IsMadeOf (map (λ w. w.now) c.args.words.now)) c.in-Explain.is c.in-Ok.ensures.made in
-    (_, made, refl, c.in-Certificate.is, record { input_is = refl; shelf_is = refl; out_is = refl })
+    (rw c.in-Findings.is (told _ _ _ _ _ _ c.explain_question_files-reply.ensures c.deliver-in-Findings.ensures)))
 
 pub returns-in-Show-clause-served : goal.returns-in-Show-clause-served
 returns-in-Show-clause-served g c =
@@ -72,7 +70,8 @@ returns-in-Show-clause-served g c =
 pub returns-in-Draw-clause-served : goal.returns-in-Draw-clause-served
 returns-in-Draw-clause-served g c =
     let made = subst (IsMadeOf (map (λ w. w.now) c.args.words.now)) c.in-Draw.is c.in-Ok.ensures.made in
-    with_words (some_words _ _ _ made.first) refl (drawn _ made c.draw_files.ensures)
+    with_words (some_words _ _ _ made.first) refl (drawn _ made (told_and_kept _ _ _ _ _ _ _ _ _ _ c.draw_files-reply.ensures
+    c.deliver_and_keep.ensures))
 
 pub returns-in-Check-clause-served : goal.returns-in-Check-clause-served
 returns-in-Check-clause-served g c =
@@ -82,29 +81,29 @@ returns-in-Check-clause-served g c =
 pub returns-in-Decide-clause-served : goal.returns-in-Decide-clause-served
 returns-in-Decide-clause-served g c =
     let made = subst (IsMadeOf (map (λ w. w.now) c.args.words.now)) c.in-Decide.is c.in-Ok.ensures.made in
-    with_words (some_words _ _ _ made.first) refl (decided _ made c.decide_files.ensures)
+    with_words (some_words _ _ _ made.first) refl (decided _ made (told_and_kept _ _ _ _ _ _ _ _ _ _ c.decide_files-reply.ensures
+    c.deliver_and_keep-in-Decide.ensures))
 
 pub returns-in-Pairs-clause-served : goal.returns-in-Pairs-clause-served
 returns-in-Pairs-clause-served g c =
     let made = subst (IsMadeOf (map (λ w. w.now) c.args.words.now)) c.in-Pairs.is c.in-Ok.ensures.made in
-    with_words (some_words _ _ _ made.first) refl (pairs _ made refl c.print_pairs.ensures)
+    with_words (some_words _ _ _ made.first) refl (pairs _ made refl (told _ _ _ _ _ _ c.pairs.ensures
+    c.deliver-in-Pairs.ensures))
 
 pub returns-then-ring-clause-served : goal.returns-then-ring-clause-served
 returns-then-ring-clause-served g c =
     let made = subst (IsMadeOf (map (λ w. w.now) c.args.words.now)) c.in-Run.is c.in-Ok.ensures.made in
-    with_words (some_words _ _ _ made.first) refl (recorded _ made c.record_run_alone.ensures)
+    with_words (some_words _ _ _ made.first) refl (recorded _ made (told_and_recorded _ _ _ _ _ _ _ _ _ _ c.record_run_alone-reply.ensures
+    c.record_and_deliver.ensures))
 
 pub returns-in-Upgrade-clause-served : goal.returns-in-Upgrade-clause-served
 returns-in-Upgrade-clause-served g c =
     let made = subst (IsMadeOf (map (λ w. w.now) c.args.words.now)) c.in-Upgrade.is c.in-Ok.ensures.made in
-    with_words (some_words _ _ _ made.first) refl (upgraded _ made c.upgrade_files.ensures)
+    with_words (some_words _ _ _ made.first) refl (upgraded _ made (told_and_recorded _ _ _ _ _ _ _ _ _ _ c.upgrade_files-reply.ensures
+    c.record_and_deliver-in-Upgrade.ensures))
 
 pub returns-in-Mend-clause-served : goal.returns-in-Mend-clause-served
 returns-in-Mend-clause-served g c =
     let made = subst (IsMadeOf (map (λ w. w.now) c.args.words.now)) c.in-Mend.is c.in-Ok.ensures.made in
-    with_words (some_words _ _ _ made.first) refl (mended _ made c.mend_files.ensures)
-
-pub returns-in-Version-clause-served : goal.returns-in-Version-clause-served
-returns-in-Version-clause-served g c =
-    let made = subst (IsMadeOf (map (λ w. w.now) c.args.words.now)) c.in-Version.is c.in-Ok.ensures.made in
-    with_words (words_of_version _ made) refl (versioned made refl c.print_version.ensures)
+    with_words (some_words _ _ _ made.first) refl (mended _ made (told_and_recorded _ _ _ _ _ _ _ _ _ _ c.mend_files-reply.ensures
+    c.record_and_deliver-in-Mend.ensures))

@@ -1,54 +1,37 @@
-use Rattle.std.proofs.Common.{inl, inr, refl, rules}
-use Rattle.ira_main.specs.Upgrade.Upgrades.{no_ring, of_ring, unread}
-use Rattle.ira_main.specs.declared.program_fault.ProgramFault.TheVariants.{OutOfMemory}
+use Rattle.std.proofs.Common.{refl, None}
+use Rattle.std.proofs.lemmas.Result.{err_from_is_err_and}
+use Rattle.ira_main.proofs.GivenFiles.{no_memory}
 use Rattle.ira_main.proofs.upgrade_files.upgrade_files.Goals as goal
-
-pub returns-in_err-names : goal.returns-in_err-names
-returns-in_err-names g c = inr (refl, (_, c.in_err-names.ensures, refl, search rules))
-
-pub returns-in_err-clone : goal.returns-in_err-clone
-returns-in_err-clone g c = inl (_, c.in_ok-names.ensures, unread refl (OutOfMemory, inr refl, refl, search rules))
 
 pub returns-in_err-audit : goal.returns-in_err-audit
 returns-in_err-audit g c =
-    inl (
-      _,
-      c.in_ok-names.ensures,
-      unread refl (
-        _,
-        rw c.deref.ensures.value at c.in_err-audit.ensures,
-        refl,
-        search rules,
-      ),
-    )
+    let p = err_from_is_err_and c.from_residual.result c.from_residual.ensures.1 in
+    rw (p.1, p.2) (rw c.logs.ensures at c.in_err-audit.ensures)
 
-pub returns-in-Ok : goal.returns-in-Ok
-returns-in-Ok g c =
-    let taken = c.in_ok-audit.ensures in
-    let ring = c.in-Ok.ensures taken.0 taken.1 in
-    inl (
-      _,
-      c.in_ok-names.ensures,
-      of_ring taken.0 c.in-Ok.logs (rw c.deref.ensures.value at taken.2) ring.0 ring.1
-          c.keep_upgrades.ensures,
-    )
+pub returns-in_err-clone : goal.returns-in_err-clone
+returns-in_err-clone g c =
+    let p = err_from_is_err_and c.from_residual-in_err-clone.result c.from_residual-in_err-clone.ensures.1 in
+    rw (p.1, p.2) (
+    no_memory g.F.TextSource.reads None None None c.args.upgrade.now.logs c.args.shelf.now _ refl)
 
-pub report-requires : goal.report-requires
-report-requires g c =
-    let taken = c.in_ok-audit.ensures in
-    let why = rw c.in-Err-No.field-0-is at (c.in-Err-No.ensures taken.0 taken.1) in
-    why.2
+pub returns-in_err-upgrade_taken : goal.returns-in_err-upgrade_taken
+returns-in_err-upgrade_taken g c =
+    let p = err_from_is_err_and c.from_residual-in_err-upgrade_taken.result c.from_residual-in_err-upgrade_taken.ensures.1 in
+    rw (p.1, p.2) (
+    no_memory g.F.TextSource.reads None None None c.args.upgrade.now.logs c.args.shelf.now _ refl)
 
-pub returns-in-Err-No : goal.returns-in-Err-No
-returns-in-Err-No g c =
-    let taken = c.in_ok-audit.ensures in
-    let why = rw c.in-Err-No.field-0-is at (c.in-Err-No.ensures taken.0 taken.1) in
-    inl (
-      _,
-      c.in_ok-names.ensures,
-      no_ring taken.0 c.in-Err-No.reason (rw c.deref.ensures.value at taken.2) why.0
-          why.1 refl c.report.ensures,
-    )
+pub upgrade_taken-requires : goal.upgrade_taken-requires
+upgrade_taken-requires g c = (c.in_ok-audit.ensures.1, c.in_ok-audit.ensures.2)
 
 pub returns : goal.returns
-returns g c = inl (_, c.in_ok-names.ensures, unread refl (OutOfMemory, inr refl, refl, refl))
+returns g c =
+    let given = rw c.logs.ensures at c.in_ok-audit.ensures in
+    record {
+      names = _;
+      asked = _;
+      certified = _;
+      texts = given.1;
+      first = given.0;
+      given = given.3;
+      reply_is = c.in_ok-upgrade_taken.ensures given.1 given.2;
+    }

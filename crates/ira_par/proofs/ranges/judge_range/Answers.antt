@@ -44,6 +44,7 @@ loop-k-preserved g c =
     let within : s.node < length counts = c.queue_head_at-own.ensures.place c.in_default.ensures.asked in
     let place : s.node ≡ c.from.result = search rules in
     record {
+      known = c.judge_step.ensures.known;
       places = length-set counts c.from.result _ ∙ c.loop-k.invariant.places;
       counts = subst (λ j. AreMade (take (k + 1) steps) (slice_set counts j (slice_index counts j + 1))) place
           (one_counted steps k s at counts (slice_index counts s.node + 1) within refl c.loop-k.invariant.counts);

@@ -1,4 +1,4 @@
-use Rattle.std.proofs.Common.{◌∙◌, ap, length, map, string_bytes, subst, sym, true}
+use Rattle.std.proofs.Common.{◌∙◌, ◌++◌, ap, length, map, string_bytes, subst, sym, true}
 use Rattle.std.specs.List.{zip}
 use Rattle.std.proofs.lemmas.List.{length-map}
 use Rattle.ira_event.specs.Log.{Log}
@@ -9,6 +9,8 @@ use Rattle.ira_audit.proofs.Zipped.{zipped_length}
 use Rattle.ira_audit.specs.declared.answer.Answer.TheVariants.{No}
 use Rattle.ira_audit.specs.declared.reason.Reason.{Reason}
 use Rattle.ira_view_page.specs.declared.named_text.NamedText.{NamedText}
+use Rattle.ira_view_json.specs.Line.{IsLineOf}
+use Rattle.ira_view_json.specs.PageLine.{explanation_value}
 use Rattle.ira_view.specs.Html.{AreLogLines, IsRefusalTold}
 use Rattle.ira_view.specs.Texts.{texts_of}
 use Rattle.ira_view.specs.ViewText.{IsViewText}
@@ -37,13 +39,16 @@ returns g c =
     let lines =
     subst (λ (logs : List Log). AreLogLines (zip (map (λ (file : NamedText). file.name.now) files) logs) added.0)
     c.logs.ensures.value added.1 in
+    let page = string_bytes c.in_ok-page.page in
     let is : IsRefusalTold g.row.A.Denot files refused (string_bytes c.add_logs.new.told) = (
       explanation,
       line,
+      page,
       added.0,
       rw c.in-Refused.is at c.in_ok-view.ensures.explained,
       subst (λ (r : Reason). IsViewText true (No r) explanation line) c.reason.ensures.value c.in_ok-told.ensures,
+      subst (λ text. IsLineOf (explanation_value text) page) c.as_str.ensures.text c.in_ok-page.ensures,
       lines,
-      added.2,
+      added.2 ∙ ap (λ text. text ++ added.0) (c.in_ok-push_str.ensures.bytes ∙ ap (λ more. line ++ more) c.as_str-2.ensures.value),
     ) in
     rw c.in-Refused.is is

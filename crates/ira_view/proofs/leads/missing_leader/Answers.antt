@@ -1,7 +1,8 @@
 use Rattle.std.proofs.Common.{◌≡◌, ◌↔◌, List, [], ℕ, Result, Ok, Err, IfOk}
 use Rattle.ira_event.specs.Log.{Log}
 use Rattle.ira_view_moment.specs.Moment.{IsMoment, Moment, whole_cut}
-use Rattle.ira_view_show.specs.Leaders.{SomeNodeLeads, missing_text}
+use Rattle.ira_view_election.specs.ElectionAt.{SomeNodeLeads}
+use Rattle.ira_view_show.specs.Leaders.{missing_text}
 use Rattle.ira_view_show.specs.Summary.{leader_from}
 use Rattle.ira_view.specs.Differences.{TellsOfLeader}
 use Rattle.ira_view.proofs.leads.missing_leader.Goals as goal

@@ -17,17 +17,17 @@ returns-in_err-write_nodes g c =
     (g.W.Sink.state c.write_rounds.new.sink) (g.W.Sink.state c.write_nodes.new.sink) is c.in_ok-write_rounds.ensures
     c.in_err-write_nodes.ensures
 
-pub returns-in_err-write_links : goal.returns-in_err-write_links
-returns-in_err-write_links g c =
-    let r = c.from_residual-in_err-write_links.result in
-    let is : r ≡ Err c.in_err-write_links.field-0.0 = search rules in
+pub returns-in_err-write_way : goal.returns-in_err-write_way
+returns-in_err-write_way g c =
+    let r = c.from_residual-in_err-write_way.result in
+    let is : r ≡ Err c.in_err-write_way.field-0.0 = search rules in
     let so_far =
     more_taken (g.W.Sink.state c.args.sink.now) (g.W.Sink.state c.write_rounds.new.sink)
     (g.W.Sink.state c.write_nodes.new.sink) c.in_ok-write_rounds.ensures c.in_ok-write_nodes.ensures
     in
-    failed_then r c.in_err-write_links.field-0.0 (g.W.Sink.state c.args.sink.now)
-    (g.W.Sink.state c.write_nodes.new.sink) (g.W.Sink.state c.write_links.new.sink) is so_far
-    c.in_err-write_links.ensures
+    failed_then r c.in_err-write_way.field-0.0 (g.W.Sink.state c.args.sink.now)
+    (g.W.Sink.state c.write_nodes.new.sink) (g.W.Sink.state c.write_way.new.sink) is so_far
+    c.in_err-write_way.ensures
 
 pub returns : goal.returns
 returns g c =
@@ -37,7 +37,7 @@ returns g c =
     in
     let so_far =
     more_taken (g.W.Sink.state c.args.sink.now) (g.W.Sink.state c.write_nodes.new.sink)
-    (g.W.Sink.state c.write_links.new.sink) nodes c.in_ok-write_links.ensures
+    (g.W.Sink.state c.write_way.new.sink) nodes c.in_ok-write_way.ensures
     in
-    wrote_then c.flush.result (g.W.Sink.state c.args.sink.now) (g.W.Sink.state c.write_links.new.sink)
+    wrote_then c.flush.result (g.W.Sink.state c.args.sink.now) (g.W.Sink.state c.write_way.new.sink)
     (g.W.Sink.state c.flush.new.sink) so_far c.flush.ensures.wrote

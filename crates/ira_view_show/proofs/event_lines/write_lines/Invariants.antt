@@ -1,4 +1,4 @@
-use Rattle.std.proofs.Common.{◌≡◌, ◌-◌, ℕ, List, length}
+use Rattle.std.proofs.Common.{◌≡◌, ◌-◌, List, length}
 use Rattle.ira_event.specs.Sink.{Takes}
 use Rattle.ira_view_trail.specs.declared.trail_step.TrailStep.{TrailStep}
 use Rattle.ira_view_trail.specs.StateTrail.{HasWalked}

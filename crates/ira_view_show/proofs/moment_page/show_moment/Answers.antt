@@ -1,5 +1,6 @@
 use Rattle.std.proofs.Common.{inl, inr, true}
 use Rattle.ira_view_page.proofs.Adding.{◌&◌, finished}
+use Rattle.ira_view_election.specs.Election.{standing_of}
 use Rattle.ira_view_show.proofs.Lines.{ok_then}
 use Rattle.ira_view_show.specs.Heading.{heading_text}
 use Rattle.ira_view_show.specs.MomentText.{TellsMoment}
@@ -17,6 +18,8 @@ returns-in-AtEnd g c =
       moment = c.in_ok-moment-in-AtEnd.moment;
       of_cut = c.in_ok-moment-in-AtEnd.ensures;
       rounds = c.in_ok-rounds-in-AtEnd.rounds;
+      standing = standing_of c.in_ok-election-in-AtEnd.election;
+      stands = c.in_ok-election-in-AtEnd.ensures;
       lines = is;
     })
     text)
@@ -34,6 +37,8 @@ returns-in-AtCut g c =
       moment = c.in_ok-moment-in-AtCut.moment;
       of_cut = rw c.deref.ensures.value at c.in_ok-moment-in-AtCut.ensures;
       rounds = c.in_ok-rounds-in-AtCut.rounds;
+      standing = standing_of c.in_ok-election-in-AtCut.election;
+      stands = c.in_ok-election-in-AtCut.ensures;
       lines = is;
     })
     text

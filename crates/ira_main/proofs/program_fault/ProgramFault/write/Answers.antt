@@ -16,14 +16,11 @@ pub returns-in-WouldOverwrite : goal.returns-in-WouldOverwrite
 returns-in-WouldOverwrite g c =
     rw c.in-WouldOverwrite.is c.write_file_named-in-WouldOverwrite.ensures
 
-pub returns-in-RingSize : goal.returns-in-RingSize
-returns-in-RingSize g c = rw c.in-RingSize.is c.write_bytes-in-RingSize.ensures
-
-pub returns-in-CertificatePastLimits : goal.returns-in-CertificatePastLimits
-returns-in-CertificatePastLimits g c = rw c.in-CertificatePastLimits.is c.write_bytes-in-CertificatePastLimits.ensures
-
 pub returns-in-CannotWriteAnswer : goal.returns-in-CannotWriteAnswer
 returns-in-CannotWriteAnswer g c = rw c.in-CannotWriteAnswer.is c.write_bytes-in-CannotWriteAnswer.ensures
 
 pub returns-in-OutOfMemory : goal.returns-in-OutOfMemory
 returns-in-OutOfMemory g c = rw c.in-OutOfMemory.is c.write_bytes-in-OutOfMemory.ensures
+
+pub returns-in-Refused : goal.returns-in-Refused
+returns-in-Refused g c = rw c.in-Refused.is c.write.ensures

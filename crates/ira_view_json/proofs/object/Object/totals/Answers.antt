@@ -8,3 +8,4 @@ returns g c =
     & rw c.totals-totals.ensures at c.number-3.ensures & rw c.totals-totals.ensures at c.number-4.ensures
     & rw c.totals-totals.ensures at c.number-5.ensures
     & known _ (of_numbers c.args.leaders.now c.numbers_value.result c.numbers_value.ensures) c.value.ensures
+    & rw c.is_empty.ensures at c.over.ensures

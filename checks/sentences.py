@@ -1,0 +1,54 @@
+"""Looks each sentence of the views up in what is expected of the program: each literal of their code, cut where a
+value stands in it, has to stand in an example, a page or a test. What no run can bring out is listed here.
+
+    python3 checks/sentences.py
+"""
+import glob
+import os
+import re
+import sys
+
+from pictures import HERE
+
+LITERAL = re.compile(r'"((?:[^"\\]|\\.)*)"', re.S)
+# A literal shorter than this tells no sentence.
+LEAST = 9
+# A log of at most 100,000 records has no round, hop or term near 1,000,000, and no command is given no file.
+NEVER = {'A hop is at most 1,000,000.', 'A round is at most 1,000,000.', 'A term is at most 1,000,000.',
+         'the round is to be raised', 'the term is to be raised', 'No file is given.'}
+
+
+def words(text):
+    """Without white space, so that a line that was broken is one."""
+    return re.sub(r'\s+', '', text)
+
+
+def main():
+    top = os.path.join(HERE, '..')
+    expected = ''
+    for kind in ('examples/*.txt', 'docs/*.md', 'docs/*.svg', 'README.md', 'crates/test_*/src/*.rt'):
+        for name in sorted(glob.glob(os.path.join(top, kind))):
+            with open(name, encoding='utf-8') as file:
+                expected += words(file.read().replace('&lt;', '<').replace('&gt;', '>').replace('&amp;', '&'))
+    count, missing = 0, []
+    for name in sorted(glob.glob(os.path.join(top, 'crates', 'ira_view_*', 'src', '*.rt'))):
+        with open(name, encoding='utf-8') as file:
+            code = re.sub(r'^\s*//.*', '', file.read(), flags=re.M)
+        if name.endswith('style.rt') or 'ira_view_html' in name:
+            continue
+        for literal in LITERAL.findall(re.sub(r"b?'(\\.|[^'\\])'", '', code)):
+            literal = re.sub(r'\\\n\s*', '', literal).replace('\\"', '"').replace('\\n', '\n').replace('\\\\', '\\')
+            for said in re.split(r'\{\w*\}', literal):
+                if len(said.strip()) < LEAST or said in NEVER:
+                    continue
+                count += 1
+                if words(said) not in expected:
+                    missing.append(f'{os.path.relpath(name, top)}: {said!r}')
+    for line in missing:
+        print(line)
+    print(f'{count} pieces of sentences, {len(missing)} of them in no expected output')
+    return bool(missing)
+
+
+if __name__ == '__main__':
+    sys.exit(main())

@@ -1,0 +1,95 @@
+-- How replies reach the output and the shelf.
+use Rattle.std.proofs.Common.{◌≡◌, ℕ, List, Option, None, Some, Result, Ok, Err, inl, inr, refl, subst}
+use Rattle.std.specs.Borrow.{Bor}
+use Rattle.std.specs.Prelude.{MatchResult}
+use Rattle.ira_event.specs.Sink.{SinkState}
+use Rattle.ira_commands.specs.Reply.{MadeFiles, Reply}
+use Rattle.ira_commands.specs.Reply.MadeFiles.{logs_of, no_files, one_text}
+use Rattle.ira_commands.specs.declared.command_fault.CommandFault.{CommandFault}
+use Rattle.ira_main_files.specs.Shelf.{Writing}
+use Rattle.ira_main.specs.Delivery.{KeepsReply, KeepsResult, KeepsText, PrintsReply, PrintsResult, RecordsResult, Tells}
+use Rattle.ira_main.specs.Delivery.{TellsAndKeeps, TellsAndRecords, outcome_of}
+use Rattle.ira_main.specs.Delivery.KeepsReply.{kept, printed, stopped, unwritten}
+use Rattle.ira_main.specs.Outcome.{Outcome}
+use Rattle.ira_main.specs.declared.program_fault.ProgramFault.{ProgramFault}
+use Rattle.ira_view.specs.declared.status.Status.{Status}
+
+-- a reply that ends with a status isn't refused
+ended : (status s : Status) (fault : Option CommandFault) → ◌≡◌ {A = Outcome} (Ok s) (outcome_of status fault)
+    → (fault ≡ None) × (s ≡ status)
+ended status s None e = (refl, cc)
+ended status s (Some f) e = absurd cc
+
+module _ {S : Type 0} (writes : Writing S) (reply : Reply) (out out' : SinkState) where
+  -- a reply that was printed, and is refused, makes no file; nor does one in which the output stopped
+  pub none_kept : (name : Option (Bor (List ℕ))) (old : S) (f : ProgramFault) → PrintsReply reply out out' (Err f)
+      → KeepsReply writes name reply old old out out' (Err f)
+  none_kept name old f (inl took) =
+      printed (λ file text named fine is.
+      let e = subst (λ (fault : Option CommandFault). ◌≡◌ {A = Outcome} (Err f) (outcome_of reply.status fault)) fine took.1
+      in cc) refl took.0 took.1
+  none_kept name old f (inr stop) = stopped stop.0 refl stop.1
+
+  -- where no name is given nothing is made
+  pub nothing_kept : (name : Option (Bor (List ℕ))) (old : S) (status : Status) → name ≡ None
+      → PrintsReply reply out out' (Ok status) → KeepsReply writes name reply old old out out' (Ok status)
+  nothing_kept name old status none (inl took) =
+      printed (λ file text named fine is. cc) refl took.0 took.1
+  nothing_kept name old status none (inr stop) = absurd (let e = stop.1 in cc)
+
+  -- with a name, what comes of its text, if there is one
+  pub text_kept : (name : Option (Bor (List ℕ))) (file : Bor (List ℕ)) (files : MadeFiles) (old new : S) (status : Status)
+      → name ≡ Some file → reply.files ≡ files → PrintsReply reply out out' (Ok status)
+      → KeepsText writes file files old new (Ok tt) → KeepsReply writes name reply old new out out' (Ok status)
+  text_kept name file (one_text text) old new status named is (inl took) wrote =
+      let end = ended reply.status status reply.fault took.1 in
+      kept file text named end.0 is took.0 wrote (let e = end.1 in cc)
+  text_kept name file no_files old new status named is (inl took) wrote =
+      printed (λ f t n fine one. cc) wrote.0 took.0 took.1
+  text_kept name file (logs_of logs) old new status named is (inl took) wrote =
+      printed (λ f t n fine one. cc) wrote.0 took.0 took.1
+  text_kept name file files old new status named is (inr stop) wrote = absurd (let e = stop.1 in cc)
+
+  pub text_unkept : (name : Option (Bor (List ℕ))) (file : Bor (List ℕ)) (files : MadeFiles) (old new : S)
+      (status : Status) (f : ProgramFault) → name ≡ Some file → reply.files ≡ files
+      → PrintsReply reply out out' (Ok status) → KeepsText writes file files old new (Err f)
+      → KeepsReply writes name reply old new out out' (Err f)
+  text_unkept name file (one_text text) old new status f named is (inl took) wrote =
+      let end = ended reply.status status reply.fault took.1 in
+      unwritten file text wrote.0 named end.0 is took.0 wrote.1 (let e = wrote.2 in cc)
+  text_unkept name file no_files old new status f named is (inl took) wrote = absurd (let e = wrote.1 in cc)
+  text_unkept name file (logs_of logs) old new status f named is (inl took) wrote = absurd (let e = wrote.1 in cc)
+  text_unkept name file files old new status f named is (inr stop) wrote = absurd (let e = stop.1 in cc)
+
+module _ (IsReply : Reply → Type 0) (IsFault : ProgramFault → Type 0) (r : Result Reply ProgramFault)
+    (out out' : SinkState) (outcome : Outcome) where
+  -- such a reply is told, or such a fault
+  pub told : MatchResult r IsReply IsFault → PrintsResult r out out' outcome → Tells IsReply IsFault out out' outcome
+  told = told_of r
+    where
+      told_of : (r : Result Reply ProgramFault) → MatchResult r IsReply IsFault → PrintsResult r out out' outcome
+          → Tells IsReply IsFault out out' outcome
+      told_of (Ok reply) is done = inl (reply, is, done)
+      told_of (Err f) is same = inr (f, is, same.0, same.1)
+
+  pub told_and_kept : {S : Type 0} (writes : Writing S) (name : Option (Bor (List ℕ))) (old new : S)
+      → MatchResult r IsReply IsFault → KeepsResult writes name r old new out out' outcome
+      → TellsAndKeeps writes name IsReply IsFault old new out out' outcome
+  told_and_kept {S} writes name old new = told_of r
+    where
+      told_of : (r : Result Reply ProgramFault) → MatchResult r IsReply IsFault
+          → KeepsResult writes name r old new out out' outcome
+          → TellsAndKeeps writes name IsReply IsFault old new out out' outcome
+      told_of (Ok reply) is done = inl (reply, is, done)
+      told_of (Err f) is same = inr (same.0, (f, is, same.1, same.2))
+
+  pub told_and_recorded : {S : Type 0} (writes : Writing S) (folder : Bor (List ℕ)) (old new : S)
+      → MatchResult r IsReply IsFault → RecordsResult writes folder r old new out out' outcome
+      → TellsAndRecords writes folder IsReply IsFault old new out out' outcome
+  told_and_recorded {S} writes folder old new = told_of r
+    where
+      told_of : (r : Result Reply ProgramFault) → MatchResult r IsReply IsFault
+          → RecordsResult writes folder r old new out out' outcome
+          → TellsAndRecords writes folder IsReply IsFault old new out out' outcome
+      told_of (Ok reply) is done = inl (reply, is, done)
+      told_of (Err f) is same = inr (same.0, (f, is, same.1, same.2))

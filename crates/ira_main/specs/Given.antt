@@ -1,0 +1,60 @@
+-- What a command reads: a question and a certificate, where they are named, and then logs.
+use Rattle.std.specs.Prelude.{◌≡◌, ◌⊎◌, ℕ, List, [], ◌∷◌, ◌++◌, Option, Some, None}
+use Rattle.std.specs.Borrow.{Bor}
+use Rattle.ira_commands.specs.Reply.{Reply}
+use Rattle.ira_main_cli.specs.declared.log_source.LogSource.{LogSource}
+use Rattle.ira_main_files.specs.Shelf.{Reading}
+use Rattle.ira_main_files.specs.declared.file_name.FileName.{FileName}
+use Rattle.ira_main.specs.FilesRead.{IsFilesFault, ReadsFiles, names_of}
+use Rattle.ira_main.specs.Overwriting.{IsReplacing, KeepsFiles, input_names}
+use Rattle.ira_main.specs.SourceNames.{HasNames, IsNamesFault}
+use Rattle.ira_main.specs.declared.program_fault.ProgramFault.{ProgramFault}
+use Rattle.ira_main.specs.declared.program_fault.ProgramFault.TheVariants.{OutOfMemory}
+
+-- memory ran out
+abbrev pub IsNoMemory : ProgramFault → Type 0
+IsNoMemory f = f ≡ OutOfMemory
+
+-- the file that is named, if one is, and its text
+abbrev pub named : Option (Bor (List ℕ)) → List (List ℕ)
+named (Some name) = name.now ∷ []
+named None = []
+
+abbrev pub named_text : Option (Bor (List ℕ)) → List ℕ → List (List ℕ)
+named_text (Some name) text = text ∷ []
+named_text None text = []
+
+-- the names of all that is read
+abbrev pub read_names : Option (Bor (List ℕ)) → Option (Bor (List ℕ)) → List FileName → List (List ℕ)
+read_names question certificate names = named question ++ named certificate ++ names_of names
+
+-- the files of a source's logs have these names, the file that is made, if there is one, is none of those that are read, and
+-- a question and a certificate, where they are named, were read
+pub record AreFirst {S : Type 0} (reads : Reading S) (made question certificate : Option (Bor (List ℕ))) (source : LogSource)
+    (shelf : S) (names : List FileName) (asked certified : List ℕ) : Type 0 where
+  pub names_are : HasNames reads shelf source names
+  pub kept : KeepsFiles made (input_names question names)
+  pub read : ReadsFiles reads (named question ++ named certificate) shelf
+      (named_text question asked ++ named_text certificate certified)
+
+-- why nothing comes of what is read: there are no names of logs; or the file that is made is one of those that are read; or a
+-- file wasn't read, or memory ran out
+abbrev pub IsUnread : {S : Type 0} → Reading S → Option (Bor (List ℕ)) → Option (Bor (List ℕ)) → Option (Bor (List ℕ))
+    → LogSource → S → ProgramFault → Type 0
+IsUnread reads made question certificate source shelf f =
+    IsNamesFault reads shelf source f
+    ⊎ ((names : List FileName) × HasNames reads shelf source names
+    × (IsReplacing made (input_names question names) f
+    ⊎ IsFilesFault reads (read_names question certificate names) shelf f))
+
+-- all was read, and this reply comes of the names of the logs' files, of the texts of a question and of a certificate, and of
+-- those of the logs
+pub record OfFiles {S : Type 0} (reads : Reading S) (made question certificate : Option (Bor (List ℕ))) (source : LogSource)
+    (shelf : S) (IsReply : List (List ℕ) → List ℕ → List ℕ → List (List ℕ) → Reply → Type 0) (reply : Reply) : Type 0 where
+  pub names : List FileName
+  pub asked : List ℕ
+  pub certified : List ℕ
+  pub texts : List (List ℕ)
+  pub first : AreFirst reads made question certificate source shelf names asked certified
+  pub given : ReadsFiles reads (names_of names) shelf texts
+  pub reply_is : IsReply (names_of names) asked certified texts reply

@@ -1,0 +1,104 @@
+ghost use Rattle.std.specs.Prelude.{◌≡◌};
+ghost use Rattle.ira_commands.specs.Reply.{made};
+ghost use Rattle.ira_main_files.specs.Shelf.{writing_by};
+ghost use Rattle.ira_main.specs.Delivery.{KeepsResult, KeepsText, PrintsReply, PrintsResult, RecordsResult, outcome_of};
+
+use crate::log_files::write_files;
+use crate::program_fault::ProgramFault;
+use crate::text_file::write_text;
+use ira_commands::{Files, Reply};
+use ira_event::{Sink, WriteFault, write_bytes};
+use ira_main_files::Shelf;
+use ira_view::Status;
+use std::alloc::Allocator;
+
+/// What the program ends with after a reply: its status, or why it is refused.
+fn outcome<'a, A: Allocator + Clone>(reply: &Reply<A>) -> Result<Status, ProgramFault<'a>>
+    ensures { result ≡ outcome_of reply.now.status reply.now.fault }
+{
+    match reply.fault() {
+        Some(fault) => Err(ProgramFault::Refused(fault)),
+        None => Ok(reply.status()),
+    }
+}
+
+/// Prints a reply.
+fn print<'a, A: Allocator + Clone, W: Sink>(
+    reply: &Reply<A>,
+    out: &mut W,
+) -> Result<Status, ProgramFault<'a>>
+    ensures { PrintsReply reply.now (W.state out.old) (W.state out.new) result }
+{
+    match write_bytes(reply.out(), out) {
+        Ok(()) => outcome(reply),
+        Err(WriteFault) => Err(ProgramFault::CannotWriteAnswer),
+    }
+}
+
+/// Prints a reply that makes no file, if there is one.
+pub(crate) fn deliver<'a, A: Allocator + Clone, W: Sink>(
+    reply: Result<Reply<A>, ProgramFault<'a>>,
+    out: &mut W,
+) -> Result<Status, ProgramFault<'a>>
+    ensures { PrintsResult reply.entry (W.state out.old) (W.state out.new) result }
+{
+    let reply = reply?;
+    print(&reply, out)
+}
+
+/// Makes the file of this name, if there is a text for one.
+fn keep_text<'a, A: Allocator, F: Shelf>(
+    files: &Files<A>,
+    name: &'a str,
+    shelf: &mut F,
+) -> Result<(), ProgramFault<'a>>
+    ensures { KeepsText (writing_by F.creates F.closes F.keeps F.Out.state) name.entry (made files.now)
+        shelf.old shelf.new result }
+{
+    let Some(text) = files.text() else {
+        return Ok(());
+    };
+    match write_text(text, name, shelf) {
+        Ok(()) => Ok(()),
+        Err(fault) => Err(ProgramFault::cannot_write(name, fault)),
+    }
+}
+
+/// Prints a reply, if there is one, and then makes its file, if it has a text for one and a name is given.
+pub(crate) fn deliver_and_keep<'a, A: Allocator + Clone, F: Shelf, W: Sink>(
+    reply: Result<Reply<A>, ProgramFault<'a>>,
+    name: Option<&'a str>,
+    shelf: &mut F,
+    out: &mut W,
+) -> Result<Status, ProgramFault<'a>>
+    ensures { KeepsResult (writing_by F.creates F.closes F.keeps F.Out.state) name.entry reply.entry shelf.old
+        shelf.new (W.state out.old) (W.state out.new) result }
+{
+    let reply = reply?;
+    let status = print(&reply, out)?;
+    let Some(name) = name else {
+        return Ok(status);
+    };
+    keep_text(reply.files(), name, shelf)?;
+    Ok(status)
+}
+
+/// Writes the logs of a reply, if there is one and it has some, each to the file of its place in a folder, and then prints
+/// it.
+pub(crate) fn record_and_deliver<'a, A: Allocator + Clone, F: Shelf, W: Sink>(
+    alloc: &A,
+    reply: Result<Reply<A>, ProgramFault<'a>>,
+    folder: &'a str,
+    shelf: &mut F,
+    out: &mut W,
+) -> Result<Status, ProgramFault<'a>>
+    ensures { RecordsResult (writing_by F.creates F.closes F.keeps F.Out.state) folder.entry reply.entry
+        shelf.old shelf.new (W.state out.old) (W.state out.new) result }
+{
+    let reply = reply?;
+    let Some(logs) = reply.files().logs() else {
+        return print(&reply, out);
+    };
+    write_files(alloc, folder, logs, shelf)?;
+    print(&reply, out)
+}

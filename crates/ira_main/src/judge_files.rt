@@ -1,0 +1,121 @@
+ghost use Rattle.std.specs.Prelude.{◌≤◌, ◌+◌, ℕ, IfOk, List, MatchResult, None, Some};
+ghost use Rattle.ira_audit.specs.RingAudit.{HasTaken};
+ghost use Rattle.ira_commands.specs.Check.{ChecksTexts};
+ghost use Rattle.ira_commands.specs.Judging.{JudgesLog, JudgesLogs};
+ghost use Rattle.ira_commands.specs.Reply.{Reports, ReportsAs};
+ghost use Rattle.ira_main.specs.Given.{IsUnread, OfFiles};
+ghost use Rattle.ira_main.specs.Serve.{IsInputFault, OfInput};
+
+use crate::given::{Given, Inputs, read_given};
+use crate::input_audit::audit_input;
+use crate::program_fault::ProgramFault;
+use ira_audit::RingAudit;
+use ira_commands::{Reply, answer_logs};
+use ira_event::{MAX_TEXT, OutOfMemory};
+use ira_links::OpenGate;
+use ira_main_cli::{CheckRequest, LogsRequest};
+use ira_main_files::{CountingReader, FileName, Shelf};
+use std::alloc::Allocator;
+use std::io::Read;
+use std::sync::Wait;
+use std::thread::Threads;
+use std::time::Clock;
+
+/// Judges the log on the input.
+pub(crate) fn judge_input<'a, A: Allocator + Clone, I: Read>(
+    alloc: A,
+    input: &mut CountingReader<I>,
+) -> Result<Reply<A>, ProgramFault<'a>>
+    ensures judged { MatchResult result (OfInput (JudgesLog Reports) input.old input.new) (IsInputFault input.new) }
+    ensures reads { input.new.reads ≤ input.old.reads + (MAX_TEXT + 1) }
+{
+    match audit_input(alloc.clone()?, input) {
+        Ok(answer) => Ok(Reply::of_answer(alloc, &answer)?),
+        Err(fault) => Err(ProgramFault::cannot_read(FileName::Given("-"), fault)),
+    }
+}
+
+/// The answer of the logs that an audit has taken.
+fn judge_taken<R: Threads, A: Allocator + Clone + Sync>(
+    rt: &R,
+    alloc: A,
+    is_json: bool,
+    audit: RingAudit<A>,
+) -> Result<Reply<A>, OutOfMemory>
+    requires { (texts : List (List ℕ)) × HasTaken audit texts }
+    ensures { (texts : List (List ℕ)) → HasTaken audit texts
+        → IfOk result (JudgesLogs (ReportsAs is_json) texts) }
+{
+    let judged = audit.judge_on_threads(rt)?;
+    answer_logs(alloc, is_json, &judged)
+}
+
+/// Judges the logs of a source together. Each file is read before an answer is given.
+pub(crate) fn judge_files<'a, R, A, F>(
+    rt: &R,
+    alloc: A,
+    asked: &LogsRequest<'a>,
+    shelf: &F,
+) -> Result<Reply<A>, ProgramFault<'a>>
+where
+    R: Threads + Sync,
+    A: Allocator + Clone + Send + Sync,
+    F: Shelf + Sync,
+    ensures { MatchResult result
+        (OfFiles F.reads None None None asked.now.logs shelf.now
+        (λ _ _ _ texts. JudgesLogs (ReportsAs asked.now.is_json) texts))
+        (IsUnread F.reads None None None asked.now.logs shelf.now) }
+{
+    let Given { audit, .. } = read_given(rt, &alloc, Inputs::logs(&asked.logs), shelf)?;
+    Ok(judge_taken(rt, alloc, asked.is_json, audit)?)
+}
+
+/// The answer of the logs that an audit has taken, of a question and of a certificate.
+fn check_taken<R, A>(
+    rt: &R,
+    alloc: A,
+    check: &CheckRequest<'_>,
+    question: &[u8],
+    certificate: &[u8],
+    audit: RingAudit<A>,
+) -> Result<Reply<A>, OutOfMemory>
+where
+    R: Threads + Wait + Clock + Sync,
+    A: Allocator + Clone + Send + Sync,
+    requires depth { check.now.depth ≤ 4 }
+    requires taken { (texts : List (List ℕ)) × HasTaken audit texts }
+    ensures { (texts : List (List ℕ)) → HasTaken audit texts
+        → IfOk result (ChecksTexts (ReportsAs check.now.is_json) question.now certificate.now texts) }
+{
+    let judged = audit.judge_on_threads(rt)?;
+    let answer = judged.check(rt, question, certificate, check.depth, &OpenGate)?;
+    Reply::of_answer_as(alloc, check.is_json, &answer)
+}
+
+/// Judges logs with the question and the certificate in the files that are named.
+pub(crate) fn check_files<'a, R, A, F>(
+    rt: &R,
+    alloc: A,
+    check: &CheckRequest<'a>,
+    shelf: &F,
+) -> Result<Reply<A>, ProgramFault<'a>>
+where
+    R: Threads + Wait + Clock + Sync,
+    A: Allocator + Clone + Send + Sync,
+    F: Shelf + Sync,
+    requires depth { check.now.depth ≤ 4 }
+    ensures { MatchResult result
+        (OfFiles F.reads None (Some check.now.question) (Some check.now.certificate) check.now.logs shelf.now
+        (λ _ question certificate texts. ChecksTexts (ReportsAs check.now.is_json) question certificate texts))
+        (IsUnread F.reads None (Some check.now.question) (Some check.now.certificate) check.now.logs shelf.now) }
+{
+    let inputs = Inputs {
+        question: Some(check.question),
+        certificate: Some(check.certificate),
+        logs: &check.logs,
+        made: None,
+    };
+    let Given { first, audit } = read_given(rt, &alloc, inputs, shelf)?;
+    let (question, certificate) = (first.question.bytes(), first.certificate.bytes());
+    Ok(check_taken(rt, alloc, check, question, certificate, audit)?)
+}

@@ -1,0 +1,4 @@
+pub mod ByKind
+pub mod GoingOn
+pub mod Lines
+pub mod Nexts

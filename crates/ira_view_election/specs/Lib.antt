@@ -1,0 +1,4 @@
+pub mod Coming
+pub mod Election
+pub mod ElectionAt
+pub mod Laws

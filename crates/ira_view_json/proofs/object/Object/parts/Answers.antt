@@ -1,0 +1,18 @@
+use Rattle.std.specs.Prelude.{List, codes, map}
+use Rattle.json.specs.Json.{array}
+use Rattle.json.specs.Value.{items_of}
+use Rattle.ira_view_picture.specs.Picture.{drawn_of}
+use Rattle.ira_view_picture.specs.declared.arrow.Arrow.{Arrow}
+use Rattle.ira_view_picture.specs.declared.lane.Lane.{Lane}
+use Rattle.ira_view_json.specs.Members.{put}
+use Rattle.ira_view_json.specs.PictureValue.{arrow_value, lane_value}
+use Rattle.ira_view_json.proofs.Putting.{◌&◌, known, puts_by}
+use Rattle.ira_view_json.proofs.object.Object.parts.Goals as goal
+
+pub returns : goal.returns
+returns g c =
+    puts_by (λ (lanes : List (Lane g.row.B.Denot)). put (codes "lanes")
+    (array (items_of (map lane_value (map drawn_of lanes))))) c.deref.ensures.value
+    (known _ c.lanes_list.ensures c.value.ensures)
+    & puts_by (λ (arrows : List Arrow). put (codes "arrows") (array (items_of (map arrow_value arrows))))
+    c.deref-2.ensures.value (known _ c.arrows_list.ensures c.value-2.ensures)
