@@ -13,9 +13,8 @@ from pictures import HERE
 LITERAL = re.compile(r'"((?:[^"\\]|\\.)*)"', re.S)
 # A literal shorter than this tells no sentence.
 LEAST = 9
-# A log of at most 100,000 records has no round, hop or term near 1,000,000, and no command is given no file.
-NEVER = {'A hop is at most 1,000,000.', 'A round is at most 1,000,000.', 'A term is at most 1,000,000.',
-         'the round is to be raised', 'the term is to be raised', 'No file is given.'}
+# No command is given no file.
+NEVER = {'No file is given.'}
 
 
 def words(text):

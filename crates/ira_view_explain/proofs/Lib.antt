@@ -3,4 +3,5 @@ mod HeadNumbers
 mod LogFiles
 mod Reading
 mod Reorderings
+mod StopHints
 mod Told

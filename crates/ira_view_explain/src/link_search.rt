@@ -1,7 +1,10 @@
+ghost use Rattle.std.specs.Prelude.{◌↔◌, IfOk, IfSome, IsTrue};
+ghost use Rattle.ira_view_evidence.specs.LinkCause.{Explains};
+ghost use Rattle.ira_view_explain.specs.LinkHint.{IsSo};
+
 use crate::faulty_link::FaultyLink;
 use crate::link_hint::LinkHint;
 use crate::reordering::{are_reordered, place_of};
-use crate::ring_hint::RingHint;
 use ira_event::OutOfMemory;
 use ira_view_evidence::LinkCause;
 use std::alloc::Allocator;
@@ -23,7 +26,9 @@ impl<'a, 'l, A: Allocator + Clone> FaultyLink<'a, 'l, A> {
     }
 
     /// Where receipts are the sendings of their numbers in another order, and the others are their sendings.
-    fn reordered(&self) -> Result<Option<LinkHint<'a, &'l A>>, OutOfMemory> {
+    fn reordered(&self) -> Result<Option<LinkHint<'a, &'l A>>, OutOfMemory>
+        ensures { IfOk result (λ found. IfSome found (IsSo self.now.sides.sent.items self.now.sides.received.items)) }
+    {
         let (first, last) = (self.k, self.last_difference());
         let (from, to) = ((first as usize).saturating_sub(1), last as usize);
         let (sent, received) = (self.sides.sent.as_slice(), self.sides.received.as_slice());
@@ -41,12 +46,16 @@ impl<'a, 'l, A: Allocator + Clone> FaultyLink<'a, 'l, A> {
     }
 
     /// Whether this explains the link.
-    fn is_explained_by(&self, cause: LinkCause) -> bool {
+    fn is_explained_by(&self, cause: LinkCause) -> bool
+        ensures { IsTrue result ↔ Explains cause self.now.sides.sent.items self.now.sides.received.items self.now.k }
+    {
         cause.explains(&self.sides.sent, &self.sides.received, self.k as usize)
     }
 
     /// The sending before the named receipt's, where that is the same and was received once.
-    fn sent_twice(&self) -> Option<LinkHint<'a, &'l A>> {
+    fn sent_twice(&self) -> Option<LinkHint<'a, &'l A>>
+        ensures { IfSome result (IsSo self.now.sides.sent.items self.now.sides.received.items) }
+    {
         let sent = &self.sides.sent;
         let before = sent.get((self.k as usize).checked_sub(2)?)?;
         let again = sent.get((self.k as usize).checked_sub(1)?)?;
@@ -57,7 +66,9 @@ impl<'a, 'l, A: Allocator + Clone> FaultyLink<'a, 'l, A> {
     }
 
     /// Where sendings have no receipt, or receipts no sending, one after the other.
-    fn missing_run(&self) -> Option<LinkHint<'a, &'l A>> {
+    fn missing_run(&self) -> Option<LinkHint<'a, &'l A>>
+        ensures { IfSome result (IsSo self.now.sides.sent.items self.now.sides.received.items) }
+    {
         let (first, writer) = (self.k, self.link);
         let from = (first as usize).saturating_sub(1);
         let sent = self.sides.sent.as_slice().get(from..)?;
@@ -97,11 +108,8 @@ impl<'a, 'l, A: Allocator + Clone> FaultyLink<'a, 'l, A> {
         {
             return run;
         }
-        if let Some(hint) = self.passed_on() {
+        if let Some(hint) = self.passed_on().or(run) {
             return Some(hint);
-        }
-        if run.is_some() {
-            return run;
         }
         if let Some(rows) = self.changed_rows(1)
             && self.sides.received.len() > 1
@@ -125,14 +133,6 @@ impl<'a, 'l, A: Allocator + Clone> FaultyLink<'a, 'l, A> {
         Ok(self.sent_twice())
     }
 
-    /// The cause of the ring that explains this link where nothing else does surely.
-    fn far_cause(&self, others: (u32, u8)) -> Result<Option<RingHint<&'l A>>, OutOfMemory> {
-        if others.0 == 0 {
-            return self.node_between();
-        }
-        self.two_runs(others)
-    }
-
     /// The likeliest cause; where there is none, or another is likelier, one of the ring; else what was never sent.
     fn last_cause(
         &self,
@@ -143,8 +143,15 @@ impl<'a, 'l, A: Allocator + Clone> FaultyLink<'a, 'l, A> {
             Some(hint) => hint.is_doubtful(others.0),
             None => true,
         };
-        if is_doubtful && let Some(hint) = self.far_cause(others)? {
-            return Ok(Some(LinkHint::Ring(hint)));
+        if is_doubtful {
+            let far = if others.0 == 0 {
+                self.node_between()?
+            } else {
+                self.two_runs(others)?
+            };
+            if let Some(hint) = far {
+                return Ok(Some(LinkHint::Ring(hint)));
+            }
         }
         match likely {
             Some(hint) => Ok(Some(hint)),

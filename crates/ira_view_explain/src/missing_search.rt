@@ -1,5 +1,9 @@
+ghost use Rattle.std.specs.Prelude.{IfOk, IfSome};
+ghost use Rattle.ira_view_explain.specs.LinkHint.{IsSo};
+
 use crate::faulty_link::FaultyLink;
 use crate::link_hint::LinkHint;
+use crate::reordering::place_of;
 use crate::ring_search::is_passed_on;
 use crate::stopped::is_begun;
 use ira_event::{Event, Load, OutOfMemory};
@@ -153,9 +157,11 @@ impl<'a, 'l, A: Allocator + Clone> FaultyLink<'a, 'l, A> {
     }
 
     /// What is told where nothing explains the link: that what was received was never sent, where it wasn't.
-    pub(crate) fn never_sent(&self) -> Result<Option<LinkHint<'a, &'l A>>, OutOfMemory> {
+    pub(crate) fn never_sent(&self) -> Result<Option<LinkHint<'a, &'l A>>, OutOfMemory>
+        ensures { IfOk result (λ found. IfSome found (IsSo self.now.sides.sent.items self.now.sides.received.items)) }
+    {
         let load = self.receipt.load;
-        if self.sides.sent.contains(&load) {
+        if place_of(&self.sides.sent, load).is_some() {
             return Ok(None);
         }
         let before = predecessor(self.logs.size().get(), self.link);

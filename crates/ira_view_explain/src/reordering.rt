@@ -1,12 +1,14 @@
-ghost use Rattle.std.specs.Prelude.{◌≡◌, ◌<◌, IfOk, IfSome, IsTrue, length, slice_index_or};
+ghost use Rattle.std.specs.Prelude.{◌≡◌, ◌<◌, IfOk, IsTrue, MatchOption, length, slice_index_or};
 ghost use Rattle.std.specs.List.Sorted.{IsPermutation};
+ghost use Rattle.ira_view_explain.specs.LinkHint.{IsNowhere};
 
 use ira_event::{Load, OutOfMemory};
 use std::alloc::Allocator;
 
 /// Where a list first has this load, counted from 0.
 pub(crate) fn place_of(loads: &[Load], load: Load) -> Option<usize>
-    ensures { IfSome result (λ at. (at < length loads.now) × (load ≡ slice_index_or loads.now at load)) }
+    ensures { MatchOption result (IsNowhere loads.now load)
+        (λ at. (at < length loads.now) × (load ≡ slice_index_or loads.now at load)) }
 {
     for at in 0..loads.len() {
         if loads[at] == load {

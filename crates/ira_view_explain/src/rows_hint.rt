@@ -6,7 +6,7 @@ use std::alloc::Allocator;
 /// How receipts of a link differ from their sendings, all those that do.
 #[derive(Clone, Copy)]
 pub(crate) enum RowsHint {
-    /// This message alone differs, and in one field.
+    /// This message alone differs, and in one field; or some do, in the bit.
     OneField(LoadField),
     /// The reader recorded hops already raised.
     RaisedByReader { reader: u8 },
@@ -16,8 +16,6 @@ pub(crate) enum RowsHint {
     HopOfOneSide,
     /// Each receipt has the other bit than its sending.
     EachBit,
-    /// Only the bit differs, in several rows.
-    Bit,
     /// Several differ, or two fields are exchanged.
     Each(LoadDifference),
 }
@@ -26,7 +24,7 @@ impl RowsHint {
     /// Adds its sentence.
     pub(crate) fn print<A: Allocator>(self, text: &mut Page<A>) {
         match self {
-            RowsHint::OneField(LoadField::Bit) | RowsHint::Bit => text.words(
+            RowsHint::OneField(LoadField::Bit) => text.words(
                 "only the bit differs: the link changed it, or one side records it after a change.",
             ),
             RowsHint::OneField(field) => {

@@ -1,3 +1,8 @@
+ghost use Rattle.std.specs.Prelude.{◌↔◌, IfSome, IsTrue};
+ghost use Rattle.ira_view_evidence.specs.LoadDifference.{DifferAlike};
+ghost use Rattle.ira_view_evidence.specs.declared.load_difference.LoadDifference.TheVariants as LoadDifference;
+ghost use Rattle.ira_view_explain.specs.RowsHint.{IsSo};
+
 use crate::faulty_link::FaultyLink;
 use crate::load_differences::{DIFFERENCES, differing, field_of};
 use crate::rows_hint::RowsHint;
@@ -57,7 +62,10 @@ impl<A: Allocator + Clone> FaultyLink<'_, '_, A> {
     }
 
     /// Of hops that are raised by one on the way: whose log has them so, where the logs say it.
-    fn raised_hops(&self) -> RowsHint {
+    fn raised_hops(&self) -> RowsHint
+        requires { DifferAlike LoadDifference.RaisedHop self.now.sides.sent.items self.now.sides.received.items }
+        ensures { IsSo self.now.sides.sent.items self.now.sides.received.items result }
+    {
         match (self.writer_keeps_hops(), self.reader_keeps_hops()) {
             (true, false) => RowsHint::UnraisedByWriter { writer: self.link },
             (false, true) => RowsHint::RaisedByReader {
@@ -68,12 +76,17 @@ impl<A: Allocator + Clone> FaultyLink<'_, '_, A> {
     }
 
     /// Whether all receipts that aren't their sendings differ so.
-    fn all_differ(&self, how: LoadDifference) -> bool {
+    fn all_differ(&self, how: LoadDifference) -> bool
+        ensures { IsTrue result ↔ DifferAlike how self.now.sides.sent.items self.now.sides.received.items }
+    {
         how.is_between_all(&self.sides.sent, &self.sides.received)
     }
 
     /// What is told where so many receipts aren't their sendings, and differ from them so.
-    fn rows_hint(&self, how: LoadDifference, rows: usize) -> RowsHint {
+    fn rows_hint(&self, how: LoadDifference, rows: usize) -> RowsHint
+        requires { DifferAlike how self.now.sides.sent.items self.now.sides.received.items }
+        ensures { IsSo self.now.sides.sent.items self.now.sides.received.items result }
+    {
         match how {
             LoadDifference::OneField(LoadField::Hop)
                 if self.all_differ(LoadDifference::RaisedHop)
@@ -82,20 +95,19 @@ impl<A: Allocator + Clone> FaultyLink<'_, '_, A> {
                 if rows > 1 && self.all_differ(LoadDifference::LoweredHop) => {
                 RowsHint::HopOfOneSide
             }
-            LoadDifference::OneField(LoadField::Bit) if rows > 1 => {
-                if rows == self.sides.received.len() {
-                    RowsHint::EachBit
-                } else {
-                    RowsHint::Bit
-                }
+            LoadDifference::OneField(LoadField::Bit)
+                if rows > 1 && rows == self.sides.received.len() => { RowsHint::EachBit }
+            LoadDifference::OneField(field) if rows == 1 || field == LoadField::Bit => {
+                RowsHint::OneField(field)
             }
-            LoadDifference::OneField(field) if rows == 1 => RowsHint::OneField(field),
             _ => RowsHint::Each(how),
         }
     }
 
     /// How all receipts differ that aren't their sendings: at least so many, or one with fields exchanged.
-    pub(crate) fn changed_rows(&self, least: usize) -> Option<RowsHint> {
+    pub(crate) fn changed_rows(&self, least: usize) -> Option<RowsHint>
+        ensures { IfSome result (IsSo self.now.sides.sent.items self.now.sides.received.items) }
+    {
         let rows = differing(&self.sides.sent, &self.sides.received);
         for how in &DIFFERENCES {
             if (rows >= least || field_of(*how).is_none()) && self.all_differ(*how) {

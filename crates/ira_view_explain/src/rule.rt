@@ -24,9 +24,7 @@ pub(crate) enum Rule {
     WaitsForReset,
     /// No rule with a number: what isn't owed isn't sent.
     SendsDebtsAlone,
-    HopLimit,
-    RoundLimit,
-    TermLimit,
+    Limits,
 }
 
 impl Rule {
@@ -90,9 +88,7 @@ impl Rule {
                  chooses in the next term."
             }
             Rule::SendsDebtsAlone => "A node sends nothing but what it owes.",
-            Rule::HopLimit => "A hop is at most 1,000,000.",
-            Rule::RoundLimit => "A round is at most 1,000,000.",
-            Rule::TermLimit => "A term is at most 1,000,000.",
+            Rule::Limits => "A round, a hop and a term are at most 1,000,000.",
         }
     }
 }

@@ -1,8 +1,13 @@
-ghost use Rattle.std.specs.Prelude.{◌≡◌, List, ◌∷◌, [], ◌++◌, Some};
+ghost use Rattle.std.specs.Prelude.{◌≡◌, ◌+◌, ℕ, IfSome, IsTrue, List, MatchOption, ◌∷◌, [], ◌++◌, Some};
+ghost use Rattle.ira_event.specs.Log.{Log};
+ghost use Rattle.ira_event.specs.declared.event.Event.TheVariants as Event;
+ghost use Rattle.ira_node.specs.declared.phase.Phase.TheVariants as Phase;
 ghost use Rattle.ira_node.specs.NodeStep.{NodeStep};
 ghost use Rattle.ira_node.specs.declared.node_state.NodeState.{NodeState};
 ghost use Rattle.ira_order.specs.Ring.{numbered};
 ghost use Rattle.ira_view_evidence.specs.NodeEvidence.{IsNodeEvidence};
+ghost use Rattle.ira_view_explain.specs.StopHint.{CallsFor, IsCalledNext, IsSentAfter, IsSo, line_number};
+ghost use Rattle.ira_view_explain.specs.declared.stopped.Stopped.{Stopped};
 
 use crate::rule::Rule;
 use crate::stop_hint::StopHint;
@@ -23,24 +28,13 @@ pub(crate) struct Stopped {
     pub(crate) state: NodeState,
     /// The event before it, and the state before that one.
     last: Option<(NodeState, Event)>,
-    /// The event after it.
-    next: Option<Event>,
-    /// What the node would owe after that one, did it come in place of the event.
-    called: Option<Load>,
-    /// The event after it that sends what is owed.
-    sent_later: Option<u32>,
-    /// Where the log first has a sending that begins clean.
-    first_clean: Option<u32>,
-    /// How many receipts the log has.
-    receipts: u32,
-    /// Whether the log has a yield or a reset.
-    has_reset: bool,
 }
 
 impl Stopped {
     /// What the evidence of a log says.
     pub(crate) fn of<A: Allocator>(log: &NodeLog<A>, evidence: &NodeEvidence<A>) -> Stopped
         requires { IsNodeEvidence log.now evidence.now.fault evidence.now.first evidence.now.states.items }
+        ensures position { result.position ≡ evidence.now.fault.position }
         ensures event { numbered log.now.events evidence.now.fault.position ≡ Some result.event }
         ensures state { (earlier : List NodeState) × (evidence.now.states.items ≡ earlier ++ result.state ∷ []) }
     {
@@ -62,12 +56,6 @@ impl Stopped {
             fault: evidence.fault.fault,
             state: *state,
             last,
-            next: event_of(log, position.saturating_add(1)),
-            called: called_for(log, *state, position.saturating_add(1)),
-            sent_later: sending_after(log, position, state.owed),
-            first_clean: first_clean_start(log),
-            receipts: receipts_of(log),
-            has_reset: log.events().any(is_of_reset),
         }
     }
 
@@ -80,12 +68,12 @@ impl Stopped {
             StepFault::MustDraw => text.words("`draw` is due"),
             StepFault::Ended => text.words("it leads"),
             StepFault::HopPast => self.add_past(text),
-            StepFault::HopLimit => text.words("the hop is to be raised"),
-            StepFault::RoundLimit => text.words("the round is to be raised"),
+            StepFault::HopLimit | StepFault::RoundLimit | StepFault::TermLimit => {
+                text.words("the number is to be raised")
+            }
             StepFault::NotLeader => text.words("only a leader yields"),
             StepFault::WrongReset => self.add_reset(text),
             StepFault::NotReset => self.add_due_reset(text),
-            StepFault::TermLimit => text.words("the term is to be raised"),
         }
     }
 
@@ -139,12 +127,12 @@ impl Stopped {
             StepFault::MustDraw => self.choice_rules(),
             StepFault::Ended => (Rule::Leads, Some(Rule::LeaderEnds)),
             StepFault::HopPast => (Rule::OwnPastRing, None),
-            StepFault::HopLimit => (Rule::HopLimit, None),
-            StepFault::RoundLimit => (Rule::RoundLimit, None),
+            StepFault::HopLimit | StepFault::RoundLimit | StepFault::TermLimit => {
+                (Rule::Limits, None)
+            }
             StepFault::NotLeader => (Rule::OnlyLeaderYields, None),
             StepFault::WrongReset => (Rule::TakesReset, None),
             StepFault::NotReset => (Rule::WaitsForReset, None),
-            StepFault::TermLimit => (Rule::TermLimit, None),
         }
     }
 
@@ -186,104 +174,128 @@ impl Stopped {
     }
 
     /// A usual cause, where something that the log says points to it.
-    pub(crate) fn hint(&self) -> Option<StopHint> {
-        let nodes = self.nodes;
+    pub(crate) fn hint<A: Allocator>(&self, log: &NodeLog<A>) -> Option<StopHint>
+        ensures { IfSome result (IsSo log.now self.now) }
+    {
+        let nodes = log.nodes().get();
         match (self.fault, self.event, self.state.phase) {
-            (StepFault::NotOwed, Event::Sent(sent), _) => self.sending_hint(sent),
+            (StepFault::NotOwed, Event::Sent(sent), _) => self.sending_hint(log, sent),
             (StepFault::NotChoosing, _, Phase::Yielding) => Some(StopHint::ResetNotBack { nodes }),
             (StepFault::NotChoosing, _, _) if self.position == 1 => Some(StopHint::StartsInitiator),
             (StepFault::NotChoosing | StepFault::Ended, Event::Draw(id), _)
-                if self.begins_again(id) => { Some(StopHint::NoResets) }
+                if self.begins_again(log, id) => { Some(StopHint::NoResets) }
             (StepFault::MustDraw, _, _) if self.position == 1 => Some(StopHint::StartsPassive),
             (StepFault::MustDraw, _, _) if self.state.term > 1 => Some(StopHint::EachDraws),
             (StepFault::DrawRange, _, _) => Some(StopHint::IdRange { nodes }),
             (StepFault::Ended, Event::Sent(Load::Reset(1)), _) => Some(StopHint::YieldsFirst),
-            (StepFault::Owes, Event::Got(_), _) => Some(self.unsent_hint()),
-            (StepFault::Owes, Event::Draw(_), _) if self.owes_reset() => {
-                Some(StopHint::ResetFirst {
-                    is_passed: self.sent_later.is_some(),
-                })
-            }
+            (StepFault::Owes, Event::Got(_), _) => self.unsent_hint(log),
+            (StepFault::Owes, Event::Draw(_), _) => self.reset_hint(log),
             (StepFault::NotLeader, _, Phase::Yielding) => Some(StopHint::HasYielded),
-            (StepFault::NotLeader, _, Phase::Active { round, id }) if self.leads_next(round, id) =>
-                {
-                    Some(StopHint::LeadsLater {
-                        line: self.next_line(),
-                    })
-                }
+            (StepFault::NotLeader, _, Phase::Active { round, id }) => {
+                self.yield_hint(log, round, id)
+            }
             _ => None,
         }
     }
 
+    /// The event after it.
+    fn next<A: Allocator>(&self, log: &NodeLog<A>) -> Option<Event>
+        ensures { IfSome result (λ event. numbered log.now.events (self.now.position + 1) ≡ Some event) }
+    {
+        event_of(log, self.position.checked_add(1)?)
+    }
+
+    /// The line of that one.
+    fn next_line(&self) -> usize
+        ensures { result ≡ line_number (self.now.position + 1) }
+    {
+        line_of(self.position) + 1
+    }
+
     /// Where what is owed was sent, or that by its log the node never sent it.
-    fn unsent_hint(&self) -> StopHint {
-        match self.sent_later {
+    fn unsent_hint<A: Allocator>(&self, log: &NodeLog<A>) -> Option<StopHint>
+        ensures { IfSome result (IsSo log.now self.now) }
+    {
+        let owed = self.state.owed?;
+        Some(match sending_after(log, self.position, owed) {
             Some(later) => StopHint::SentLater {
                 line: line_of(later),
             },
             None => StopHint::NeverSends,
+        })
+    }
+
+    /// Whether a reset that is owed was sent after it.
+    fn reset_hint<A: Allocator>(&self, log: &NodeLog<A>) -> Option<StopHint>
+        ensures { IfSome result (IsSo log.now self.now) }
+    {
+        match self.state.owed {
+            Some(reset @ Load::Reset(_)) => Some(StopHint::ResetFirst {
+                is_passed: sending_after(log, self.position, reset).is_some(),
+            }),
+            _ => None,
         }
     }
 
-    /// The line of the event after it.
-    fn next_line(&self) -> usize {
-        line_of(self.position.saturating_add(1))
-    }
-
-    fn owes_reset(&self) -> bool {
-        matches!(self.state.owed, Some(Load::Reset(_)))
-    }
-
     /// Whether the event after it is the receipt by which an active node with this pair leads.
-    fn leads_next(&self, round: u32, id: u32) -> bool {
+    fn yield_hint<A: Allocator>(&self, log: &NodeLog<A>, round: u32, id: u32) -> Option<StopHint>
+        requires { self.now.state.phase ≡ Phase.Active round id }
+        ensures { IfSome result (IsSo log.now self.now) }
+    {
         let home = Msg {
             round,
             id,
-            hop: u32::from(self.nodes),
+            hop: u32::from(log.nodes().get()),
             dirty: false,
         };
-        self.next == Some(Event::Got(Load::Msg(home)))
+        if self.next(log) == Some(Event::Got(Load::Msg(home))) {
+            Some(StopHint::LeadsLater {
+                line: self.next_line(),
+            })
+        } else {
+            None
+        }
     }
 
     /// What a node may have done that sent a message and owed another.
-    fn message_hint(&self, sent: Msg, owed: Msg) -> Option<StopHint> {
+    fn message_hint<A: Allocator>(&self, log: &NodeLog<A>, sent: Msg, owed: Msg) -> Option<StopHint>
+        ensures { IfSome result (IsSo log.now self.now) }
+    {
         if (sent.round, sent.id) != (owed.round, owed.id) {
             return None;
         }
         if sent.dirty == owed.dirty {
             return hop_hint(sent.hop, owed.hop);
         }
-        match (sent.hop, owed.hop, self.first_clean) {
+        match (sent.hop, owed.hop, log.events().position(is_clean_start)) {
             (1, 1, None) => Some(StopHint::BitTurned),
-            (1, 1, Some(first)) if first < self.position => Some(StopHint::BitKept),
+            (1, 1, Some(first)) if first + 1 < self.position as usize => Some(StopHint::BitKept),
             (hop, due, _) if hop == due => Some(StopHint::OnlyBit),
             _ => None,
         }
     }
 
     /// Whether a draw of this ID begins round 1 again, and the log has no reset.
-    fn begins_again(&self, id: u32) -> bool {
+    fn begins_again<A: Allocator>(&self, log: &NodeLog<A>, id: u32) -> bool {
         let begun = Msg {
             round: 1,
             id,
             hop: 1,
             dirty: false,
         };
-        !self.has_reset && self.next == Some(Event::Sent(Load::Msg(begun)))
+        !log.events().any(is_of_reset) && self.next(log) == Some(Event::Sent(Load::Msg(begun)))
     }
 
-    /// What a sending may come from that the node owes nothing for.
-    fn uncalled_hint(&self, sent: Load) -> Option<StopHint> {
-        if self
-            .last
-            .is_some_and(|(_, event)| event == Event::Sent(sent))
-        {
-            return Some(StopHint::SentTwice);
+    /// Whether the next event is a receipt that calls for this load, did it come in place of this one.
+    fn is_called_later<A: Allocator>(&self, log: &NodeLog<A>, load: Load) -> bool
+        ensures { IsTrue result → IsCalledNext log.now self.now load }
+    {
+        match self.next(log) {
+            Some(Event::Got(call)) => {
+                owed_after(log.nodes(), self.state, Event::Got(call)) == Some(load)
+            }
+            _ => false,
         }
-        if self.receipts == 0 && self.state.phase != Phase::Yielding && !is_begun(sent) {
-            return Some(StopHint::NoReceipts);
-        }
-        None
     }
 
     /// What a sending may come from that the node owes nothing for, by the log of the node before it on the ring.
@@ -292,7 +304,8 @@ impl Stopped {
         log: &NodeLog<A>,
         before: &NodeLog<A>,
     ) -> Option<StopHint> {
-        let call = next_sending(before, self.receipts)?;
+        let receipts = log.events().filter(is_receipt).count();
+        let call = before.events().filter_map(load_sent).nth(receipts)?;
         match (self.fault, self.event, self.state.owed) {
             (StepFault::NotOwed, Event::Sent(sent), None)
                 if owed_after(log.nodes(), self.state, Event::Got(call)) == Some(sent) => {
@@ -303,23 +316,28 @@ impl Stopped {
     }
 
     /// What a sending that isn't owed may come from.
-    fn sending_hint(&self, sent: Load) -> Option<StopHint> {
-        if self.called == Some(sent) {
+    fn sending_hint<A: Allocator>(&self, log: &NodeLog<A>, sent: Load) -> Option<StopHint>
+        requires { self.now.event ≡ Event.Sent sent }
+        ensures { IfSome result (IsSo log.now self.now) }
+    {
+        if self.is_called_later(log, sent) {
             return Some(StopHint::CalledLater {
                 line: self.next_line(),
             });
         }
-        if self.state.owed.is_none()
-            && let Some(hint) = self.uncalled_hint(sent)
-        {
-            return Some(hint);
-        }
         match (self.state.owed, self.state.phase, sent) {
-            (Some(Load::Msg(owed)), _, Load::Msg(sent)) => self.message_hint(sent, owed),
+            (Some(Load::Msg(owed)), _, Load::Msg(sent)) => self.message_hint(log, sent, owed),
             (Some(Load::Reset(owed)), _, Load::Reset(sent)) => hop_hint(sent, owed),
             (Some(_), _, _) => None,
-            (None, Phase::Choosing { .. }, Load::Msg(Msg { id, hop: 1, .. })) => {
-                Some(StopHint::NotDrawn { id })
+            _ if event_of(log, self.position.saturating_sub(1)) == Some(self.event) => {
+                Some(StopHint::SentTwice)
+            }
+            (None, phase, _)
+                if phase != Phase::Yielding
+                    && !is_begun(sent)
+                    && log.events().next_receipt().is_none() => { Some(StopHint::NoReceipts) }
+            (None, Phase::Choosing { .. }, Load::Msg(begun)) if begun.hop == 1 => {
+                Some(StopHint::NotDrawn { id: begun.id })
             }
             (None, Phase::Choosing { .. }, Load::Reset(_)) => Some(StopHint::ResetIsBack),
             _ => None,
@@ -347,7 +365,8 @@ fn debt_rule((before, event): (NodeState, Event)) -> Option<Rule> {
 
 /// What a node in this state owes after an event, in a ring of so many nodes.
 fn owed_after(nodes: RingSize, state: NodeState, event: Event) -> Option<Load>
-    ensures { (t : NodeState) → NodeStep nodes state event t → result ≡ t.owed }
+    ensures step { (t : NodeState) → NodeStep nodes state event t → result ≡ t.owed }
+    ensures call { IfSome result (CallsFor nodes state event) }
 {
     match state.step(nodes, &event) {
         Ok(after) => after.owed,
@@ -355,37 +374,17 @@ fn owed_after(nodes: RingSize, state: NodeState, event: Event) -> Option<Load>
     }
 }
 
-/// What a node in this state would owe after the event of this number, where that is a receipt.
-fn called_for<A: Allocator>(log: &NodeLog<A>, state: NodeState, position: u32) -> Option<Load> {
-    match event_of(log, position) {
-        Some(event @ Event::Got(_)) => owed_after(log.nodes(), state, event),
+/// What an event sends.
+fn load_sent(event: Event) -> Option<Load> {
+    match event {
+        Event::Sent(load) => Some(load),
         _ => None,
     }
 }
 
-/// What a node sent after so many sendings.
-fn next_sending<A: Allocator>(log: &NodeLog<A>, after: u32) -> Option<Load> {
-    let mut sent = 0u32;
-    for event in log.events() {
-        if let Event::Sent(load) = event {
-            if sent == after {
-                return Some(load);
-            }
-            sent = sent.saturating_add(1);
-        }
-    }
-    None
-}
-
-/// How many receipts a log has.
-fn receipts_of<A: Allocator>(log: &NodeLog<A>) -> u32 {
-    let mut receipts = 0u32;
-    for event in log.events() {
-        if let Event::Got(_) = event {
-            receipts = receipts.saturating_add(1);
-        }
-    }
-    receipts
+/// Whether an event is a receipt.
+fn is_receipt(event: &Event) -> bool {
+    matches!(event, Event::Got(_))
 }
 
 /// Whether an event is of the end of a term.
@@ -393,6 +392,18 @@ fn is_of_reset(event: Event) -> bool {
     matches!(
         event,
         Event::Yield | Event::Sent(Load::Reset(_)) | Event::Got(Load::Reset(_))
+    )
+}
+
+/// Whether an event sends a message of the node's own that is clean.
+fn is_clean_start(event: Event) -> bool {
+    matches!(
+        event,
+        Event::Sent(Load::Msg(Msg {
+            hop: 1,
+            dirty: false,
+            ..
+        }))
     )
 }
 
@@ -404,41 +415,24 @@ pub(crate) fn is_begun(load: Load) -> bool {
 }
 
 /// The first event of a log after this one that sends this load.
-fn sending_after<A: Allocator>(log: &NodeLog<A>, position: u32, load: Option<Load>) -> Option<u32> {
-    let sending = Event::Sent(load?);
-    let mut number = 0u32;
+fn sending_after<A: Allocator>(log: &NodeLog<A>, position: u32, load: Load) -> Option<u32>
+    ensures { MatchOption result ((n : ℕ) → ¬ (IsSentAfter log.now position load n))
+        (IsSentAfter log.now position load) }
+{
+    let mut number = 0;
     for event in log.events() {
-        number = number.saturating_add(1);
-        if number > position && event == sending {
+        number += 1;
+        if number > position && event == Event::Sent(load) {
             return Some(number);
         }
     }
     None
 }
 
-/// The first sending of a log with hop 1 that is clean.
-fn first_clean_start<A: Allocator>(log: &NodeLog<A>) -> Option<u32> {
-    let mut position = 0u32;
-    for event in log.events() {
-        position = position.saturating_add(1);
-        if let Event::Sent(
-            Load::Msg(
-                Msg {
-                    hop: 1,
-                    dirty: false,
-                    ..
-                },
-            ),
-        ) = event
-        {
-            return Some(position);
-        }
-    }
-    None
-}
-
 /// What a node may have done that sent what it owed, with another hop.
-fn hop_hint(sent: u32, owed: u32) -> Option<StopHint> {
+fn hop_hint(sent: u32, owed: u32) -> Option<StopHint>
+    ensures { (log : Log) (stopped : Stopped) → IfSome result (IsSo log stopped) }
+{
     if sent.saturating_add(1) == owed {
         Some(StopHint::HopNotRaised)
     } else if owed.saturating_add(1) == sent {

@@ -44,7 +44,7 @@ impl<'a, 'l, A: Allocator + Clone> StoppedLog<'a, 'l, A> {
             log,
             evidence,
             stopped,
-            hint: stopped.hint(),
+            hint: stopped.hint(log),
         }))
     }
 
