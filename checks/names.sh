@@ -82,7 +82,7 @@ done > "$made/below"
 # The numbers of requests to the module stand by their names, in this order, wherever they are sent from.
 requests_of() {
     sed 's|/\*.*\*/||; s/IRA_//' "$1" | tr -cs 'A-Za-z_' '\n' |
-        awk '/^LOG$/ { on = 1 } on && /^[A-Z_]+$/ { if (/JSON/) { print "JSON"; exit } print }'
+        awk '/^LOG$/ { on = 1 } on && /^[A-Z_]+$/ { sub(/.*JSON.*/, "JSON"); print; if (/LEADERS/) exit }'
 }
 sed -n 's/^const \([A-Z_]*\): u64 = \([0-9]*\);$/\2 \1/p' crates/ira_web/src/request.rt | awk '$1 == n { print $2; n++ }' \
     > "$made/requests"
@@ -92,7 +92,7 @@ for file in web/page.js library/ira.h library/ira.mjs library/ira.py checks/web.
 done > "$made/numbers"
 
 grep -rhoE --include='*.rt' '^pub (const )?(struct|enum|trait|type|fn) [A-Za-z0-9_]+' crates/ira_view*/src crates/ira_ring*/src \
-    crates/ira_main*/src crates/ira_mend/src | awk '{ print $NF }' | sort | uniq -d |
+    crates/ira_main*/src crates/ira_mend/src crates/ira_commands/src crates/ira_web/src | awk '{ print $NF }' | sort | uniq -d |
     sed 's/$/: two public items have this name/' > "$made/twice"
 
 # Each file that tells the variants of a type apart is named by the recipe for another one. Of each type a variant stands for

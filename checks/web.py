@@ -21,8 +21,8 @@ from pictures import HERE, Ring
 
 EXAMPLES = os.path.realpath(os.path.join(HERE, '..', 'examples'))
 LOG, LOGS, EXPLAIN_LOG, EXPLAIN, EXPLAIN_QUESTION, EXPLAIN_CERT, SHOW, EVENTS, DRAW, DECIDE, CHECK, PAIRS, UPGRADE, \
-    MEND, RUN, PAGE, AS_JSON = range(17)
-WITH_JSON = {LOGS, EXPLAIN_LOG, EXPLAIN, EXPLAIN_QUESTION, EXPLAIN_CERT, SHOW, EVENTS, DECIDE, CHECK}
+    MEND, RUN, PAGE, AS_JSON, LEADERS = range(18)
+WITH_JSON = {LOGS, EXPLAIN_LOG, EXPLAIN, EXPLAIN_QUESTION, EXPLAIN_CERT, SHOW, EVENTS, DECIDE, CHECK, LEADERS}
 ALL = (0, 2 ** 64 - 1)
 TOLD = '''
 const piece = it => ['h2', '.command', 'pre'].map(part => it.querySelector(part)?.textContent);
@@ -118,6 +118,8 @@ class Check:
             ask(command, [], *words)
             for cut in ([0] * len(logs), [1] * len(logs), [9] * len(logs)):
                 ask(command, [1, *cut], *words, '--at', ','.join(map(str, cut)))
+            for places in ([], [0], [len(logs)]):
+                ask(LEADERS, [len(places), *places, command], *words, '--leads', ','.join(map(str, places)) or 'any')
         self.draws(what, logs, names, [], ALL)
         self.draws(what, logs, names, ['--from', '2', '--to', '4'], (2, 4))
         self.draws(what, logs, names, ['--at', ','.join('1' * len(logs))], [*ALL, 1] + [1] * len(logs))

@@ -40,7 +40,8 @@ enum ira_request {
     IRA_RUN,              /* how nodes ended, and their logs as files; how many nodes, how many of them are initiators,
                            * the seed, how many draws a node is given, the most records of a log, how many terms */
     IRA_PAGE,             /* as IRA_DRAW, a page to move in the picture */
-    IRA_JSON              /* before IRA_LOGS to IRA_EVENTS, IRA_DECIDE and IRA_CHECK: JSON in place of other lines */
+    IRA_JSON,             /* before IRA_LOGS to IRA_EVENTS, IRA_DECIDE and IRA_CHECK: JSON in place of other lines */
+    IRA_LEADERS           /* before IRA_SHOW and IRA_EVENTS: how many nodes are to lead, and their places; any, with 0 */
 };
 
 /* What comes of a request: a status of the program, or why there is none. */

@@ -16,7 +16,7 @@ const compiled = new WebAssembly.Module(inPage ? Buffer.from(inPage, 'base64') :
 
 // The numbers of ira.h.
 export const [LOG, LOGS, EXPLAIN_LOG, EXPLAIN, EXPLAIN_QUESTION, EXPLAIN_CERT, SHOW, EVENTS, DRAW, DECIDE, CHECK, PAIRS,
-  UPGRADE, MEND, RUN, PAGE, JSON_LINES] = Array(17).keys();
+  UPGRADE, MEND, RUN, PAGE, JSON_LINES, LEADERS] = Array(18).keys();
 export const [YES, NO, REFUSED, OUT_OF_MEMORY, NO_REQUEST, NO_ROOM] = Array(6).keys();
 
 export const ALL = [0n, 2n ** 64n - 1n];
@@ -124,10 +124,11 @@ function moment({at, question, case: number}) {
   return [at === undefined ? [] : [1, ...at], []];
 }
 
-// A ring at a moment, with an order of all events where these are wanted.
-export function show(texts, {events = false, names, ...when} = {}) {
-  const [values, files] = moment(when);
-  return asked([JSON_LINES, events ? EVENTS : SHOW, ...values], [...files, ...ring(texts, names)]);
+// A ring at a moment, with an order of all events where these are wanted. With places in `leads` the status says whether
+// these nodes lead when the logs end, and no other; with none, whether any does.
+export function show(texts, {events = false, leads, names, ...when} = {}) {
+  const [values, files] = moment(when), led = leads ? [LEADERS, leads.length, ...leads] : [];
+  return asked([JSON_LINES, ...led, events ? EVENTS : SHOW, ...values], [...files, ...ring(texts, names)]);
 }
 
 // The answer's line, and a picture as the only file, or a page to move in it; without one where none is drawn.

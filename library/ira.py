@@ -22,7 +22,7 @@ _serve.argtypes = [ctypes.c_void_p, ctypes.c_size_t] * 6
 
 # The numbers of ira.h.
 LOG, LOGS, EXPLAIN_LOG, EXPLAIN, EXPLAIN_QUESTION, EXPLAIN_CERT, SHOW, EVENTS, DRAW, DECIDE, CHECK, PAIRS, UPGRADE, \
-    MEND, RUN, PAGE, JSON = range(17)
+    MEND, RUN, PAGE, JSON, LEADERS = range(18)
 YES, NO, REFUSED, OUT_OF_MEMORY, NO_REQUEST, NO_ROOM = range(6)
 
 ALL = (0, 2 ** 64 - 1)
@@ -138,10 +138,12 @@ def _moment(at, question, case):
     return ([] if at is None else [1, *at]), []
 
 
-def show(texts, at=None, question=None, case=None, events=False, names=None):
-    """A ring at a moment, with an order of all events where these are wanted."""
+def show(texts, at=None, question=None, case=None, events=False, leads=None, names=None):
+    """A ring at a moment, with an order of all events where these are wanted. With places in `leads` the status says
+    whether these nodes lead when the logs end, and no other; with none, whether any does."""
     values, asked = _moment(at, question, case)
-    return _asked([JSON, EVENTS if events else SHOW, *values], asked + _ring(texts, names))
+    led = [] if leads is None else [LEADERS, len(leads), *leads]
+    return _asked([JSON, *led, EVENTS if events else SHOW, *values], asked + _ring(texts, names))
 
 
 def draw(texts, at=None, question=None, case=None, columns=ALL, page=False, names=None):

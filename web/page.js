@@ -57,7 +57,7 @@ function send(message) {
 }
 
 const [LOG, LOGS, EXPLAIN_LOG, EXPLAIN, EXPLAIN_QUESTION, EXPLAIN_CERT, SHOW, EVENTS, DRAW, DECIDE, CHECK, PAIRS,
-  UPGRADE, MEND, RUN, PAGE, AS_JSON] = Array(17).keys();
+  UPGRADE, MEND, RUN, PAGE, AS_JSON, LEADERS] = Array(18).keys();
 
 // The status of a command, and what it prints and writes.
 async function ask(values, files) {
@@ -159,6 +159,14 @@ function momentAsked() {
   return cut.includes(null) ? null : {values: [1, ...cut], files: [], words: `--at ${cut} `};
 }
 
+// Who is to lead, as values and in words; nothing where that isn't asked, and null where it is neither places nor any.
+function leadersAsked() {
+  const words = $('leads').value.replaceAll(' ', '');
+  if (!words) return;
+  const places = words == 'any' ? [] : words.split(',').map(text => number(text, null));
+  return places.includes(null) ? null : {values: [LEADERS, places.length, ...places], words};
+}
+
 // A name as a shell takes it.
 const quoted = ({name}) => /^[\w./][\w./-]*$/.test(name) ? name : `'${name.replaceAll("'", "'\\''")}'`;
 const namesOf = files => files.map(quoted).join(' ');
@@ -242,6 +250,10 @@ async function judge() {
     if (svg || drawn.err) add(piece('Picture', line('svg'), {...drawn, out: ''},
       svg && picture(svg, toMoveIn(line('html'), [PAGE, ...shown], files))));
     if (status) return;
+    const leaders = leadersAsked();
+    if (leaders) add(await answered('Whether those lead who are to', `show --leads ${leaders.words} ${moment.words}${names}`,
+      [...leaders.values, SHOW, ...moment.values], files));
+    else if (leaders === null) fault('Who is to lead are places with commas between them, or any.');
     add(await answered('Who leads, and what is on its way', `show ${moment.words}${names}`, [SHOW, ...moment.values],
       files));
     add(await answered('An order of all events', `show --events ${moment.words}${names}`, [EVENTS, ...moment.values],
@@ -341,7 +353,7 @@ $('uncertified').onclick = () => {
   cert = null;
   judge();
 };
-for (const input of [$('moment'), $('at'), $('from'), $('to')]) input.onchange = judge;
+for (const input of [$('moment'), $('at'), $('leads'), $('from'), $('to')]) input.onchange = judge;
 $('mend').onclick = () => write('Mended', `mend --start ${$('start').value} --out mended ${namesOf(logs)}`,
   [MEND, +($('start').value == 'initiator')], logs);
 $('upgrade').onclick = () => write('Upgraded', `upgrade --out upgraded ${namesOf(logs)}`, [UPGRADE], logs);

@@ -11,19 +11,19 @@ use Rattle.ira_view_picture.specs.declared.draw_fault.DrawFault.TheVariants as d
 use Rattle.ira_view.specs.ShownRing.{ShownRing}
 use Rattle.ira_view.specs.declared.ring_fault.RingFault.{RingFault}
 use Rattle.ira_view.specs.declared.ring_fault.RingFault.TheVariants as fault
-use Rattle.ira_commands.specs.AskedMoment.{IsAskedRing, IsNoAskedRing}
+use Rattle.ira_commands.specs.RingMoment.{IsAskedRing, IsNoAskedRing}
 use Rattle.ira_commands.specs.Reply.{Reply}
 use Rattle.ira_commands.specs.Show.{Draws, IsReportableFault, TellsPicture}
 use Rattle.ira_commands.specs.Show.Draws.{drawn, too_many}
-use Rattle.ira_commands.specs.declared.asked_moment.AskedMoment.{AskedMoment}
-use Rattle.ira_commands.specs.declared.asked_moment.AskedMoment.TheVariants.{AtCut, AtEnd, OfQuestion}
+use Rattle.ira_commands.specs.declared.ring_moment.RingMoment.{RingMoment}
+use Rattle.ira_commands.specs.declared.ring_moment.RingMoment.TheVariants.{AtCut, AtEnd, OfQuestion}
 
 -- the reason why a question is refused doesn't say that memory ran out
 question_reportable : (text : List ℕ) (nodes : ℕ) (r : Reason) → IsQuestionRefusal text nodes r → IsReportableReason r
 question_reportable text nodes r (inl h) = rw h.3 h.2
 question_reportable text nodes r (inr h) = rw h.3 tt
 
-pub fault_reportable : (logs : List Log) (moment : AskedMoment) (question : List ℕ) (f : RingFault)
+pub fault_reportable : (logs : List Log) (moment : RingMoment) (question : List ℕ) (f : RingFault)
     → IsNoAskedRing logs moment question f → IsReportableFault f
 fault_reportable logs AtEnd question f h = absurd h
 fault_reportable logs (AtCut events) question (fault.No r) h = absurd h
@@ -44,7 +44,7 @@ draws answer IsPicture AreTooMany (Err (draw.TooManyEvents events)) reply printa
 draws answer IsPicture AreTooMany (Err draw.OutOfMemory) reply printable is many told = absurd told
 
 -- a ring that is asked for has these logs
-pub ring_logs : (logs : List Log) (moment : AskedMoment) (question : List ℕ) (ring : ShownRing)
+pub ring_logs : (logs : List Log) (moment : RingMoment) (question : List ℕ) (ring : ShownRing)
     → IsAskedRing logs moment question ring → ring.logs ≡ logs
 ring_logs logs AtEnd question ring h = ap (λ (r : ShownRing). r.logs) h
 ring_logs logs (AtCut events) question ring h = h.0

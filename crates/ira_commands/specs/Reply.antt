@@ -10,6 +10,8 @@ use Rattle.ira_view.specs.ViewText.{IsAnswerText, IsViewText}
 use Rattle.ira_view.specs.declared.status.Status.{Status}
 use Rattle.ira_view.specs.declared.status.Status.TheVariants.{Refused}
 use Rattle.ira_commands.specs.CommandFault.{command_fault_text}
+use Rattle.ira_commands.specs.Output.{Printed}
+use Rattle.ira_commands.specs.Output.Printed.{whole_text}
 use Rattle.ira_commands.specs.declared.command_fault.CommandFault.{CommandFault}
 use Rattle.ira_commands.specs.declared.files.Files.{Files}
 use Rattle.ira_commands.specs.declared.files.Files.TheVariants as files
@@ -24,13 +26,17 @@ pub data MadeFiles : Type 0 where
 -- files that are made
 pub record Reply : Type 0 where
   pub status : Status
-  pub out : List ℕ
+  pub out : Printed
   pub fault : Option CommandFault
   pub files : MadeFiles
 
--- this text is printed on standard output, and nothing else
+-- this is printed on standard output, and nothing else
+abbrev pub printing : Status → Printed → Reply
+printing status out = record { status = status; out = out; fault = None; files = no_files }
+
+-- this text
 abbrev pub printed : Status → List ℕ → Reply
-printed status text = record { status = status; out = text; fault = None; files = no_files }
+printed status text = printing status (whole_text text)
 
 -- such a text is printed on standard output, and nothing else
 abbrev pub Prints : (List ℕ → Type 0) → Status → Reply → Type 0
@@ -38,7 +44,7 @@ Prints IsText status reply = (text : List ℕ) × IsText text × (reply ≡ prin
 
 -- this text is printed on standard output, and then what is asked for is refused
 abbrev pub refused_after : List ℕ → CommandFault → Reply
-refused_after text fault = record { status = Refused; out = text; fault = Some fault; files = no_files }
+refused_after text fault = record { status = Refused; out = whole_text text; fault = Some fault; files = no_files }
 
 -- what is asked for is refused, and nothing is printed
 abbrev pub refused : CommandFault → Reply

@@ -18,24 +18,25 @@ use Rattle.ira_view_picture.specs.DrawFault.{HasTooManyEvents}
 use Rattle.ira_view_picture.specs.declared.draw_fault.DrawFault.{DrawFault}
 use Rattle.ira_view_picture.specs.declared.draw_fault.DrawFault.TheVariants as draw
 use Rattle.ira_view.specs.Html.{IsHtmlOf, IsJudgedTold, IsPictureTold, IsRefusalTold, IsRingHtml}
-use Rattle.ira_view.specs.ShownRing.{AreEventsOf, AreJsonLines, HasTooManyAt, IsPageOf, IsPictureOf, ShownRing}
-use Rattle.ira_view.specs.Status.{answer_status}
+use Rattle.ira_view.specs.ShownRing.{HasTooManyAt, IsPageOf, IsPictureOf, ShownRing}
+use Rattle.ira_view.specs.Status.{IsLeadsStatus, answer_status}
 use Rattle.ira_view.specs.Texts.{AreFiles}
 use Rattle.ira_view.specs.declared.ring_fault.RingFault.{RingFault}
 use Rattle.ira_view.specs.declared.ring_fault.RingFault.TheVariants as fault
-use Rattle.ira_view.specs.declared.status.Status.TheVariants.{Yes}
-use Rattle.ira_commands.specs.AskedMoment.{IsAskedRing, IsNoAskedRing}
-use Rattle.ira_commands.specs.Reply.{Prints, Reply, ReportsAs, printed, refused, with_files}
+use Rattle.ira_view.specs.declared.status.Status.{Status}
+use Rattle.ira_commands.specs.Output.{AreLinesAfter}
+use Rattle.ira_commands.specs.Output.Printed.{all_events, json_lines}
+use Rattle.ira_commands.specs.Reply.{Prints, Reply, ReportsAs, printed, printing, refused, with_files}
 use Rattle.ira_commands.specs.Reply.MadeFiles.{one_text}
-use Rattle.ira_commands.specs.declared.asked_moment.AskedMoment.{AskedMoment}
-use Rattle.ira_commands.specs.declared.command_fault.CommandFault.TheVariants.{NoMoment, TooManyEvents}
+use Rattle.ira_commands.specs.RingForm.{leaders_of, wants_json}
+use Rattle.ira_commands.specs.RingLeaders.{AreDifferencesOf, AreNoPlaces, named_places}
+use Rattle.ira_commands.specs.RingMoment.{IsAskedRing, IsNoAskedRing}
+use Rattle.ira_commands.specs.declared.command_fault.CommandFault.TheVariants.{NoMoment, NoPlace, TooManyEvents}
+use Rattle.ira_commands.specs.declared.ring_form.LinesForm.{LinesForm}
 use Rattle.ira_commands.specs.declared.ring_form.RingForm.{RingForm}
 use Rattle.ira_commands.specs.declared.ring_form.RingForm.TheVariants.{Html, Lines, Picture}
-
--- such a text is printed after the line of a yes
-abbrev pub PrintsYes : (List ℕ → Type 0) → Reply → Type 0
-PrintsYes IsText reply =
-    (text : List ℕ) × IsText text × (reply ≡ printed Yes (report_line answer.Yes ++ text))
+use Rattle.ira_commands.specs.declared.ring_leaders.RingLeaders.{RingLeaders}
+use Rattle.ira_commands.specs.declared.ring_moment.RingMoment.{RingMoment}
 
 -- such a picture, which is printable, is a file, and the line of the answer is printed; or so many events are too many for a
 -- picture, and that is refused
@@ -46,26 +47,28 @@ pub data Draws (answer : Answer) (IsPicture : List ℕ → Type 0) (AreTooMany :
   too_many : (events : ℕ) → AreTooMany events → reply ≡ refused (TooManyEvents events)
       → Draws answer IsPicture AreTooMany reply
 
--- lines on a ring are printed: as JSON, where that is wanted; or else all events in an order, where these are wanted, or what
--- it looks like at its moment
-abbrev pub PrintsLines : Bool → Bool → ShownRing → Reply → Type 0
-PrintsLines true has_events ring = Prints (AreJsonLines has_events None ring Yes) Yes
-PrintsLines false true ring = PrintsYes (AreEventsOf ring)
-PrintsLines false false ring = PrintsYes (IsPageOf ring)
+-- lines on a ring are printed, with this status: as JSON, where that is wanted; or else, after these on who leads, all events in
+-- an order, where these are wanted, or what it looks like at its moment
+abbrev pub PrintsLinesAs : Bool → Bool → RingLeaders → ShownRing → List ℕ → Status → Reply → Type 0
+PrintsLinesAs true has_events leaders ring differences status reply = reply ≡ printing status
+    (json_lines (record { ring = ring; named = named_places leaders; has_events = has_events; status = status }))
+PrintsLinesAs false true leaders ring differences status reply = reply ≡ printing status (all_events ring differences)
+PrintsLinesAs false false leaders ring differences status reply =
+    Prints (AreLinesAfter differences (IsPageOf ring)) status reply
 
--- a ring is told in a form
+-- and the status says whether there are lines on who leads
+abbrev pub PrintsLines : LinesForm → ShownRing → List ℕ → Reply → Type 0
+PrintsLines form ring differences reply = (status : Status) × IsLeadsStatus differences status
+    × PrintsLinesAs form.is_json form.has_events form.leaders ring differences status reply
+
+-- a ring is told in a form: lines after those on who leads, or a picture
 abbrev pub TellsRing : RingForm → ShownRing → Reply → Type 0
-TellsRing (Lines is_json has_events) ring = PrintsLines is_json has_events ring
-TellsRing (Picture columns) ring =
-    Draws answer.Yes (IsPictureOf ring columns.from columns.to) (HasTooManyAt ring columns.from columns.to)
-TellsRing (Html columns) ring =
-    Draws answer.Yes (IsRingHtml ring columns.from columns.to) (HasTooManyAt ring columns.from columns.to)
-
--- JSON is wanted
-abbrev pub wants_json : RingForm → Bool
-wants_json (Lines is_json has_events) = is_json
-wants_json (Picture columns) = false
-wants_json (Html columns) = false
+TellsRing (Lines form) ring reply =
+    (differences : List ℕ) × AreDifferencesOf ring.logs form.leaders differences × PrintsLines form ring differences reply
+TellsRing (Picture columns) ring reply =
+    Draws answer.Yes (IsPictureOf ring columns.from columns.to) (HasTooManyAt ring columns.from columns.to) reply
+TellsRing (Html columns) ring reply =
+    Draws answer.Yes (IsRingHtml ring columns.from columns.to) (HasTooManyAt ring columns.from columns.to) reply
 
 -- the lines of JSON that a page tells of refused logs, in files of these names and with these texts
 abbrev pub IsRefusalToldOf : Type 0 → List (List ℕ) → List (List ℕ) → RefusedLogs → List ℕ → Type 0
@@ -75,7 +78,7 @@ IsRefusalToldOf A names texts refused told =
 -- logs that are those of no run, in files of these names and with these texts, are told in a form: there is a picture of
 -- them, or a page, and else their answer alone
 abbrev pub TellsRefused : Type 0 → RingForm → List (List ℕ) → List (List ℕ) → RefusedLogs → Reply → Type 0
-TellsRefused A (Lines is_json has_events) names texts logs = ReportsAs is_json (answer.No logs.reason)
+TellsRefused A (Lines form) names texts logs = ReportsAs form.is_json (answer.No logs.reason)
 TellsRefused A (Picture columns) names texts logs =
     Draws (answer.No logs.reason) (IsRefusedDrawing logs.logs columns.from columns.to)
     (HasTooManyEvents logs.logs None columns.from columns.to)
@@ -91,15 +94,21 @@ TellsFault is_json (fault.No r) reply = ReportsAs is_json (answer.No r) reply
 TellsFault is_json (fault.Cut f) reply = reply ≡ refused (NoMoment f)
 TellsFault is_json fault.OutOfMemory reply = ⊥
 
--- what comes of the texts of files of these names and of the text of a question. They are those of good logs, and the ring is
--- told at the moment that is asked for, or why there is no such moment; or they are those of other logs of one ring; or this
--- is why they are those of no ring's logs
-pub data ShowsLogs (A : Type 0) (form : RingForm) (moment : AskedMoment) (question : List ℕ) (names texts : List (List ℕ))
+-- what comes of good logs and of the text of a question: the ring is told at the moment that is asked for; or why there is no
+-- such moment; or a node that is to lead is none of the ring, which is refused
+pub data ShowsGood (form : RingForm) (moment : RingMoment) (question : List ℕ) (logs : List Log) (reply : Reply)
+    : Type 0 where
+  shown : (ring : ShownRing) → IsAskedRing logs moment question ring → TellsRing form ring reply
+      → ShowsGood form moment question logs reply
+  no_moment : (f : RingFault) → IsNoAskedRing logs moment question f → TellsFault (wants_json form) f reply
+      → ShowsGood form moment question logs reply
+  no_place : AreNoPlaces logs (leaders_of form) → reply ≡ refused NoPlace → ShowsGood form moment question logs reply
+
+-- what comes of the texts of files of these names and of the text of a question. They are those of good logs, whose ring is
+-- told; or they are those of other logs of one ring; or this is why they are those of no ring's logs
+pub data ShowsLogs (A : Type 0) (form : RingForm) (moment : RingMoment) (question : List ℕ) (names texts : List (List ℕ))
     (reply : Reply) : Type 0 where
-  shown : (logs : List Log) (ring : ShownRing) → AreGoodLogs texts logs → IsAskedRing logs moment question ring
-      → TellsRing form ring reply → ShowsLogs A form moment question names texts reply
-  no_moment : (logs : List Log) (f : RingFault) → AreGoodLogs texts logs
-      → IsNoAskedRing logs moment question f → TellsFault (wants_json form) f reply
+  good : (logs : List Log) → AreGoodLogs texts logs → ShowsGood form moment question logs reply
       → ShowsLogs A form moment question names texts reply
   no_run : (logs : RefusedLogs) → AreLogTexts texts logs.logs → AreRefused logs
       → IsLogsReason texts logs.reason → TellsRefused A form names texts logs reply

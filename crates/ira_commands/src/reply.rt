@@ -1,14 +1,14 @@
-ghost use Rattle.std.specs.Prelude.{◌≡◌, ◌++◌, IfOk};
-ghost use Rattle.ira_audit.specs.Report.{IsReportable, report_line};
-ghost use Rattle.ira_commands.specs.Reply.{Reports, ReportsAs, made, printed, refused, refused_after, with_files};
-ghost use Rattle.ira_commands.specs.Reply.MadeFiles.{logs_of, one_text};
-ghost use Rattle.ira_view.specs.Status.{answer_status};
+ghost use Rattle.std.specs.Prelude.{◌≡◌, IfOk};
+ghost use Rattle.ira_audit.specs.Report.{IsReportable};
+ghost use Rattle.ira_commands.specs.Output.{printed_by};
+ghost use Rattle.ira_commands.specs.Reply.{Reports, ReportsAs, made, printed, printing, refused, refused_after, with_files};
 
 use crate::command_fault::CommandFault;
 use crate::files::Files;
+use crate::output::Output;
 use ira_audit::{Answer, write_report};
 use ira_event::{MemorySink, OutOfMemory};
-use ira_view::{Status, write_answer_as, write_view};
+use ira_view::{Status, write_answer_as};
 use std::alloc::Allocator;
 use std::marker::Model;
 
@@ -17,18 +17,23 @@ use std::marker::Model;
 pub struct Reply<A: Allocator> {
     status: Status,
     /// What is printed on standard output.
-    out: MemorySink<A>,
+    out: Output<A>,
     /// Why it is refused, which is printed on standard error.
     fault: Option<CommandFault>,
     files: Files<A>,
 }
 
 impl<A: Allocator> Model for Reply<A> {
+    ghost use Rattle.std.specs.Coded.{codes};
+    ghost use Rattle.ira_pred.specs.FormulaCode.{formula_code};
+    ghost use Rattle.ira_commands.specs.Output.{printed_by};
     ghost use Rattle.ira_commands.specs.Reply.{Reply, made};
 
     ghost Value = { Reply };
 
-    ghost view = { λ r. record { status = r.status; out = r.out.bytes; fault = r.fault; files = made r.files } };
+    ghost coded = { Prim.hlevel (codes, formula_code) };
+
+    ghost view = { λ r. record { status = r.status; out = printed_by r.out; fault = r.fault; files = made r.files } };
 }
 
 impl<A: Allocator + Clone> Reply<A> {
@@ -56,29 +61,23 @@ impl<A: Allocator + Clone> Reply<A> {
         Ok(Reply::printed(Status::of_answer(answer), text))
     }
 
-    /// The line of an answer, and a page after it.
-    pub(crate) fn of_page(alloc: A, answer: &Answer, page: &[u8]) -> Result<Reply<A>, OutOfMemory>
-        requires { IsReportable answer.now }
-        ensures { IfOk result (λ reply.
-            reply ≡ printed (answer_status answer.now) (report_line answer.now ++ page.now)) }
-    {
-        let mut text = MemorySink::new(alloc);
-        let Ok(()) = write_view(answer, page, &mut text) else {
-            return Err(OutOfMemory);
-        };
-        Ok(Reply::printed(Status::of_answer(answer), text))
-    }
-
     /// What is printed on standard output, and nothing else.
-    pub(crate) fn printed(status: Status, text: MemorySink<A>) -> Reply<A>
-        ensures { result ≡ printed status text.bytes }
+    pub(crate) fn printing(status: Status, out: Output<A>) -> Reply<A>
+        ensures { result ≡ printing status (printed_by out) }
     {
         Reply {
             status,
-            out: text,
+            out,
             fault: None,
             files: Files::Nothing,
         }
+    }
+
+    /// This text on standard output, and nothing else.
+    pub(crate) fn printed(status: Status, text: MemorySink<A>) -> Reply<A>
+        ensures { result ≡ printed status text.bytes }
+    {
+        Reply::printing(status, Output::Text(text))
     }
 
     /// What is printed on standard output before a refusal.
@@ -87,7 +86,7 @@ impl<A: Allocator + Clone> Reply<A> {
     {
         Reply {
             status: Status::Refused,
-            out: text,
+            out: Output::Text(text),
             fault: Some(fault),
             files: Files::Nothing,
         }
@@ -125,10 +124,10 @@ impl<A: Allocator + Clone> Reply<A> {
     }
 
     /// What is printed on standard output.
-    pub fn out(&self) -> &[u8]
-        ensures { result.now ≡ self.now.out }
+    pub fn out(&self) -> &Output<A>
+        ensures { printed_by result.now ≡ self.now.out }
     {
-        self.out.bytes()
+        &self.out
     }
 
     /// Why it is refused, which is printed on standard error.
@@ -146,8 +145,8 @@ impl<A: Allocator + Clone> Reply<A> {
     }
 
     /// What is printed on standard output, why it is refused, and the files that are made.
-    pub fn into_parts(self) -> (MemorySink<A>, Option<CommandFault>, Files<A>)
-        ensures out { result.0.bytes ≡ self.out }
+    pub fn into_parts(self) -> (Output<A>, Option<CommandFault>, Files<A>)
+        ensures out { printed_by result.0 ≡ self.out }
         ensures fault { result.1 ≡ self.fault }
         ensures files { made result.2 ≡ self.files }
     {

@@ -1,22 +1,26 @@
-ghost use Rattle.std.specs.Prelude.{◌≡◌, IfOk, List, None, Some, length, string_bytes, ℕ};
+ghost use Rattle.std.specs.Prelude.{◌≡◌, IfOk, List, length, string_bytes, ℕ};
 ghost use Rattle.ira_audit.specs.Report.{IsReportable};
 ghost use Rattle.ira_audit.specs.Judged.{IsJudged};
 ghost use Rattle.ira_audit.specs.declared.judged.Judged.TheVariants.{Refused};
-ghost use Rattle.ira_view_page.specs.Printable.{IsPrintable};
-ghost use Rattle.ira_view.specs.ShownRing.{AreEventsOf, AreJsonLines};
+ghost use Rattle.ira_view.specs.ShownRing.{IsPageOf};
 ghost use Rattle.ira_view.specs.Texts.{AreFiles, texts_of};
-ghost use Rattle.ira_view.specs.declared.status.Status.TheVariants.{Yes};
+ghost use Rattle.ira_commands.specs.Output.{AreLinesAfter};
 ghost use Rattle.ira_commands.specs.Reply.{Prints};
-ghost use Rattle.ira_commands.specs.Show.{IsReportableFault, IsToldOf, PrintsLines, PrintsYes, ShowsLogs, TellsFault, TellsPicture, TellsRefused, TellsRing};
+ghost use Rattle.ira_commands.specs.RingForm.{leaders_of};
+ghost use Rattle.ira_commands.specs.RingLeaders.{AreDifferencesOf};
+ghost use Rattle.ira_commands.specs.Show.{IsReportableFault, IsToldOf, PrintsLines, ShowsGood, ShowsLogs, TellsFault};
+ghost use Rattle.ira_commands.specs.Show.{TellsPicture, TellsRefused, TellsRing};
 
-use crate::asked_moment::AskedMoment;
 use crate::command_fault::CommandFault;
 use crate::files::Files;
+use crate::json_lines::JsonLines;
+use crate::output::Output;
 use crate::reply::Reply;
-use crate::ring_form::RingForm;
-use ira_audit::{Answer, Judged, RefusedLogs, write_report};
+use crate::ring_form::{LinesForm, RingForm};
+use crate::ring_moment::RingMoment;
+use ira_audit::{Answer, GoodLogs, Judged, RefusedLogs};
 use ira_event::{MemorySink, OutOfMemory};
-use ira_view::{RingFault, ShownRing, Status, add_json, refused_html, refused_lines, ring_html};
+use ira_view::{RingFault, ShownRing, Status, refused_html, refused_lines, ring_html, write_view};
 use ira_view_draw::draw_refused;
 use ira_view_page::{NamedText, PageText};
 use ira_view_picture::DrawFault;
@@ -38,54 +42,53 @@ fn tell_fault<A: Allocator + Clone>(
     }
 }
 
-/// An order of all events of a ring, after the line of a yes.
-fn tell_events<A: Allocator + Clone>(alloc: A, ring: &ShownRing<A>) -> Result<Reply<A>, OutOfMemory>
-    ensures { IfOk result (PrintsYes (AreEventsOf ring.now)) }
-{
-    let mut text = MemorySink::new(alloc.clone()?);
-    let Ok(()) = write_report(&Answer::Yes, &mut text) else {
-        return Err(OutOfMemory);
-    };
-    let Ok(()) = ring.write_events(alloc, &mut text) else {
-        return Err(OutOfMemory);
-    };
-    Ok(Reply::printed(Status::Yes, text))
-}
-
-/// A ring, whose logs are in files of these names, as lines of JSON.
-fn tell_json<A: Allocator + Clone>(
+/// What a ring looks like at its moment, after the line of a yes and these lines on who leads.
+fn tell_page<A: Allocator + Clone>(
     alloc: A,
     ring: &ShownRing<A>,
-    has_events: bool,
-    names: &[String<A>],
+    differences: &PageText<A>,
+    status: Status,
 ) -> Result<Reply<A>, OutOfMemory>
-    requires { length names.now ≡ length ring.now.logs }
-    ensures { IfOk result (Prints (AreJsonLines has_events None ring.now Yes) Yes) }
+    ensures { IfOk result (Prints (AreLinesAfter differences.now (IsPageOf ring.now)) status) }
 {
-    let mut lines = MemorySink::new(alloc.clone()?);
-    add_json(alloc, ring, names, has_events, &mut lines)?;
-    Ok(Reply::printed(Status::Yes, lines))
+    let page = ring.page(alloc.clone()?)?;
+    let mut text = MemorySink::new(alloc);
+    let Ok(()) = write_view(&Answer::Yes, differences.bytes(), &mut text) else {
+        return Err(OutOfMemory);
+    };
+    let Ok(()) = page.write(&mut text) else {
+        return Err(OutOfMemory);
+    };
+    Ok(Reply::printed(status, text))
 }
 
-/// A ring, whose logs are in files of these names, as lines.
+/// A ring, whose logs are in files of these names, as lines, after these on who leads. Those that may be many are made as they
+/// are printed.
 fn tell_lines<A: Allocator + Clone>(
     alloc: A,
-    ring: &ShownRing<A>,
-    is_json: bool,
-    has_events: bool,
-    names: &[String<A>],
+    form: LinesForm<'_>,
+    ring: ShownRing<A>,
+    differences: PageText<A>,
+    names: Vec<String<A>, A>,
 ) -> Result<Reply<A>, OutOfMemory>
-    requires { length names.now ≡ length ring.now.logs }
-    ensures { IfOk result (PrintsLines is_json has_events ring.now) }
+    requires { length names.items ≡ length ring.logs }
+    ensures { IfOk result (PrintsLines form.entry ring differences) }
 {
-    if is_json {
-        return tell_json(alloc, ring, has_events, names);
+    let status = Status::of_differences(differences.bytes());
+    if form.is_json {
+        let named = form.leaders.places(alloc.clone()?)?;
+        let lines = JsonLines::new(alloc, ring, names, named, form.has_events, status);
+        return Ok(Reply::printing(status, Output::Json(lines)));
     }
-    if has_events {
-        return tell_events(alloc, ring);
+    if form.has_events {
+        let events = Output::Events {
+            alloc,
+            ring,
+            differences,
+        };
+        return Ok(Reply::printing(status, events));
     }
-    let page = ring.page(alloc.clone()?)?;
-    Reply::of_page(alloc, &Answer::Yes, page.bytes())
+    tell_page(alloc, &ring, &differences, status)
 }
 
 /// A picture, or a page, as a file, after the line of the answer; or why there is none.
@@ -106,46 +109,67 @@ fn tell_picture<A: Allocator + Clone>(
     }
 }
 
-/// A ring, whose logs are in files of these names, in a form.
+/// A ring, whose logs are in files of these names, in a form, where lines come after these on who leads.
 fn tell_ring<A: Allocator + Clone>(
     alloc: A,
-    form: RingForm,
-    ring: &ShownRing<A>,
-    names: &[String<A>],
+    form: RingForm<'_>,
+    ring: ShownRing<A>,
+    differences: PageText<A>,
+    names: Vec<String<A>, A>,
 ) -> Result<Reply<A>, OutOfMemory>
-    requires { length names.now ≡ length ring.now.logs }
-    ensures { IfOk result (TellsRing form ring.now) }
+    requires names { length names.items ≡ length ring.logs }
+    requires differences { AreDifferencesOf ring.logs (leaders_of form) differences }
+    ensures { IfOk result (TellsRing form.entry ring) }
 {
     match form {
-        RingForm::Lines {
-            is_json,
-            has_events,
-        } => tell_lines(alloc, ring, is_json, has_events, names),
+        RingForm::Lines(form) => tell_lines(alloc, form, ring, differences, names),
         RingForm::Picture(columns) => {
             let picture = ring.picture(alloc.clone()?, columns);
             tell_picture(alloc, &Answer::Yes, picture)
         }
         RingForm::Html(columns) => {
-            let page = ring_html(alloc.clone()?, ring, names, columns);
+            let page = ring_html(alloc.clone()?, &ring, &names, columns);
             tell_picture(alloc, &Answer::Yes, page)
         }
+    }
+}
+
+/// The ring of good logs, which are in files of these names, in a form, at the moment that is asked for, of a question of this
+/// text where it is the first of one.
+fn show_good<A: Allocator + Clone>(
+    alloc: A,
+    form: RingForm<'_>,
+    moment: &RingMoment<'_>,
+    question: &[u8],
+    names: Vec<String<A>, A>,
+    logs: GoodLogs<A>,
+) -> Result<Reply<A>, OutOfMemory>
+    requires { length names.items ≡ length logs }
+    ensures { IfOk result (ShowsGood form.entry moment.now question.now logs) }
+{
+    let Some(differences) = form.leaders().differences(alloc.clone()?, &logs)? else {
+        return Ok(Reply::refused(alloc, CommandFault::NoPlace));
+    };
+    match moment.ring(alloc.clone()?, logs, question) {
+        Ok(ring) => tell_ring(alloc, form, ring, differences, names),
+        Err(fault) => tell_fault(alloc, form.wants_json(), fault),
     }
 }
 
 /// What a page to move in tells of refused logs in these files, where one is asked for.
 pub fn told_in_page<A: Allocator + Clone>(
     alloc: A,
-    form: RingForm,
+    form: RingForm<'_>,
     files: &[NamedText<'_>],
     judged: &Judged<A>,
 ) -> Result<String<A>, OutOfMemory>
     requires { IsJudged (texts_of files.now) judged.now }
     ensures { (names : List (List ℕ)) → AreFiles names (texts_of files.now) files.now
-        → IfOk result (λ told. IsToldOf form names (texts_of files.now) judged.now (string_bytes told)) }
+        → IfOk result (λ told. IsToldOf form.entry names (texts_of files.now) judged.now (string_bytes told)) }
 {
     match form {
         RingForm::Html(_) => refused_lines(alloc, files, judged),
-        RingForm::Lines { .. } | RingForm::Picture(_) => Ok(String::new(alloc)),
+        RingForm::Lines(_) | RingForm::Picture(_) => Ok(String::new(alloc)),
     }
 }
 
@@ -153,17 +177,17 @@ pub fn told_in_page<A: Allocator + Clone>(
 /// the page.
 fn tell_refused<A: Allocator + Clone>(
     alloc: A,
-    form: RingForm,
+    form: RingForm<'_>,
     refused: &RefusedLogs<A>,
     told: &[u8],
 ) -> Result<Reply<A>, OutOfMemory>
     requires { IsReportable (Answer.No refused.now.reason) }
-    ensures { (names texts : List (List ℕ)) → IsToldOf {A = A} form names texts (Refused refused.now) told.now
-        → IfOk result (TellsRefused A form names texts refused.now) }
+    ensures { (names texts : List (List ℕ)) → IsToldOf {A = A} form.entry names texts (Refused refused.now) told.now
+        → IfOk result (TellsRefused A form.entry names texts refused.now) }
 {
     let answer = Answer::No(refused.reason());
     match form {
-        RingForm::Lines { is_json, .. } => Reply::of_answer_as(alloc, is_json, &answer),
+        RingForm::Lines(form) => Reply::of_answer_as(alloc, form.is_json, &answer),
         RingForm::Picture(columns) => {
             let picture = draw_refused(alloc.clone()?, refused, columns);
             tell_picture(alloc, &answer, picture)
@@ -179,22 +203,19 @@ fn tell_refused<A: Allocator + Clone>(
 /// where it is the first of one. This is told in a page of refused logs.
 pub fn show_ring<A: Allocator + Clone>(
     alloc: A,
-    form: RingForm,
-    moment: &AskedMoment<'_>,
+    form: RingForm<'_>,
+    moment: &RingMoment<'_>,
     question: &[u8],
-    names: &[String<A>],
+    names: Vec<String<A>, A>,
     told: &[u8],
     judged: Judged<A>,
 ) -> Result<Reply<A>, OutOfMemory>
-    requires { (texts : List (List ℕ)) × IsJudged texts judged × (length names.now ≡ length texts) }
-    ensures { (files texts : List (List ℕ)) → IsJudged texts judged → IsToldOf form files texts judged told.now
-        → IfOk result (ShowsLogs A form moment.now question.now files texts) }
+    requires { (texts : List (List ℕ)) × IsJudged texts judged × (length names.items ≡ length texts) }
+    ensures { (files texts : List (List ℕ)) → IsJudged texts judged → IsToldOf form.entry files texts judged told.now
+        → IfOk result (ShowsLogs A form.entry moment.now question.now files texts) }
 {
     match judged {
-        Judged::Good(logs) => match moment.ring(alloc.clone()?, logs, question) {
-            Ok(ring) => tell_ring(alloc, form, &ring, names),
-            Err(fault) => tell_fault(alloc, form.wants_json(), fault),
-        },
+        Judged::Good(logs) => show_good(alloc, form, moment, question, names, logs),
         Judged::Refused(refused) => tell_refused(alloc, form, &refused, told),
         Judged::NoRing(reason) => {
             Reply::of_answer_as(alloc, form.wants_json(), &Answer::No(reason))

@@ -9,9 +9,10 @@ use Rattle.ira_commands.specs.declared.command_fault.CommandFault.{CommandFault}
 use Rattle.ira_main_files.specs.Shelf.{Writing}
 use Rattle.ira_main.specs.Delivery.{KeepsReply, KeepsResult, KeepsText, PrintsReply, PrintsResult, RecordsResult, Tells}
 use Rattle.ira_main.specs.Delivery.{TellsAndKeeps, TellsAndRecords, outcome_of}
-use Rattle.ira_main.specs.Delivery.KeepsReply.{kept, printed, stopped, unwritten}
+use Rattle.ira_main.specs.Delivery.KeepsReply.{kept, printed, unprinted, unwritten}
 use Rattle.ira_main.specs.Outcome.{Outcome}
 use Rattle.ira_main.specs.declared.program_fault.ProgramFault.{ProgramFault}
+use Rattle.ira_view_page.specs.declared.show_fault.ShowFault.TheVariants as show
 use Rattle.ira_view.specs.declared.status.Status.{Status}
 
 -- a reply that ends with a status isn't refused
@@ -21,45 +22,45 @@ ended status s None e = (refl, cc)
 ended status s (Some f) e = absurd cc
 
 module _ {S : Type 0} (writes : Writing S) (reply : Reply) (out out' : SinkState) where
-  -- a reply that was printed, and is refused, makes no file; nor does one in which the output stopped
+  -- a reply that was printed, and is refused, makes no file; nor does one that wasn't printed whole
   pub none_kept : (name : Option (Bor (List ℕ))) (old : S) (f : ProgramFault) → PrintsReply reply out out' (Err f)
       → KeepsReply writes name reply old old out out' (Err f)
-  none_kept name old f (inl took) =
-      printed (λ file text named fine is.
-      let e = subst (λ (fault : Option CommandFault). ◌≡◌ {A = Outcome} (Err f) (outcome_of reply.status fault)) fine took.1
-      in cc) refl took.0 took.1
-  none_kept name old f (inr stop) = stopped stop.0 refl stop.1
+  none_kept name old f (Ok v, took, is) =
+      printed (λ file text named fine one.
+      let e = subst (λ (fault : Option CommandFault). ◌≡◌ {A = Outcome} (Err f) (outcome_of reply.status fault)) fine is
+      in cc) refl (Ok v, took, is)
+  none_kept name old f (Err why, took, is) = unprinted why took refl is
 
   -- where no name is given nothing is made
-  pub nothing_kept : (name : Option (Bor (List ℕ))) (old : S) (status : Status) → name ≡ None
-      → PrintsReply reply out out' (Ok status) → KeepsReply writes name reply old old out out' (Ok status)
-  nothing_kept name old status none (inl took) =
-      printed (λ file text named fine is. cc) refl took.0 took.1
-  nothing_kept name old status none (inr stop) = absurd (let e = stop.1 in cc)
+  pub nothing_kept : (name : Option (Bor (List ℕ))) (old : S) (outcome : Outcome) → name ≡ None
+      → PrintsReply reply out out' outcome → KeepsReply writes name reply old old out out' outcome
+  nothing_kept name old outcome none told = printed (λ file text named fine is. cc) refl told
 
   -- with a name, what comes of its text, if there is one
   pub text_kept : (name : Option (Bor (List ℕ))) (file : Bor (List ℕ)) (files : MadeFiles) (old new : S) (status : Status)
       → name ≡ Some file → reply.files ≡ files → PrintsReply reply out out' (Ok status)
       → KeepsText writes file files old new (Ok tt) → KeepsReply writes name reply old new out out' (Ok status)
-  text_kept name file (one_text text) old new status named is (inl took) wrote =
-      let end = ended reply.status status reply.fault took.1 in
-      kept file text named end.0 is took.0 wrote (let e = end.1 in cc)
-  text_kept name file no_files old new status named is (inl took) wrote =
-      printed (λ f t n fine one. cc) wrote.0 took.0 took.1
-  text_kept name file (logs_of logs) old new status named is (inl took) wrote =
-      printed (λ f t n fine one. cc) wrote.0 took.0 took.1
-  text_kept name file files old new status named is (inr stop) wrote = absurd (let e = stop.1 in cc)
+  text_kept name file (one_text text) old new status named is (Ok v, took, end) wrote =
+      let ends = ended reply.status status reply.fault end in
+      kept file text named ends.0 is took wrote (let e = ends.1 in cc)
+  text_kept name file no_files old new status named is told wrote =
+      printed (λ f t n fine one. cc) wrote.0 told
+  text_kept name file (logs_of logs) old new status named is told wrote =
+      printed (λ f t n fine one. cc) wrote.0 told
+  text_kept name file (one_text text) old new status named is (Err show.Write, took, end) wrote = absurd cc
+  text_kept name file (one_text text) old new status named is (Err show.OutOfMemory, took, end) wrote = absurd cc
 
   pub text_unkept : (name : Option (Bor (List ℕ))) (file : Bor (List ℕ)) (files : MadeFiles) (old new : S)
       (status : Status) (f : ProgramFault) → name ≡ Some file → reply.files ≡ files
       → PrintsReply reply out out' (Ok status) → KeepsText writes file files old new (Err f)
       → KeepsReply writes name reply old new out out' (Err f)
-  text_unkept name file (one_text text) old new status f named is (inl took) wrote =
-      let end = ended reply.status status reply.fault took.1 in
-      unwritten file text wrote.0 named end.0 is took.0 wrote.1 (let e = wrote.2 in cc)
-  text_unkept name file no_files old new status f named is (inl took) wrote = absurd (let e = wrote.1 in cc)
-  text_unkept name file (logs_of logs) old new status f named is (inl took) wrote = absurd (let e = wrote.1 in cc)
-  text_unkept name file files old new status f named is (inr stop) wrote = absurd (let e = stop.1 in cc)
+  text_unkept name file (one_text text) old new status f named is (Ok v, took, end) wrote =
+      let ends = ended reply.status status reply.fault end in
+      unwritten file text wrote.0 named ends.0 is took wrote.1 (let e = wrote.2 in cc)
+  text_unkept name file (one_text text) old new status f named is (Err show.Write, took, end) wrote = absurd cc
+  text_unkept name file (one_text text) old new status f named is (Err show.OutOfMemory, took, end) wrote = absurd cc
+  text_unkept name file no_files old new status f named is told wrote = absurd (let e = wrote.1 in cc)
+  text_unkept name file (logs_of logs) old new status f named is told wrote = absurd (let e = wrote.1 in cc)
 
 module _ (IsReply : Reply → Type 0) (IsFault : ProgramFault → Type 0) (r : Result Reply ProgramFault)
     (out out' : SinkState) (outcome : Outcome) where

@@ -8,7 +8,5 @@ pub mod LogFiles
 pub mod NamedFiles
 pub mod PartsAt
 pub mod Reporting
-pub mod RingPrinting
 pub mod Shares
-pub mod Showing
 pub mod ShownNames

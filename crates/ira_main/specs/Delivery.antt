@@ -2,7 +2,8 @@
 use Rattle.std.specs.Prelude.{◌≡◌, ◌⊎◌, List, None, Option, Result, Ok, Err, Some, ℕ}
 use Rattle.std.specs.Borrow.{Bor}
 use Rattle.ira_event.specs.Log.{Log}
-use Rattle.ira_event.specs.Sink.{SinkState, Takes, StopsIn}
+use Rattle.ira_event.specs.Sink.{SinkState}
+use Rattle.ira_commands.specs.Output.{WroteOutput}
 use Rattle.ira_commands.specs.Reply.{AreNoLogs, MadeFiles, Reply}
 use Rattle.ira_commands.specs.Reply.MadeFiles.{logs_of, one_text}
 use Rattle.ira_commands.specs.declared.command_fault.CommandFault.{CommandFault}
@@ -12,7 +13,9 @@ use Rattle.ira_main.specs.LogFiles.{StopsInLogs, WritesLogs}
 use Rattle.ira_main.specs.Outcome.{GivesNoAnswer, Outcome}
 use Rattle.ira_main.specs.ProgramFault.{write_fault}
 use Rattle.ira_main.specs.declared.program_fault.ProgramFault.{ProgramFault}
-use Rattle.ira_main.specs.declared.program_fault.ProgramFault.TheVariants.{CannotWriteAnswer, Refused}
+use Rattle.ira_main.specs.declared.program_fault.ProgramFault.TheVariants.{CannotWriteAnswer, OutOfMemory, Refused}
+use Rattle.ira_view_page.specs.declared.show_fault.ShowFault.{ShowFault}
+use Rattle.ira_view_page.specs.declared.show_fault.ShowFault.TheVariants as show
 use Rattle.ira_view.specs.declared.status.Status.{Status}
 
 -- what the program ends with after a reply: its status, or why it is refused
@@ -20,12 +23,16 @@ abbrev pub outcome_of : Status → Option CommandFault → Outcome
 outcome_of status None = Ok status
 outcome_of status (Some fault) = Err (Refused fault)
 
--- what a reply has for the output was printed whole, and the reply's outcome is that of the program; or the output stopped
--- within it, and the outcome says so
+-- where its output was written; else why it wasn't
+abbrev pub printed_outcome : {T : Type 0} → Reply → Result T ShowFault → Outcome
+printed_outcome reply (Ok v) = outcome_of reply.status reply.fault
+printed_outcome reply (Err show.Write) = Err CannotWriteAnswer
+printed_outcome reply (Err show.OutOfMemory) = Err OutOfMemory
+
+-- what a reply has for the output was written, or a first part of it, and the outcome says so
 abbrev pub PrintsReply : Reply → SinkState → SinkState → Outcome → Type 0
 PrintsReply reply out out' outcome =
-    (Takes reply.out out out' × (outcome ≡ outcome_of reply.status reply.fault))
-    ⊎ (StopsIn reply.out out out' × (outcome ≡ Err CannotWriteAnswer))
+    (wrote : Result (Unit {0}) ShowFault) × WroteOutput reply.out wrote out out' × (outcome ≡ printed_outcome reply wrote)
 
 -- a reply of this kind was printed; or there is none, for a fault of this kind, and nothing was printed
 abbrev pub Tells : (Reply → Type 0) → (ProgramFault → Type 0) → SinkState → SinkState → Outcome → Type 0
@@ -38,19 +45,20 @@ MakesNoFile name reply =
     (file : Bor (List ℕ)) (text : List ℕ) → name ≡ Some file → reply.fault ≡ None → reply.files ≡ one_text text → ⊥
 
 -- a reply was printed whole, and then its text was written to a new file of this name, or a fault of that is the outcome;
--- or nothing goes to a file. Or the output stopped within it, and the shelf is as it was
+-- or nothing goes to a file. Or it wasn't printed whole, and the shelf is as it was
 pub data KeepsReply {S : Type 0} (writes : Writing S) (name : Option (Bor (List ℕ))) (reply : Reply) (old new : S)
     (out out' : SinkState) (outcome : Outcome) : Type 0 where
   kept : (file : Bor (List ℕ)) (text : List ℕ) → name ≡ Some file → reply.fault ≡ None → reply.files ≡ one_text text
-      → Takes reply.out out out' → MakesFile writes file.now text old new (Ok tt) → outcome ≡ Ok reply.status
-      → KeepsReply writes name reply old new out out' outcome
+      → WroteOutput {T = Unit {0}} reply.out (Ok tt) out out' → MakesFile writes file.now text old new (Ok tt)
+      → outcome ≡ Ok reply.status → KeepsReply writes name reply old new out out' outcome
   unwritten : (file : Bor (List ℕ)) (text : List ℕ) (why : ShelfFault) → name ≡ Some file → reply.fault ≡ None
-      → reply.files ≡ one_text text → Takes reply.out out out' → MakesFile writes file.now text old new (Err why)
-      → outcome ≡ Err (write_fault file why) → KeepsReply writes name reply old new out out' outcome
-  printed : MakesNoFile name reply → new ≡ old → Takes reply.out out out'
-      → outcome ≡ outcome_of reply.status reply.fault → KeepsReply writes name reply old new out out' outcome
-  stopped : StopsIn reply.out out out' → new ≡ old → outcome ≡ Err CannotWriteAnswer
+      → reply.files ≡ one_text text → WroteOutput {T = Unit {0}} reply.out (Ok tt) out out'
+      → MakesFile writes file.now text old new (Err why) → outcome ≡ Err (write_fault file why)
       → KeepsReply writes name reply old new out out' outcome
+  printed : MakesNoFile name reply → new ≡ old → PrintsReply reply out out' outcome
+      → KeepsReply writes name reply old new out out' outcome
+  unprinted : (why : ShowFault) → WroteOutput {T = Unit {0}} reply.out (Err why) out out' → new ≡ old
+      → outcome ≡ printed_outcome {T = Unit {0}} reply (Err why) → KeepsReply writes name reply old new out out' outcome
 
 -- each log of a reply was written to the file of its place in this folder, and then the reply was printed; or a log wasn't
 -- written, and nothing was printed; or the reply has none, and was printed

@@ -2,13 +2,10 @@
 use Rattle.std.specs.Prelude.{ℕ, Bool, List, codes, false, nat_eq, true}
 use Rattle.std.specs.List.{ends_with}
 use Rattle.ira_commands.specs.Reply.{Reply}
-use Rattle.ira_commands.specs.Show.{ShowsLogs}
-use Rattle.ira_commands.specs.declared.asked_moment.AskedMoment.{AskedMoment as Moment}
 use Rattle.ira_commands.specs.declared.ring_form.RingForm.{RingForm}
 use Rattle.ira_commands.specs.declared.ring_form.RingForm.TheVariants.{Html, Picture}
-use Rattle.ira_main_cli.specs.declared.asked_moment.AskedMoment.{AskedMoment}
 use Rattle.ira_main_cli.specs.declared.draw_request.DrawRequest.{DrawRequest}
-use Rattle.ira_main.specs.Moment.{IsMomentOf}
+use Rattle.ira_main.specs.Show.{ShowsLogsAt}
 use Rattle.ira_view_picture.specs.declared.column_range.ColumnRange.{ColumnRange}
 
 -- the name is that of a page: it ends with `.html`
@@ -18,11 +15,6 @@ names_page name = ends_with nat_eq name (codes ".html")
 -- the columns that are asked for
 abbrev pub columns_of : DrawRequest → ColumnRange
 columns_of draw = record { from = draw.from; to = draw.to }
-
--- a ring is shown in a form, at the moment that words ask for, of these texts in files of these names
-abbrev pub ShowsLogsAt : Type 0 → RingForm → AskedMoment → List (List ℕ) → List ℕ → List (List ℕ) → Reply → Type 0
-ShowsLogsAt A form moment names question texts reply =
-    (asked : Moment) × IsMomentOf moment asked × ShowsLogs A form asked question names texts reply
 
 -- the form of what is drawn: a page, where one is named, or else a picture
 abbrev pub form_as : Bool → ColumnRange → RingForm

@@ -1,15 +1,10 @@
 -- What the program ends with: a status, or a fault, which is written to standard error.
-use Rattle.std.specs.Prelude.{◌≡◌, ◌⊎◌, ℕ, Bool, List, Result, Ok, Err}
+use Rattle.std.specs.Prelude.{◌≡◌, ◌⊎◌, ℕ, List, Result, Ok, Err}
 use Rattle.ira_event.specs.Sink.{SinkState, Takes, StopsIn}
-use Rattle.ira_audit.specs.declared.answer.Answer.{Answer}
-use Rattle.ira_view_page.specs.declared.show_fault.ShowFault.{ShowFault}
-use Rattle.ira_view_page.specs.declared.show_fault.ShowFault.TheVariants as show
-use Rattle.ira_view_page.specs.declared.show_fault.ShowFault.TheVariants.{Write}
 use Rattle.ira_main.specs.ProgramFault.{program_fault_status, program_fault_text}
-use Rattle.ira_view.specs.Status.{answer_status, status_number}
-use Rattle.ira_view.specs.ViewText.{IsAnswerText}
+use Rattle.ira_view.specs.Status.{status_number}
 use Rattle.ira_main.specs.declared.program_fault.ProgramFault.{ProgramFault}
-use Rattle.ira_main.specs.declared.program_fault.ProgramFault.TheVariants.{CannotWriteAnswer, OutOfMemory}
+use Rattle.ira_main.specs.declared.program_fault.ProgramFault.TheVariants.{CannotWriteAnswer}
 use Rattle.ira_view.specs.declared.status.Status.{Status}
 
 -- a status, or a fault
@@ -32,22 +27,6 @@ Prints text status out out' outcome =
     (Takes text out out' × (outcome ≡ Ok status))
     ⊎ (StopsIn text out out' × (outcome ≡ Err CannotWriteAnswer))
 
--- such a text was printed, with this status
-abbrev pub PrintsText : (List ℕ → Type 0) → Status → SinkState → SinkState → Outcome → Type 0
-PrintsText IsText status out out' outcome = (text : List ℕ) × IsText text × Prints text status out out' outcome
-
--- an answer is printed as JSON, where that is wanted, or else as its line
-abbrev pub ReportsAs : Bool → Answer → SinkState → SinkState → Outcome → Type 0
-ReportsAs is_json answer = PrintsText (IsAnswerText is_json answer) (answer_status answer)
-
 -- nothing was printed, and the outcome is a fault of this kind
 abbrev pub GivesNoAnswer : (ProgramFault → Type 0) → SinkState → SinkState → Outcome → Type 0
 GivesNoAnswer IsWhy out out' outcome = (f : ProgramFault) × IsWhy f × (out' ≡ out) × (outcome ≡ Err f)
-
--- ---- Helpers, no definitions.
-
--- what comes of a text that was written or not, and goes with this status
-abbrev pub written_outcome : {T : Type 0} → Result T ShowFault → Status → Outcome
-written_outcome (Ok v) status = Ok status
-written_outcome (Err Write) status = Err CannotWriteAnswer
-written_outcome (Err show.OutOfMemory) status = Err OutOfMemory

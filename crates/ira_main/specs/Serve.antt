@@ -41,7 +41,7 @@ use Rattle.ira_main.specs.Mend.{IsUnmended, MendsLogs}
 use Rattle.ira_main.specs.Moment.{question_of}
 use Rattle.ira_main.specs.Outcome.{Outcome, Prints}
 use Rattle.ira_main.specs.ProgramFault.{words_fault}
-use Rattle.ira_main.specs.Show.{ShowsLogs}
+use Rattle.ira_main.specs.Show.{ShowsRing}
 use Rattle.ira_main.specs.Version.{version_line}
 use Rattle.ira_main.specs.declared.program_fault.ProgramFault.{ProgramFault}
 use Rattle.ira_main.specs.declared.program_fault.ProgramFault.TheVariants.{CannotRead, OutOfMemory}
@@ -110,7 +110,9 @@ pub data CommandOutcome (A : Type 0) {S : Type 0} (reads : Reading S) (writes : 
   explained : (explain : ExplainRequest) → IsExplainLine words explain → shelf' ≡ shelf
       → ExplainsAnswer A explain.is_json reads explain.answer shelf out out' outcome
       → CommandOutcome A reads writes words shelf shelf' out out' outcome
-  shown : (show : ShowRequest) → IsShowLine words show → shelf' ≡ shelf → ShowsLogs reads show shelf out out' outcome
+  shown : (show : ShowRequest) → IsShowLine words show → shelf' ≡ shelf
+      → Tells (OfFiles reads None (question_of show.moment) None show.logs shelf (ShowsRing A show))
+      (IsUnread reads None (question_of show.moment) None show.logs shelf) out out' outcome
       → CommandOutcome A reads writes words shelf shelf' out out' outcome
   drawn : (draw : DrawRequest) → IsDrawLine words draw
       → TellsAndKeeps writes (Some draw.picture)

@@ -3,7 +3,6 @@ use Rattle.std.specs.Prelude.{◌≡◌, ◌<◌, ◌≤◌, ◌⊎◌, ℕ, Lis
 use Rattle.std.specs.List.{range_with_len}
 use Rattle.ira_event.specs.Limits.{MAX_TEXT}
 use Rattle.ira_event.specs.LogTextFault.{BeginsWithHead, BeginsWithNoHead}
-use Rattle.ira_event.specs.Sink.{SinkState}
 use Rattle.ira_event.specs.declared.log_head.LogHead.{LogHead}
 use Rattle.ira_main_cli.specs.declared.log_source.LogSource.{LogSource}
 use Rattle.ira_main_cli.specs.declared.log_source.LogSource.TheVariants.{Files, Folder}
@@ -12,7 +11,6 @@ use Rattle.ira_main_files.specs.Shelf.{Reading}
 use Rattle.ira_main_files.specs.declared.file_name.FileName.{FileName}
 use Rattle.ira_main_files.specs.declared.file_name.FileName.TheVariants.{Given, Log}
 use Rattle.ira_main.specs.FilesRead.{IsFilesFault}
-use Rattle.ira_main.specs.Outcome.{GivesNoAnswer, Outcome}
 use Rattle.ira_main.specs.declared.program_fault.ProgramFault.{ProgramFault}
 use Rattle.ira_main.specs.declared.program_fault.ProgramFault.TheVariants.{OutOfMemory}
 
@@ -35,10 +33,3 @@ HasNames reads shelf (Folder folder) names =
 abbrev pub IsNamesFault : {S : Type 0} → Reading S → S → LogSource → ProgramFault → Type 0
 IsNamesFault reads shelf (Files words) f = f ≡ OutOfMemory
 IsNamesFault reads shelf (Folder folder) f = IsFilesFault reads (log_name folder.now 0 ∷ []) shelf f
-
--- what is done of the logs of a source: this of the names of their files; or there are none, and nothing is done
-abbrev pub OfSource : {S : Type 0} → Reading S → LogSource → S → S → SinkState → SinkState → Outcome
-    → (List FileName → Type 0) → Type 0
-OfSource reads source shelf shelf' out out' outcome IsDone =
-    ((names : List FileName) × HasNames reads shelf source names × IsDone names)
-    ⊎ ((shelf' ≡ shelf) × GivesNoAnswer (IsNamesFault reads shelf source) out out' outcome)

@@ -7,9 +7,10 @@ use crate::log_files::write_files;
 use crate::program_fault::ProgramFault;
 use crate::text_file::write_text;
 use ira_commands::{Files, Reply};
-use ira_event::{Sink, WriteFault, write_bytes};
+use ira_event::Sink;
 use ira_main_files::Shelf;
 use ira_view::Status;
+use ira_view_page::ShowFault;
 use std::alloc::Allocator;
 
 /// What the program ends with after a reply: its status, or why it is refused.
@@ -29,9 +30,10 @@ fn print<'a, A: Allocator + Clone, W: Sink>(
 ) -> Result<Status, ProgramFault<'a>>
     ensures { PrintsReply reply.now (W.state out.old) (W.state out.new) result }
 {
-    match write_bytes(reply.out(), out) {
+    match reply.out().write(out) {
         Ok(()) => outcome(reply),
-        Err(WriteFault) => Err(ProgramFault::CannotWriteAnswer),
+        Err(ShowFault::Write) => Err(ProgramFault::CannotWriteAnswer),
+        Err(ShowFault::OutOfMemory) => Err(ProgramFault::OutOfMemory),
     }
 }
 

@@ -1,17 +1,17 @@
-ghost use Rattle.std.specs.Prelude.{◌≡◌, ℕ, IfOk, List, MatchResult, None, Some, length};
-ghost use Rattle.ira_audit.specs.RingAudit.{HasTaken};
-ghost use Rattle.ira_commands.specs.declared.ring_form.RingForm.TheVariants.{Html, Picture};
-ghost use Rattle.ira_main.specs.Draw.{DrawsLogs, ShowsLogsAt, columns_of, names_page};
+ghost use Rattle.std.specs.Prelude.{◌≡◌, IfOk, MatchResult, None, Some, length};
+ghost use Rattle.ira_commands.specs.declared.ring_form.RingForm.TheVariants.{Html};
+ghost use Rattle.ira_main.specs.Draw.{DrawsLogs, columns_of, names_page};
 ghost use Rattle.ira_main.specs.Given.{IsUnread, OfFiles};
 ghost use Rattle.ira_main.specs.Moment.{question_of};
 ghost use Rattle.ira_main.specs.NamedFile.{names_in, texts_in};
+ghost use Rattle.ira_main.specs.Show.{ShowsLogsAt};
 
 use crate::given::{Given, GivenTexts, Inputs, read_given, read_given_texts};
 use crate::moment::{moment_of, question_of};
 use crate::named_file::{NamedFile, named_texts};
 use crate::program_fault::ProgramFault;
-use crate::ring_printer::paths;
-use ira_audit::RingAudit;
+use crate::show_files::show_taken;
+use crate::source_names::paths;
 use ira_commands::{Reply, RingForm, show_ring, told_in_page};
 use ira_event::OutOfMemory;
 use ira_main_cli::DrawRequest;
@@ -38,33 +38,6 @@ fn columns_of(draw: &DrawRequest<'_>) -> ColumnRange
     }
 }
 
-/// A picture of the logs that an audit has taken from the files of these names.
-fn draw_taken<R: Threads, A: Allocator + Clone + Sync>(
-    rt: &R,
-    alloc: A,
-    draw: &DrawRequest<'_>,
-    question: &[u8],
-    names: &[FileName<'_>],
-    audit: RingAudit<A>,
-) -> Result<Reply<A>, OutOfMemory>
-    requires { (texts : List (List ℕ)) × HasTaken audit texts × (length names.now ≡ length texts) }
-    ensures { (files texts : List (List ℕ)) → HasTaken audit texts
-        → IfOk result (ShowsLogsAt A (Picture (columns_of draw.now)) draw.now.moment files question.now texts) }
-{
-    let judged = audit.judge_on_threads(rt)?;
-    let names = paths(&alloc, names)?;
-    let form = RingForm::Picture(columns_of(draw));
-    show_ring(
-        alloc,
-        form,
-        &moment_of(&draw.moment),
-        question,
-        &names,
-        b"",
-        judged,
-    )
-}
-
 /// A page to move in a picture of logs in files that were read, and have these names.
 fn draw_read<R: Threads, A: Allocator + Clone + Sync>(
     rt: &R,
@@ -88,7 +61,7 @@ fn draw_read<R: Threads, A: Allocator + Clone + Sync>(
         form,
         &moment_of(&draw.moment),
         question,
-        &names,
+        names,
         told.as_bytes(),
         judged,
     )
@@ -122,5 +95,7 @@ where
         return Ok(draw_read(rt, alloc, draw, first.question.bytes(), &first.names, &logs)?);
     }
     let Given { first, audit } = read_given(rt, &alloc, inputs, shelf)?;
-    Ok(draw_taken(rt, alloc, draw, first.question.bytes(), &first.names, audit)?)
+    let form = RingForm::Picture(columns_of(draw));
+    let question = first.question.bytes();
+    Ok(show_taken(rt, alloc, form, &draw.moment, question, &first.names, audit)?)
 }

@@ -23,8 +23,6 @@ mod program_fault;
 mod progress;
 mod read_files;
 mod record_run;
-mod report;
-mod ring_printer;
 mod show_files;
 mod shown_name;
 mod source_names;

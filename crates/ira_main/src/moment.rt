@@ -1,17 +1,17 @@
 ghost use Rattle.ira_main.specs.Moment.{IsMomentOf, question_of};
 ghost use Rattle.std.specs.Prelude.{◌≡◌};
 
-use ira_commands::AskedMoment as Moment;
+use ira_commands::RingMoment;
 use ira_main_cli::AskedMoment;
 
 /// The moment that words ask for.
-pub(crate) fn moment_of<'t>(asked: &'t AskedMoment<'_>) -> Moment<'t>
+pub(crate) fn moment_of<'t>(asked: &'t AskedMoment<'_>) -> RingMoment<'t>
     ensures { IsMomentOf asked.now result }
 {
     match asked {
-        AskedMoment::AtEnd => Moment::AtEnd,
-        AskedMoment::AtCut(events) => Moment::AtCut(events.as_slice()),
-        AskedMoment::OfQuestion(asked) => Moment::OfQuestion(asked.case),
+        AskedMoment::AtEnd => RingMoment::AtEnd,
+        AskedMoment::AtCut(events) => RingMoment::AtCut(events.as_slice()),
+        AskedMoment::OfQuestion(asked) => RingMoment::OfQuestion(asked.case),
     }
 }
 

@@ -95,7 +95,9 @@ where
                 logs,
             },
         },
-        Request::Show(show) => Progress::Ended(show_files(rt, alloc, &show, shelf, out)),
+        Request::Show(show) => {
+            Progress::Ended(deliver(show_files(rt, alloc, &show, shelf), out))
+        }
         Request::Draw(draw) => {
             let reply = draw_files(rt, alloc, &draw, shelf);
             Progress::Ended(deliver_and_keep(reply, Some(draw.picture), shelf, out))

@@ -1,4 +1,4 @@
-ghost use Rattle.std.specs.Prelude.{◌≡◌, IfOk, MatchResult, map};
+ghost use Rattle.std.specs.Prelude.{◌≡◌, IfOk, MatchResult, length, map};
 ghost use Rattle.std.specs.List.{range_with_len};
 ghost use Rattle.ira_main_files.specs.declared.file_name.FileName.TheVariants.{Given, Log};
 ghost use Rattle.ira_main.specs.SourceNames.{HasNames, IsNamesFault, SaysLogs};
@@ -45,6 +45,20 @@ pub(crate) fn names_in_folder<'a, A: Allocator>(
     (0..number)
         .map(|place| FileName::Log(folder, place))
         .collect(alloc)
+}
+
+/// The names, whole.
+pub(crate) fn paths<A: Allocator + Clone>(
+    alloc: &A,
+    names: &[FileName<'_>],
+) -> Result<Vec<String<A>, A>, AllocError>
+    ensures { IfOk result (λ paths. length paths.items ≡ length names.now) }
+{
+    let mut paths = Vec::with_capacity(alloc.clone()?, names.len())?;
+    for name in names {
+        paths.push(name.path(alloc.clone()?)?)?;
+    }
+    Ok(paths)
 }
 
 /// The names of the files that logs come from. Of a folder the first log is read, which says how many there are; it is read

@@ -3,7 +3,7 @@ use Rattle.std.specs.Prelude.{◌≡◌, ℕ, Bool, List, [], ◌++◌, ◌∷�
 use Rattle.ira_commands.specs.declared.ring_form.RingForm.{RingForm}
 use Rattle.ira_commands.specs.declared.ring_form.RingForm.TheVariants.{Html, Lines, Picture}
 use Rattle.ira_view_picture.specs.declared.column_range.ColumnRange.{ColumnRange}
-use Rattle.ira_web.specs.Spelling.{case_values, moment_values, run_values}
+use Rattle.ira_web.specs.Spelling.{case_values, leaders_values, moment_values, run_values}
 use Rattle.ira_web.specs.declared.request.Request.{Request}
 use Rattle.ira_web.specs.declared.request.Request.TheVariants.{Check, Decide, Explain, ExplainCertificate, ExplainLog}
 use Rattle.ira_web.specs.declared.request.Request.TheVariants.{ExplainQuestion, Logs, Mend, OneLog, Pairs, Run, Show}
@@ -23,9 +23,10 @@ lines_values true = 7 ∷ []
 abbrev pub AreColumns : ColumnRange → ℕ → ℕ → Type 0
 AreColumns columns from to = (columns.from ≡ Some from) × (columns.to ≡ Some to)
 
--- the number of the command that shows a ring in a form, and the columns of a picture
+-- the number of the command that shows a ring in a form, after who is to lead, and the columns of a picture
 abbrev pub HasFormValues : RingForm → List ℕ → Type 0
-HasFormValues (Lines is_json has_events) values = values ≡ json_values is_json ++ lines_values has_events
+HasFormValues (Lines form) values =
+    values ≡ json_values form.is_json ++ leaders_values form.leaders ++ lines_values form.has_events
 HasFormValues (Picture columns) values =
     (from : ℕ) × (to : ℕ) × AreColumns columns from to × (values ≡ 8 ∷ from ∷ to ∷ [])
 HasFormValues (Html columns) values =

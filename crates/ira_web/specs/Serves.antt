@@ -16,13 +16,13 @@ use Rattle.ira_commands.specs.Reply.{Reply, Reports, ReportsAs, Telling}
 use Rattle.ira_commands.specs.Run.{RunsRing}
 use Rattle.ira_commands.specs.Show.{ShowsLogs}
 use Rattle.ira_commands.specs.Upgrade.{UpgradesTexts}
-use Rattle.ira_commands.specs.declared.asked_moment.AskedMoment.{AskedMoment}
+use Rattle.ira_commands.specs.declared.ring_moment.RingMoment.{RingMoment}
 use Rattle.ira_commands.specs.declared.ring_form.RingForm.{RingForm}
 use Rattle.ira_lent.specs.declared.lent.Lent.{Lent}
 use Rattle.ira_web.specs.Files.{AreFiles}
 use Rattle.ira_web.specs.Request.{HasValues}
 use Rattle.ira_web.specs.Spelling.{AreMomentFiles}
-use Rattle.ira_web.specs.Told.{HasNoRoom, IsTold, Told, told_of}
+use Rattle.ira_web.specs.Told.{HasNoRoom, IsTold, Tells, Told}
 use Rattle.ira_web.specs.declared.request.Request.{Request}
 use Rattle.ira_web.specs.declared.request.Request.TheVariants.{Check, Decide, Explain, ExplainCertificate, ExplainLog}
 use Rattle.ira_web.specs.declared.request.Request.TheVariants.{ExplainQuestion, Logs, Mend, OneLog, Pairs, Run, Show}
@@ -48,7 +48,7 @@ ChecksFiles Tells files reply = OfCertificate files (λ asked certificate.
     ChecksTexts (Tells asked certificate) asked.question.now.text.now certificate.text.now (texts_of asked.logs.now) reply)
 
 -- the files are that of the question whose first moment is asked for, where one is, and those of the logs
-abbrev pub ShowsFiles : Type 0 → RingForm → AskedMoment → List NamedText → Reply → Type 0
+abbrev pub ShowsFiles : Type 0 → RingForm → RingMoment → List NamedText → Reply → Type 0
 ShowsFiles A form moment files reply =
     (question : List ℕ) × (logs : List NamedText) × AreMomentFiles moment question files logs
     × ShowsLogs A form moment question (map (λ file. file.name.now) logs) (texts_of logs) reply
@@ -82,7 +82,7 @@ pub record IsAnswered (values lengths bytes : List ℕ) (reply : Reply) : Type 0
 -- and this is told of it
 abbrev pub IsAnsweredAs : List ℕ → List ℕ → List ℕ → Told → Type 0
 IsAnsweredAs values lengths bytes told =
-    (reply : Reply) × IsAnswered values lengths bytes reply × (told ≡ told_of reply)
+    (reply : Reply) × IsAnswered values lengths bytes reply × Tells reply told
 
 -- a number below 3 is the status of what comes of the request, whose parts are in out and sizes; 5 says that these have no
 -- room for the parts

@@ -1,6 +1,7 @@
 -- What is told of what comes of a request.
 use Rattle.std.specs.Prelude.{◌≡◌, ◌⊎◌, ◌<◌, ◌≤◌, ℕ, List, ◌∷◌, length, map, take}
 use Rattle.std.specs.List.{flat_map}
+use Rattle.ira_commands.specs.Output.{IsPrinted}
 use Rattle.ira_commands.specs.Reply.{Reply, fault_text, file_texts}
 use Rattle.ira_view.specs.declared.status.Status.{Status}
 
@@ -9,11 +10,10 @@ pub record Told : Type 0 where
   pub status : Status
   pub parts : List (List ℕ)
 
-abbrev pub told_of : Reply → Told
-told_of reply = record {
-  status = reply.status;
-  parts = reply.out ∷ fault_text reply.fault ∷ file_texts reply.files;
-}
+-- that of a reply
+abbrev pub Tells : Reply → Told → Type 0
+Tells reply told = (told.status ≡ reply.status) × (out : List ℕ) × IsPrinted reply.out out
+    × (told.parts ≡ out ∷ fault_text reply.fault ∷ file_texts reply.files)
 
 -- a list begins with these
 abbrev pub Begins : List ℕ → List ℕ → Type 0

@@ -15,7 +15,7 @@ use crate::judged::judge;
 use crate::request::split_moment;
 use ira_audit::LogAudit;
 use ira_commands::{
-    AskedMoment, Reply, RingForm, answer_logs, check_alone, decide_asked, explain_all,
+    Reply, RingForm, RingMoment, answer_logs, check_alone, decide_asked, explain_all,
     explain_asked, explain_check_alone, mend_left, show_ring, told_in_page, upgrade_taken,
 };
 use ira_event::OutOfMemory;
@@ -174,11 +174,11 @@ fn names<A: Allocator + Clone>(
 /// missing.
 pub(crate) fn show<A: Allocator + Clone>(
     alloc: A,
-    form: RingForm,
-    moment: &AskedMoment<'_>,
+    form: RingForm<'_>,
+    moment: &RingMoment<'_>,
     files: &[NamedText<'_>],
 ) -> Result<Option<Reply<A>>, OutOfMemory>
-    ensures { IfOk result (λ served. IfSome served (ShowsFiles A form moment.now files.now)) }
+    ensures { IfOk result (λ served. IfSome served (ShowsFiles A form.entry moment.now files.now)) }
 {
     let Some((question, logs)) = split_moment(moment, files) else {
         return Ok(None);
@@ -191,7 +191,7 @@ pub(crate) fn show<A: Allocator + Clone>(
         form,
         moment,
         question,
-        &names,
+        names,
         told.as_bytes(),
         judged,
     )?))

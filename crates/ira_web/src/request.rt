@@ -1,8 +1,8 @@
-ghost use Rattle.std.specs.Prelude.{◌≡◌, ◌++◌, ◌∷◌, IfSome};
+ghost use Rattle.std.specs.Prelude.{◌≡◌, ◌++◌, ◌∷◌, IfSome, length};
 ghost use Rattle.ira_web.specs.Request.{AreColumns, HasValues, json_values, lines_values};
-ghost use Rattle.ira_web.specs.Spelling.{AreMomentFiles, moment_values, run_values};
+ghost use Rattle.ira_web.specs.Spelling.{AreMomentFiles, leaders_values, moment_values, run_values};
 
-use ira_commands::{AskedMoment, AskedRun, RingForm};
+use ira_commands::{AskedRun, LinesForm, RingForm, RingLeaders, RingMoment};
 use ira_view_page::NamedText;
 use ira_view_picture::ColumnRange;
 
@@ -41,21 +41,34 @@ const PAGE: u64 = 15;
 
 const JSON: u64 = 16;
 
+const LEADERS: u64 = 17;
+
 // What begins a moment that isn't the end of the logs.
 const AT_CUT: u64 = 1;
 
 const OF_QUESTION: u64 = 2;
 
 /// The moment of these values, if they are those of one.
-fn moment_of(values: &[u64]) -> Option<AskedMoment<'_>>
+fn moment_of(values: &[u64]) -> Option<RingMoment<'_>>
     ensures { IfSome result (λ moment. moment_values moment ≡ values.now) }
 {
     match values {
-        [] => Some(AskedMoment::AtEnd),
-        [AT_CUT, events @ ..] => Some(AskedMoment::AtCut(events)),
-        [OF_QUESTION] => Some(AskedMoment::OfQuestion(None)),
-        [OF_QUESTION, case] => Some(AskedMoment::OfQuestion(Some(*case))),
+        [] => Some(RingMoment::AtEnd),
+        [AT_CUT, events @ ..] => Some(RingMoment::AtCut(events)),
+        [OF_QUESTION] => Some(RingMoment::OfQuestion(None)),
+        [OF_QUESTION, case] => Some(RingMoment::OfQuestion(Some(*case))),
         _ => None,
+    }
+}
+
+/// The nodes at these places are to lead; any, where they are none.
+fn leaders_of(places: &[u64]) -> RingLeaders<'_>
+    ensures { leaders_values result ≡ LEADERS ∷ length places.now ∷ places.now }
+{
+    if places.is_empty() {
+        RingLeaders::Any
+    } else {
+        RingLeaders::Places(places)
     }
 }
 
@@ -89,17 +102,17 @@ fn columns(from: u64, to: u64) -> ColumnRange
 /// The text of the question whose first moment is asked for, no bytes where none is, and the files of the logs; nothing where
 /// there is no file of the question.
 pub(crate) fn split_moment<'f, 't>(
-    moment: &AskedMoment<'_>,
+    moment: &RingMoment<'_>,
     files: &'f [NamedText<'t>],
 ) -> Option<(&'t [u8], &'f [NamedText<'t>])>
     ensures { IfSome result (λ parts. AreMomentFiles moment.now parts.0.now files.now parts.1.now) }
 {
     match moment {
-        AskedMoment::OfQuestion(_) => {
+        RingMoment::OfQuestion(_) => {
             let (question, logs) = files.split_first()?;
             Some((question.text, logs))
         }
-        AskedMoment::AtEnd | AskedMoment::AtCut(_) => Some((b"", files)),
+        RingMoment::AtEnd | RingMoment::AtCut(_) => Some((b"", files)),
     }
 }
 
@@ -120,7 +133,7 @@ pub(crate) enum Request<'v> {
     /// The answer of logs, of a question and of a certificate, and why it is so.
     ExplainCertificate { is_json: bool },
     /// A ring at a moment.
-    Show(RingForm, AskedMoment<'v>),
+    Show(RingForm<'v>, RingMoment<'v>),
     /// What is found for a question about logs, and its certificate.
     Decide { is_json: bool },
     /// The answer of logs, of a question and of a certificate.
@@ -172,24 +185,44 @@ impl<'v> Request<'v> {
                 case: Some(*case),
             }),
             [EXPLAIN_CERT] => Some(Request::ExplainCertificate { is_json }),
-            [SHOW, moment @ ..] => Request::lines(is_json, false, moment),
-            [EVENTS, moment @ ..] => Request::lines(is_json, true, moment),
+            [LEADERS, count, led @ ..] => Request::led(is_json, *count, led),
+            [SHOW, moment @ ..] => Request::lines(is_json, RingLeaders::NotAsked, false, moment),
+            [EVENTS, moment @ ..] => Request::lines(is_json, RingLeaders::NotAsked, true, moment),
             [DECIDE] => Some(Request::Decide { is_json }),
             [CHECK] => Some(Request::Check { is_json }),
             _ => None,
         }
     }
 
-    /// A ring as lines, at the moment of these values, if they are those of one.
-    fn lines(is_json: bool, has_events: bool, moment: &'v [u64]) -> Option<Request<'v>>
-        ensures { IfSome result (λ request.
-            HasValues request ((json_values is_json ++ lines_values has_events) ++ moment.now)) }
+    /// A ring as lines, where so many nodes are to lead, or any where they are none.
+    fn led(is_json: bool, count: u64, values: &'v [u64]) -> Option<Request<'v>>
+        ensures { IfSome result (λ request. HasValues request (json_values is_json ++ LEADERS ∷ count ∷ values.now)) }
     {
-        let form = RingForm::Lines {
+        let (places, lines) = values.split_at_checked(usize::try_from(count).ok()?)?;
+        let leaders = leaders_of(places);
+        match lines {
+            [SHOW, moment @ ..] => Request::lines(is_json, leaders, false, moment),
+            [EVENTS, moment @ ..] => Request::lines(is_json, leaders, true, moment),
+            _ => None,
+        }
+    }
+
+    /// A ring as lines, where these are to lead, at the moment of these values, if they are those of one.
+    fn lines(
+        is_json: bool,
+        leaders: RingLeaders<'v>,
+        has_events: bool,
+        moment: &'v [u64],
+    ) -> Option<Request<'v>>
+        ensures { IfSome result (λ request. HasValues request
+            ((json_values is_json ++ leaders_values leaders.entry ++ lines_values has_events) ++ moment.now)) }
+    {
+        let form = LinesForm {
             is_json,
             has_events,
+            leaders,
         };
-        Some(Request::Show(form, moment_of(moment)?))
+        Some(Request::Show(RingForm::Lines(form), moment_of(moment)?))
     }
 
     /// A picture from one column to another, at the moment of these values, if they are those of one.

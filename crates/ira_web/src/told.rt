@@ -2,7 +2,7 @@ ghost use Rattle.std.specs.Prelude.{◌≡◌, ◌<◌, ◌≤◌, ◌+◌, ◌+
 ghost use Rattle.std.specs.List.{flat_map};
 ghost use Rattle.ira_event.specs.LogText.{log_text};
 ghost use Rattle.ira_commands.specs.Reply.{fault_text, file_texts, made};
-ghost use Rattle.ira_web.specs.Told.{Begins, HasNoRoom, IsTold, told_of};
+ghost use Rattle.ira_web.specs.Told.{Begins, HasNoRoom, IsTold, Tells};
 
 use ira_commands::{CommandFault, Files, Reply};
 use ira_event::{Logs, MemorySink, OutOfMemory, WriteFault, write_bytes, write_log};
@@ -136,12 +136,12 @@ impl<A: Allocator> Model for Told<A> {
 impl<A: Allocator + Clone> Told<A> {
     /// The parts of a reply.
     pub(crate) fn of_reply(alloc: A, reply: Reply<A>) -> Result<Told<A>, OutOfMemory>
-        ensures { IfOk result (λ told. told ≡ told_of reply) }
+        ensures { IfOk result (Tells reply) }
     {
         let status = reply.status();
         let (out, fault, files) = reply.into_parts();
         let mut parts = Vec::with_capacity(alloc.clone()?, 2)?;
-        parts.push(out)?;
+        parts.push(out.into_text(alloc.clone()?)?)?;
         parts.push(line_of(alloc.clone()?, fault)?)?;
         add_files(alloc, files, &mut parts)?;
         Ok(Told { status, parts })

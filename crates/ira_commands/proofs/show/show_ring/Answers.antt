@@ -1,32 +1,19 @@
-use Rattle.std.proofs.Common.{◌∙◌, ap, length, sym}
+use Rattle.std.proofs.Common.{◌∙◌, sym}
 use Rattle.ira_event.specs.LogText.{IsLogText}
 use Rattle.ira_audit.proofs.Zipped.{zipped_length}
 use Rattle.ira_audit.proofs.Judging.{refused_reason}
 use Rattle.ira_commands.proofs.Served.{if_ok}
-use Rattle.ira_commands.proofs.Shown.{fault_reportable, ring_logs}
-use Rattle.ira_commands.specs.Show.ShowsLogs.{no_moment, no_ring, no_run, shown}
+use Rattle.ira_commands.specs.Show.ShowsLogs.{good, no_ring, no_run}
 use Rattle.ira_commands.proofs.show.show_ring.Goals as goal
 
-pub tell_ring-requires : goal.tell_ring-requires
-tell_ring-requires g c =
-    let good = rw c.in-Good.is at c.requires.1 in
-    let same = ring_logs c.in-Good.logs c.args.moment.now c.args.question.now _ c.in-Ok.ensures in
-    c.requires.2 ∙ sym (zipped_length IsLogText c.requires.0 c.in-Good.logs good.texts_are) ∙ sym (ap length same)
+pub show_good-requires : goal.show_good-requires
+show_good-requires g c =
+    let are = rw c.in-Good.is at c.requires.1 in
+    c.requires.2 ∙ sym (zipped_length IsLogText c.requires.0 c.in-Good.logs are.texts_are)
 
-pub returns-in-Ok : goal.returns-in-Ok
-returns-in-Ok g c = λ names texts judged told.
-    let good = rw c.in-Good.is at judged in
-    if_ok c.tell_ring.result (λ reply told. shown c.in-Good.logs c.in-Ok.ring good c.in-Ok.ensures told) c.tell_ring.ensures
-
-pub tell_fault-requires : goal.tell_fault-requires
-tell_fault-requires g c =
-    fault_reportable c.in-Good.logs c.args.moment.now c.args.question.now c.in-Err.fault c.in-Err.ensures
-
-pub returns-in-Err : goal.returns-in-Err
-returns-in-Err g c = λ names texts judged told.
-    let good = rw c.in-Good.is at judged in
-    if_ok c.tell_fault.result (λ reply told. no_moment c.in-Good.logs c.in-Err.fault good c.in-Err.ensures told)
-    (rw c.wants_json.ensures at c.tell_fault.ensures)
+pub returns-in-Good : goal.returns-in-Good
+returns-in-Good g c = λ names texts judged told.
+    if_ok c.show_good.result (λ reply shows. good c.in-Good.logs (rw c.in-Good.is at judged) shows) c.show_good.ensures
 
 pub tell_refused-requires : goal.tell_refused-requires
 tell_refused-requires g c =
@@ -47,4 +34,4 @@ pub returns-in-NoRing : goal.returns-in-NoRing
 returns-in-NoRing g c = λ names texts judged told.
     let reason = rw c.in-NoRing.is at judged in
     if_ok c.of_answer_as.result (λ reply told. no_ring c.in-NoRing.reason reason told)
-    (rw c.wants_json-in-NoRing.ensures at c.of_answer_as.ensures)
+    (rw c.wants_json.ensures at c.of_answer_as.ensures)

@@ -6,11 +6,13 @@ use Rattle.ira_commands.proofs.Shown.{draws}
 use Rattle.ira_commands.proofs.show.tell_ring.Goals as goal
 
 pub returns-in-Lines : goal.returns-in-Lines
-returns-in-Lines g c = rw c.in-Lines.is c.tell_lines.ensures
+returns-in-Lines g c =
+    let differ = rw c.in-Lines.is at c.requires.differences in
+    rw c.in-Lines.is (if_ok c.tell_lines.result (λ reply told. (c.args.differences, differ, told)) c.tell_lines.ensures)
 
 pub returns-in_ok-clone-in-Picture : goal.returns-in_ok-clone-in-Picture
 returns-in_ok-clone-in-Picture g c =
-    let ring = c.args.ring.now in
+    let ring = c.args.ring in
     let from = c.in-Picture.columns.from in
     let to = c.in-Picture.columns.to in
     rw c.in-Picture.is (if_ok c.tell_picture.result (λ reply told.
@@ -20,7 +22,7 @@ returns-in_ok-clone-in-Picture g c =
 
 pub returns-in_ok-clone-in-Html : goal.returns-in_ok-clone-in-Html
 returns-in_ok-clone-in-Html g c =
-    let ring = c.args.ring.now in
+    let ring = c.args.ring in
     let from = c.in-Html.columns.from in
     let to = c.in-Html.columns.to in
     rw c.in-Html.is (if_ok c.tell_picture-in-Html.result (λ reply told.

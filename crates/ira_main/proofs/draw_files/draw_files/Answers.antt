@@ -50,14 +50,14 @@ returns-in_err-first-2 g c =
     let p = err_from_is_err_and c.from_residual-in_err-first-2.result c.from_residual-in_err-first-2.ensures.1 in
     rw (p.1, p.2) (rw c.question_of.ensures at c.in_err-first-2.ensures)
 
-pub returns-in_err-draw_taken : goal.returns-in_err-draw_taken
-returns-in_err-draw_taken g c =
-    let p = err_from_is_err_and c.from_residual-in_err-draw_taken.result c.from_residual-in_err-draw_taken.ensures.1 in
+pub returns-in_err-show_taken : goal.returns-in_err-show_taken
+returns-in_err-show_taken g c =
+    let p = err_from_is_err_and c.from_residual-in_err-show_taken.result c.from_residual-in_err-show_taken.ensures.1 in
     rw (p.1, p.2) (
     no_memory g.F.TextSource.reads (Some c.args.draw.now.picture) (question_of c.args.draw.now.moment) None c.args.draw.now.logs c.args.shelf.now _ refl)
 
-pub draw_taken-requires : goal.draw_taken-requires
-draw_taken-requires g c =
+pub show_taken-requires-clause-taken : goal.show_taken-requires-clause-taken
+show_taken-requires-clause-taken g c =
     let given = c.in_ok-first-2.ensures in
     let names = c.in_ok-first-2.field-0.first.names.items in
     let taken : (texts : List (List ℕ)) × HasTaken c.in_ok-first-2.field-0.audit texts
@@ -81,6 +81,6 @@ returns g c =
       first = given.0;
       given = given.3;
       reply_is = rw (sym c.is_page.ensures ∙ c.if-is_page.false)
-          (rw c.bytes-2.ensures at (c.in_ok-draw_taken.ensures (names_of c.in_ok-first-2.field-0.first.names.items)
+          (rw (c.columns_of.ensures, c.bytes-question.ensures) at (c.in_ok-show_taken.ensures (names_of c.in_ok-first-2.field-0.first.names.items)
           given.1 given.2));
     }

@@ -19,7 +19,7 @@ show_ring-requires g c =
     (sym c.deref.ensures.value) c.in_ok-logs.ensures in (
       texts_in logs,
       rw first.texts_are at c.in_ok-judged.ensures,
-      rw c.deref-3.ensures.value (c.in_ok-names.ensures ∙ c.requires ∙ sym (length-map logs (λ file. file.text.items))),
+      c.in_ok-names.ensures ∙ c.requires ∙ sym (length-map logs (λ file. file.text.items)),
     )
 
 pub returns : goal.returns

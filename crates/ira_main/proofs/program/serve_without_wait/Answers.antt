@@ -65,7 +65,8 @@ returns-in-Findings-clause-served g c =
 pub returns-in-Show-clause-served : goal.returns-in-Show-clause-served
 returns-in-Show-clause-served g c =
     let made = subst (IsMadeOf (map (λ w. w.now) c.args.words.now)) c.in-Show.is c.in-Ok.ensures.made in
-    with_words (some_words _ _ _ made.first) refl (shown _ made refl c.show_files.ensures)
+    with_words (some_words _ _ _ made.first) refl (shown _ made refl (told _ _ _ _ _ _ c.show_files.ensures
+    c.deliver-in-Show.ensures))
 
 pub returns-in-Draw-clause-served : goal.returns-in-Draw-clause-served
 returns-in-Draw-clause-served g c =

@@ -1,0 +1,48 @@
+ghost use Rattle.std.specs.Prelude.{◌≡◌, IfOk, MatchOption, option_map};
+ghost use Rattle.ira_commands.specs.RingLeaders.{AreDifferencesOf, AreNoPlaces, named_places};
+
+use ira_audit::GoodLogs;
+use ira_event::OutOfMemory;
+use ira_view::{differences, missing_leader};
+use ira_view_page::{Page, PageText};
+use std::alloc::{AllocError, Allocator};
+
+/// Who is to lead when the logs of a ring end.
+#[derive(Clone, Copy)]
+pub enum RingLeaders<'v> {
+    /// Nothing is asked of who leads.
+    NotAsked,
+    /// Some node, whichever.
+    Any,
+    /// The nodes at these places, and no other; any numbers, and not only places of the ring.
+    Places(&'v [u64]),
+}
+
+impl<'v> RingLeaders<'v> {
+    /// Lines on how those who lead when the logs end differ from those who are to; nothing where one that is named is none of
+    /// the ring.
+    pub(crate) fn differences<A: Allocator + Clone>(
+        &self,
+        alloc: A,
+        logs: &GoodLogs<A>,
+    ) -> Result<Option<PageText<A>>, OutOfMemory>
+        ensures { IfOk result (λ found.
+            MatchOption found (AreNoPlaces logs.now self.now) (AreDifferencesOf logs.now self.now)) }
+    {
+        match *self {
+            RingLeaders::NotAsked => Ok(Some(Page::new(alloc).finish()?)),
+            RingLeaders::Any => Ok(Some(missing_leader(alloc, logs)?)),
+            RingLeaders::Places(places) => differences(alloc, logs, places),
+        }
+    }
+
+    /// The places of the nodes that are to lead, if some are named.
+    pub(crate) fn places<A: Allocator>(&self, alloc: A) -> Result<Option<Vec<u64, A>>, AllocError>
+        ensures { IfOk result (λ places. option_map (λ named. named.items) places ≡ named_places self.now) }
+    {
+        match *self {
+            RingLeaders::Places(places) => Ok(Some(places.to_vec(alloc)?)),
+            RingLeaders::NotAsked | RingLeaders::Any => Ok(None),
+        }
+    }
+}
