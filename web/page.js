@@ -159,12 +159,12 @@ function momentAsked() {
   return cut.includes(null) ? null : {values: [1, ...cut], files: [], words: `--at ${cut} `};
 }
 
-// Who is to lead, as values and in words; nothing where that isn't asked, and null where it is neither places nor any.
+// Who is to lead, if that is asked, as values and as words on a command line; nothing where it is neither places nor any.
 function leadersAsked() {
-  const words = $('leads').value.replaceAll(' ', '');
-  if (!words) return;
-  const places = words == 'any' ? [] : words.split(',').map(text => number(text, null));
-  return places.includes(null) ? null : {values: [LEADERS, places.length, ...places], words};
+  const named = $('leads').value.replaceAll(' ', '');
+  if (!named) return {values: [], words: ''};
+  const places = named == 'any' ? [] : named.split(',').map(text => number(text, null));
+  return places.includes(null) ? null : {values: [LEADERS, places.length, ...places], words: `--leads ${named} `};
 }
 
 // A name as a shell takes it.
@@ -251,11 +251,9 @@ async function judge() {
       svg && picture(svg, toMoveIn(line('html'), [PAGE, ...shown], files))));
     if (status) return;
     const leaders = leadersAsked();
-    if (leaders) add(await answered('Whether those lead who are to', `show --leads ${leaders.words} ${moment.words}${names}`,
+    if (!leaders) return fault('Who is to lead are places with commas between them, or any.');
+    add(await answered('Who leads, and what is on its way', `show ${leaders.words}${moment.words}${names}`,
       [...leaders.values, SHOW, ...moment.values], files));
-    else if (leaders === null) fault('Who is to lead are places with commas between them, or any.');
-    add(await answered('Who leads, and what is on its way', `show ${moment.words}${names}`, [SHOW, ...moment.values],
-      files));
     add(await answered('An order of all events', `show --events ${moment.words}${names}`, [EVENTS, ...moment.values],
       files));
   });

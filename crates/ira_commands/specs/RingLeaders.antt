@@ -17,8 +17,8 @@ AreNoPlaces logs NotAsked = ⊥
 AreNoPlaces logs Any = ⊥
 AreNoPlaces logs (Places places) = ¬ (ArePlaces logs places.now)
 
--- there are no differences exactly where those lead when the logs end who are to: these nodes and no other, or some node;
--- and none where that isn't asked
+-- there are no differences exactly where those lead when the logs end who are to: these nodes and no other, or some
+-- node; and none where that isn't asked
 abbrev pub AreDifferencesOf : List Log → RingLeaders → List ℕ → Type 0
 AreDifferencesOf logs NotAsked differences = differences ≡ []
 AreDifferencesOf logs Any differences = TellsOfLeader logs differences

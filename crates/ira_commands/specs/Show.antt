@@ -47,8 +47,8 @@ pub data Draws (answer : Answer) (IsPicture : List ℕ → Type 0) (AreTooMany :
   too_many : (events : ℕ) → AreTooMany events → reply ≡ refused (TooManyEvents events)
       → Draws answer IsPicture AreTooMany reply
 
--- lines on a ring are printed, with this status: as JSON, where that is wanted; or else, after these on who leads, all events in
--- an order, where these are wanted, or what it looks like at its moment
+-- lines on a ring are printed, with this status: as JSON, where that is wanted; or else, after these on who leads, all
+-- events in an order, where these are wanted, or what it looks like at its moment
 abbrev pub PrintsLinesAs : Bool → Bool → RingLeaders → ShownRing → List ℕ → Status → Reply → Type 0
 PrintsLinesAs true has_events leaders ring differences status reply = reply ≡ printing status
     (json_lines (record { ring = ring; named = named_places leaders; has_events = has_events; status = status }))
@@ -64,7 +64,8 @@ PrintsLines form ring differences reply = (status : Status) × IsLeadsStatus dif
 -- a ring is told in a form: lines after those on who leads, or a picture
 abbrev pub TellsRing : RingForm → ShownRing → Reply → Type 0
 TellsRing (Lines form) ring reply =
-    (differences : List ℕ) × AreDifferencesOf ring.logs form.leaders differences × PrintsLines form ring differences reply
+    (differences : List ℕ) × AreDifferencesOf ring.logs form.leaders differences
+    × PrintsLines form ring differences reply
 TellsRing (Picture columns) ring reply =
     Draws answer.Yes (IsPictureOf ring columns.from columns.to) (HasTooManyAt ring columns.from columns.to) reply
 TellsRing (Html columns) ring reply =
@@ -94,8 +95,8 @@ TellsFault is_json (fault.No r) reply = ReportsAs is_json (answer.No r) reply
 TellsFault is_json (fault.Cut f) reply = reply ≡ refused (NoMoment f)
 TellsFault is_json fault.OutOfMemory reply = ⊥
 
--- what comes of good logs and of the text of a question: the ring is told at the moment that is asked for; or why there is no
--- such moment; or a node that is to lead is none of the ring, which is refused
+-- what comes of good logs and of the text of a question: the ring is told at the moment that is asked for; or why there
+-- is no such moment; or a node that is to lead is none of the ring, which is refused
 pub data ShowsGood (form : RingForm) (moment : RingMoment) (question : List ℕ) (logs : List Log) (reply : Reply)
     : Type 0 where
   shown : (ring : ShownRing) → IsAskedRing logs moment question ring → TellsRing form ring reply
@@ -104,10 +105,10 @@ pub data ShowsGood (form : RingForm) (moment : RingMoment) (question : List ℕ)
       → ShowsGood form moment question logs reply
   no_place : AreNoPlaces logs (leaders_of form) → reply ≡ refused NoPlace → ShowsGood form moment question logs reply
 
--- what comes of the texts of files of these names and of the text of a question. They are those of good logs, whose ring is
--- told; or they are those of other logs of one ring; or this is why they are those of no ring's logs
-pub data ShowsLogs (A : Type 0) (form : RingForm) (moment : RingMoment) (question : List ℕ) (names texts : List (List ℕ))
-    (reply : Reply) : Type 0 where
+-- what comes of the texts of files of these names and of the text of a question. They are those of good logs, whose ring
+-- is told; or they are those of other logs of one ring; or this is why they are those of no ring's logs
+pub data ShowsLogs (A : Type 0) (form : RingForm) (moment : RingMoment) (question : List ℕ)
+    (names texts : List (List ℕ)) (reply : Reply) : Type 0 where
   good : (logs : List Log) → AreGoodLogs texts logs → ShowsGood form moment question logs reply
       → ShowsLogs A form moment question names texts reply
   no_run : (logs : RefusedLogs) → AreLogTexts texts logs.logs → AreRefused logs

@@ -1,7 +1,8 @@
 ghost use Rattle.std.specs.Prelude.{◌≡◌, IfOk};
 ghost use Rattle.ira_audit.specs.Report.{IsReportable};
 ghost use Rattle.ira_commands.specs.Output.{printed_by};
-ghost use Rattle.ira_commands.specs.Reply.{Reports, ReportsAs, made, printed, printing, refused, refused_after, with_files};
+ghost use Rattle.ira_commands.specs.Reply.{Reports, ReportsAs, made, printed, printing, refused, refused_after};
+ghost use Rattle.ira_commands.specs.Reply.{with_files};
 
 use crate::command_fault::CommandFault;
 use crate::files::Files;

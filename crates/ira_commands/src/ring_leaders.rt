@@ -19,8 +19,8 @@ pub enum RingLeaders<'v> {
 }
 
 impl<'v> RingLeaders<'v> {
-    /// Lines on how those who lead when the logs end differ from those who are to; nothing where one that is named is none of
-    /// the ring.
+    /// Lines on how those who lead when the logs end differ from those who are to; nothing where one that is named is
+    /// none of the ring.
     pub(crate) fn differences<A: Allocator + Clone>(
         &self,
         alloc: A,

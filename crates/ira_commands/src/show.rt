@@ -62,8 +62,8 @@ fn tell_page<A: Allocator + Clone>(
     Ok(Reply::printed(status, text))
 }
 
-/// A ring, whose logs are in files of these names, as lines, after these on who leads. Those that may be many are made as they
-/// are printed.
+/// A ring, whose logs are in files of these names, as lines, after these on who leads. Those that may be many are made as
+/// they are printed.
 fn tell_lines<A: Allocator + Clone>(
     alloc: A,
     form: LinesForm<'_>,
@@ -134,8 +134,8 @@ fn tell_ring<A: Allocator + Clone>(
     }
 }
 
-/// The ring of good logs, which are in files of these names, in a form, at the moment that is asked for, of a question of this
-/// text where it is the first of one.
+/// The ring of good logs, which are in files of these names, in a form, at the moment that is asked for, of a question of
+/// this text where it is the first of one.
 fn show_good<A: Allocator + Clone>(
     alloc: A,
     form: RingForm<'_>,
@@ -199,8 +199,8 @@ fn tell_refused<A: Allocator + Clone>(
     }
 }
 
-/// The ring of logs, which are in files of these names, in a form, at the moment that is asked for, of a question of this text
-/// where it is the first of one. This is told in a page of refused logs.
+/// The ring of logs, which are in files of these names, in a form, at the moment that is asked for, of a question of this
+/// text where it is the first of one. This is told in a page of refused logs.
 pub fn show_ring<A: Allocator + Clone>(
     alloc: A,
     form: RingForm<'_>,

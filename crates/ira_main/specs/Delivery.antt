@@ -32,7 +32,8 @@ printed_outcome reply (Err show.OutOfMemory) = Err OutOfMemory
 -- what a reply has for the output was written, or a first part of it, and the outcome says so
 abbrev pub PrintsReply : Reply → SinkState → SinkState → Outcome → Type 0
 PrintsReply reply out out' outcome =
-    (wrote : Result (Unit {0}) ShowFault) × WroteOutput reply.out wrote out out' × (outcome ≡ printed_outcome reply wrote)
+    (wrote : Result (Unit {0}) ShowFault) × WroteOutput reply.out wrote out out'
+    × (outcome ≡ printed_outcome reply wrote)
 
 -- a reply of this kind was printed; or there is none, for a fault of this kind, and nothing was printed
 abbrev pub Tells : (Reply → Type 0) → (ProgramFault → Type 0) → SinkState → SinkState → Outcome → Type 0

@@ -24,7 +24,8 @@ ShowsLogsAt A form moment names question texts reply =
 abbrev pub AreLeadersOf : Option AskedLeaders → RingLeaders → Type 0
 AreLeadersOf None asked = asked ≡ leaders.NotAsked
 AreLeadersOf (Some Any) asked = asked ≡ leaders.Any
-AreLeadersOf (Some (Places places)) asked = (lent : Bor (List ℕ)) × (lent.now ≡ places.items) × (asked ≡ leaders.Places lent)
+AreLeadersOf (Some (Places places)) asked =
+    (lent : Bor (List ℕ)) × (lent.now ≡ places.items) × (asked ≡ leaders.Places lent)
 
 -- the lines that they ask for
 abbrev pub IsFormOf : ShowRequest → LinesForm → Type 0

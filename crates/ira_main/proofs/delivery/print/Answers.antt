@@ -11,4 +11,5 @@ returns-in-Err-Write g c =
 
 pub returns-in-Err-OutOfMemory : goal.returns-in-Err-OutOfMemory
 returns-in-Err-OutOfMemory g c =
-    (Err OutOfMemory, rw (c.out.ensures, c.in-Err-OutOfMemory.is, c.in-Err-OutOfMemory.field-0-is) at c.write.ensures, refl)
+    let wrote = rw (c.out.ensures, c.in-Err-OutOfMemory.is, c.in-Err-OutOfMemory.field-0-is) at c.write.ensures in
+    (Err OutOfMemory, wrote, refl)

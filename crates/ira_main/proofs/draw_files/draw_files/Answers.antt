@@ -81,6 +81,6 @@ returns g c =
       first = given.0;
       given = given.3;
       reply_is = rw (sym c.is_page.ensures ∙ c.if-is_page.false)
-          (rw (c.columns_of.ensures, c.bytes-question.ensures) at (c.in_ok-show_taken.ensures (names_of c.in_ok-first-2.field-0.first.names.items)
-          given.1 given.2));
+          (rw (c.columns_of.ensures, c.bytes-question.ensures) at (c.in_ok-show_taken.ensures
+          (names_of c.in_ok-first-2.field-0.first.names.items) given.1 given.2));
     }

@@ -18,7 +18,8 @@ pub returns-in_err-show_taken : goal.returns-in_err-show_taken
 returns-in_err-show_taken g c =
     let p = err_from_is_err_and c.from_residual-in_err-show_taken.result c.from_residual-in_err-show_taken.ensures.1 in
     rw (p.1, p.2) (
-    no_memory g.F.TextSource.reads None (question_of c.args.show.now.moment) None c.args.show.now.logs c.args.shelf.now _ refl)
+    no_memory g.F.TextSource.reads None (question_of c.args.show.now.moment) None c.args.show.now.logs
+    c.args.shelf.now _ refl)
 
 pub show_taken-requires-clause-taken : goal.show_taken-requires-clause-taken
 show_taken-requires-clause-taken g c =
@@ -29,8 +30,8 @@ show_taken-requires-clause-taken g c =
       given.1,
       given.2,
       rw c.deref.ensures.value (sym (length-map names file_name)
-          ∙ sym (zipped_length (λ name text. g.F.TextSource.reads c.args.shelf.now name (Ok text)) (names_of names) given.1
-          given.3)),
+          ∙ sym (zipped_length (λ name text. g.F.TextSource.reads c.args.shelf.now name (Ok text)) (names_of names)
+          given.1 given.3)),
     ) in
     search rules
 

@@ -8,8 +8,8 @@ use Rattle.ira_main.specs.Show.{IsNoPage}
 use Rattle.ira_main.proofs.show_files.show_taken.Goals as goal
 
 -- nothing is told in what is no page
-none_told : {A : Type 0} (form : RingForm) (files texts : List (List ℕ)) (judged : Judged A) (told : List ℕ) → IsNoPage form
-    → IsToldOf form files texts judged told
+none_told : {A : Type 0} (form : RingForm) (files texts : List (List ℕ)) (judged : Judged A) (told : List ℕ)
+    → IsNoPage form → IsToldOf form files texts judged told
 none_told (Lines form) files texts judged told none = tt
 none_told (Picture columns) files texts judged told none = tt
 none_told (Html columns) files texts judged told none = absurd none
