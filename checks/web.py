@@ -320,6 +320,11 @@ class Check:
         assert drawn == 8, drawn
         words = ['draw', '--out', 'out/ring.svg', '0.log', '1.log']
         self.saves('ring.svg', self.run(words, logs, 'out/ring.svg')[1][2])
+        browser.run('const take_both = arguments[0].flatMap(([name, text]) => ["a/", "b\\n/"].map(folder => '
+                    '({name: folder + name, text: encoder.encode(text)}))); take(take_both.slice(0, -1), false)',
+                    [(name, text.decode()) for name, text in logs])
+        self.shows('a/: yes\nb\\x0a/: no: heads: number')
+        self.load(logs, 'used')
         self.set('kind', 'pairs')
         self.shows('case 0: absent, 0 steps, node 1 spent')
         asked = [('two_leaders.ask', text_of(os.path.join(folder, 'two_leaders.ask'))), *logs]

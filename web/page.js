@@ -67,7 +67,7 @@ async function ask(values, files) {
 }
 
 // ---- what is given ----
-let rings = new Map, logs = [], question = null, cert = null;
+let rings = new Map, chosen, logs = [], question = null, cert = null;
 
 const kindOf = ({name, text}) => [['ask', 'irask '], ['cert', 'ircert '], ['log', 'irlog ']].find(([suffix, begins]) =>
   name.endsWith(`.${suffix}`) || decoder.decode(text.subarray(0, begins.length)) == begins)?.[0];
@@ -90,6 +90,7 @@ function take(files, areChosen) {
   else takeRing(rings.get(folders[0]));
 }
 function takeRing(ring) {
+  chosen = ring;
   [logs, question, cert] = [ring?.log ?? [], null, null];
   takeQuestions(ring ? [ring] : []);
 }
@@ -126,7 +127,7 @@ const leads = nodes =>
 
 function showGiven() {
   const button = (file, title, sign, change) => {
-    const onclick = () => (change(), judge());
+    const onclick = () => (change(), delete chosen.answer, judge());
     return tag('button', {title, ariaLabel: `${file.name}: ${title}`, onclick}, sign);
   };
   const row = (file, i) => tag('li', {}, tag('div', {}, tag('span', {}, file.name),
@@ -170,6 +171,9 @@ function leadersAsked() {
 // A name as a shell takes it.
 const quoted = ({name}) => /^[\w./][\w./-]*$/.test(name) ? name : `'${name.replaceAll("'", "'\\''")}'`;
 const namesOf = files => files.map(quoted).join(' ');
+// A name as the program shows it, so that none makes a line of its own.
+const shownName = name => Array.from(encoder.encode(name), byte => byte > 31 && byte < 127 ? String.fromCharCode(byte)
+  : {9: '\\t', 13: '\\r'}[byte] ?? `\\x${byte.toString(16).padStart(2, '0')}`).join('');
 const url = (bytes, type = 'text/plain') => URL.createObjectURL(new Blob([bytes], {type}));
 const save = (name, bytes, type) => tag('a', {href: url(bytes, type), download: name}, name);
 
@@ -257,6 +261,15 @@ async function judge() {
     add(await answered('An order of all events', `show --events ${moment.words}${names}`, [EVENTS, ...moment.values],
       files));
   });
+  if (isNow()) await told(() => answerEach(made => isNow() && $('answers').prepend(made)));
+}
+// The answers of several folders, one after another; each is kept, since others are chosen in between.
+async function answerEach(add) {
+  const each = [...rings].filter(([, {log}]) => log.length).map(([folder, ring]) => ({name: folder || '.', ring}));
+  if (each.length < 2) return;
+  for (const {ring} of each) ring.answer ??= (await ask([LOGS], ring.log)).out;
+  const out = each.map(({name, ring}) => `${shownName(name)}: ${ring.answer}`).join('');
+  add(piece('Each folder', `logs --each ${namesOf(each)}`, {out}));
 }
 async function answerQuestion(names, add) {
   const of = `--question ${quoted(question)}`, files = [question, ...logs];
