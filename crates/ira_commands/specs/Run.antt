@@ -1,14 +1,14 @@
 -- What comes of running a ring.
-use Rattle.std.specs.Prelude.{◌≡◌, Err, Ok, Result}
+use Rattle.std.specs.Prelude.{◌≡◌, ◌≢◌, Bool, Err, Ok, Result, false, true}
 use Rattle.ira_event.specs.RingSize.{IsRingSize}
 use Rattle.ira_ring.specs.SeededRing.{setup_of}
 use Rattle.ira_ring_setup.specs.EndsWriter.{ends_text}
+use Rattle.ira_ring_setup.specs.Recording.{HasOwnEnd, IsRecording}
 use Rattle.ira_ring_setup.specs.Run.{Run}
-use Rattle.ira_ring_setup.specs.Setup.{KeepsRules}
+use Rattle.ira_ring_setup.specs.Setup.{KeepsRules, Setup}
 use Rattle.ira_ring_setup.specs.ShownEnd.{IsLoneRun}
 use Rattle.ira_ring_setup.specs.declared.run_fault.RunFault.{RunFault}
 use Rattle.ira_ring_setup.specs.declared.run_fault.RunFault.TheVariants as fault
-use Rattle.ira_ring_setup.specs.declared.run_fault.RunFault.TheVariants.{Setup}
 use Rattle.ira_commands.specs.AskedRun.{ring_of}
 use Rattle.ira_commands.specs.Reply.{Reply, printed, refused, with_files}
 use Rattle.ira_commands.specs.Reply.MadeFiles.{logs_of}
@@ -28,11 +28,25 @@ TellsRunResult (Ok run) reply = TellsRun run reply
 TellsRunResult (Err fault.OutOfMemory) reply = ⊥
 TellsRunResult (Err f) reply = reply ≡ refused (RunRefused f)
 
--- a run of the ring on one thread is told, which keeps the rules; or it breaks them, or no ring has so many nodes, which
--- is refused
-pub data RunsRing (asked : AskedRun) (reply : Reply) : Type 0 where
+-- a run of a setup, on one thread or with a thread for each node
+abbrev pub IsRunOf : Bool → Setup → Run → Type 0
+IsRunOf true s run = IsLoneRun s run
+IsRunOf false s run = IsRecording s run × HasOwnEnd run
+
+-- why there is no run of a setup
+pub record IsRunFault (is_alone : Bool) (s : Setup) (f : RunFault) : Type 0 where
+  -- it says that the setup breaks the rules only where it does
+  pub broken : f ≡ fault.Setup → ¬ (KeepsRules s)
+  -- on one thread it says that
+  pub alone : is_alone ≡ true → f ≡ fault.Setup
+  -- and never that the collector refuses a part
+  pub parts : (f ≢ fault.Stranger) × (f ≢ fault.Double)
+
+-- a run of the ring is told, which keeps the rules; or why there is none, or that no ring has so many nodes, and that is
+-- refused
+pub data RunsRing (is_alone : Bool) (asked : AskedRun) (reply : Reply) : Type 0 where
   ran : IsRingSize asked.nodes → KeepsRules (setup_of (ring_of asked)) → (run : Run)
-      → IsLoneRun (setup_of (ring_of asked)) run → TellsRun run reply → RunsRing asked reply
-  broken : IsRingSize asked.nodes → ¬ (KeepsRules (setup_of (ring_of asked)))
-      → reply ≡ refused (RunRefused Setup) → RunsRing asked reply
-  no_ring : ¬ (IsRingSize asked.nodes) → reply ≡ refused RingSize → RunsRing asked reply
+      → IsRunOf is_alone (setup_of (ring_of asked)) run → TellsRun run reply → RunsRing is_alone asked reply
+  failed : IsRingSize asked.nodes → (f : RunFault) → IsRunFault is_alone (setup_of (ring_of asked)) f
+      → reply ≡ refused (RunRefused f) → RunsRing is_alone asked reply
+  no_ring : ¬ (IsRingSize asked.nodes) → reply ≡ refused RingSize → RunsRing is_alone asked reply

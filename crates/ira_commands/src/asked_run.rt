@@ -1,8 +1,10 @@
-ghost use Rattle.std.specs.Prelude.{◌≡◌};
+ghost use Rattle.std.specs.Prelude.{◌≡◌, IfOk};
+ghost use Rattle.ira_ring.specs.SeededRing.{setup_of};
 ghost use Rattle.ira_commands.specs.AskedRun.{ring_of};
 
-use ira_event::RingSize;
-use ira_ring::SeededRing;
+use ira_event::{OutOfMemory, RingSize};
+use ira_ring::{SeededRing, Setup, draw_lists};
+use std::alloc::Allocator;
 
 /// A run that is asked for: a ring whose first nodes are initiators and whose nodes draw from a seed.
 #[derive(Clone, Copy)]
@@ -34,5 +36,25 @@ impl AskedRun {
             cap: self.cap,
             terms: self.terms,
         }
+    }
+
+    /// The setup of the ring, which has this size and so many terms.
+    pub(crate) fn setup<A: Allocator + Clone>(
+        &self,
+        alloc: A,
+        nodes: RingSize,
+        terms: u32,
+    ) -> Result<Setup<A>, OutOfMemory>
+        requires size { nodes ≡ self.now.nodes }
+        requires terms { terms ≡ self.now.terms }
+        ensures { IfOk result (λ setup. setup ≡ setup_of (ring_of self.now)) }
+    {
+        Ok(Setup {
+            nodes,
+            initiators: self.ring(nodes).initiators(alloc.clone()?)?,
+            draws: draw_lists(alloc, nodes, self.seed, self.draws)?,
+            cap: self.cap as usize,
+            terms,
+        })
     }
 }

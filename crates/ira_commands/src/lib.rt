@@ -40,6 +40,6 @@ pub use reply::Reply;
 pub use ring_form::{LinesForm, RingForm};
 pub use ring_leaders::RingLeaders;
 pub use ring_moment::RingMoment;
-pub use run::{run_asked, tell_run};
+pub use run::{run_asked, run_asked_on_threads};
 pub use show::{show_ring, told_in_page};
 pub use upgrade::upgrade_taken;

@@ -1,4 +1,3 @@
-pub mod Asking
 pub mod Delivering
 pub mod FilesRead
 pub mod Folders

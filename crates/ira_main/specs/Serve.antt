@@ -9,6 +9,7 @@ use Rattle.ira_commands.specs.Decide.{DecidesTexts, PrintsDecided}
 use Rattle.ira_commands.specs.Judging.{JudgesLog, JudgesLogs}
 use Rattle.ira_commands.specs.Pairs.{AsksPairs}
 use Rattle.ira_commands.specs.Reply.{Reply, Reports, ReportsAs}
+use Rattle.ira_commands.specs.Run.{RunsRing}
 use Rattle.ira_commands.specs.Upgrade.{UpgradesTexts}
 use Rattle.ira_main_cli.specs.Request.{IsCheckLine, IsDecideLine, IsDrawLine, IsEachLine, IsExplainLine, IsLogsLine, IsMendLine}
 use Rattle.ira_main_cli.specs.Request.{IsPairsLine, IsRunLine, IsShowLine, IsUpgradeLine, IsVersionLine, MayBeRefused}
@@ -31,7 +32,7 @@ use Rattle.ira_main_files.specs.FileName.{file_name}
 use Rattle.ira_main_files.specs.ReadText.{IsReadTo}
 use Rattle.ira_main_files.specs.Shelf.{Reading, Writing}
 use Rattle.ira_main_files.specs.declared.file_name.FileName.{FileName}
-use Rattle.ira_main.specs.AskedRun.{RunsAsked}
+use Rattle.ira_main.specs.AskedRun.{run_of}
 use Rattle.ira_main.specs.Delivery.{Tells, TellsAndKeeps, TellsAndRecords}
 use Rattle.ira_main.specs.Draw.{DrawsLogs}
 use Rattle.ira_main.specs.Each.{JudgesEach}
@@ -134,7 +135,8 @@ pub data CommandOutcome (A : Type 0) {S : Type 0} (reads : Reading S) (writes : 
   pairs : (nodes : ℕ) → IsPairsLine words nodes → shelf' ≡ shelf → Tells (AsksPairs nodes) IsNoMemory out out' outcome
       → CommandOutcome A reads writes words shelf shelf' out out' outcome
   recorded : (request : RunRequest) → IsRunLine words request
-      → TellsAndRecords writes request.folder (RunsAsked request) IsNoMemory shelf shelf' out out' outcome
+      → TellsAndRecords writes request.folder (RunsRing request.is_alone (run_of request)) IsNoMemory
+      shelf shelf' out out' outcome
       → CommandOutcome A reads writes words shelf shelf' out out' outcome
   upgraded : (upgrade : RewriteRequest) → IsUpgradeLine words upgrade
       → TellsAndRecords writes upgrade.folder

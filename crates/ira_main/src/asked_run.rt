@@ -1,22 +1,23 @@
-ghost use Rattle.std.specs.Prelude.{◌≡◌, false, true, IfOk, MatchResult};
-ghost use Rattle.ira_main.specs.AskedRun.{IsAskedSetup, IsAskedRun, IsAskedRunFault, ring_of};
+ghost use Rattle.std.specs.Prelude.{◌≡◌, MatchResult, false, true};
+ghost use Rattle.ira_commands.specs.Run.{RunsRing};
+ghost use Rattle.ira_main.specs.AskedRun.{run_of};
+ghost use Rattle.ira_main.specs.Given.{IsNoMemory};
 
-use ira_event::{OutOfMemory, RingSize};
-use ira_links::OpenGate;
+use crate::program_fault::ProgramFault;
+use ira_commands::{AskedRun, Reply, run_asked, run_asked_on_threads};
 use ira_main_cli::RunRequest;
-use ira_ring::{Run, RunFault, SeededRing, Setup, draw_lists, run_ring};
 use std::alloc::Allocator;
 use std::sync::Wait;
 use std::thread::Threads;
 use std::time::Clock;
 
-/// The ring that is asked for, which has this size.
-fn asked_ring(request: &RunRequest<'_>, nodes: RingSize) -> SeededRing
-    ensures { result ≡ ring_of request.now nodes }
+/// The run that words ask for.
+fn run_of(request: &RunRequest<'_>) -> AskedRun
+    ensures { result ≡ run_of request.now }
 {
-    SeededRing {
-        nodes,
-        initiators: request.initiators.unwrap_or(u64::from(nodes.get())),
+    AskedRun {
+        nodes: request.nodes,
+        initiators: request.initiators.unwrap_or(request.nodes),
         seed: request.seed,
         draws: request.draws,
         cap: request.cap,
@@ -24,57 +25,28 @@ fn asked_ring(request: &RunRequest<'_>, nodes: RingSize) -> SeededRing
     }
 }
 
-// The setup of a ring of this size, for so many terms.
-fn setup<A: Allocator + Clone>(
-    request: &RunRequest<'_>,
-    alloc: A,
-    nodes: RingSize,
-    terms: u32,
-) -> Result<Setup<A>, OutOfMemory>
-    requires size { nodes ≡ request.now.nodes }
-    requires terms { terms ≡ request.now.terms }
-    ensures { IfOk result (IsAskedSetup request.now) }
+/// Runs the ring that is asked for on one thread.
+pub(crate) fn record_run_alone<'a, A: Allocator + Clone>(
+    alloc: &A,
+    request: &RunRequest<'a>,
+) -> Result<Reply<A>, ProgramFault<'a>>
+    requires { request.now.is_alone ≡ true }
+    ensures { MatchResult result (RunsRing request.now.is_alone (run_of request.now)) IsNoMemory }
 {
-    Ok(Setup {
-        nodes,
-        initiators: asked_ring(request, nodes).initiators(alloc.clone()?)?,
-        draws: draw_lists(alloc, nodes, request.seed, request.draws)?,
-        cap: request.cap as usize,
-        terms,
-    })
+    Ok(run_asked(alloc.clone()?, &run_of(request))?)
 }
 
-/// Runs the ring that is asked for, which has this size, on one thread.
-pub(crate) fn run_alone<A: Allocator + Clone>(
-    request: &RunRequest<'_>,
-    alloc: A,
-    nodes: RingSize,
-) -> Result<Run<A>, RunFault>
-    requires alone { request.now.is_alone ≡ true }
-    requires size { nodes ≡ request.now.nodes }
-    ensures { MatchResult result (IsAskedRun request.now) (IsAskedRunFault request.now) }
-{
-    asked_ring(request, nodes).run_alone(alloc)
-}
-
-/// Runs the ring that is asked for, which has this size, with a thread for each node. A number of terms that no setup could
-/// hold is that of one which breaks the rules.
-pub(crate) fn run_on_threads<R, A>(
-    request: &RunRequest<'_>,
+/// Runs the ring that is asked for with a thread for each node.
+pub(crate) fn record_run_on_threads<'a, R, A>(
     rt: &R,
-    alloc: A,
-    nodes: RingSize,
-) -> Result<Run<A>, RunFault>
+    alloc: &A,
+    request: &RunRequest<'a>,
+) -> Result<Reply<A>, ProgramFault<'a>>
 where
     R: Threads + Wait + Clock + Sync,
     A: Allocator + Clone + Send + Sync,
-    requires threads { request.now.is_alone ≡ false }
-    requires size { nodes ≡ request.now.nodes }
-    ensures { MatchResult result (IsAskedRun request.now) (IsAskedRunFault request.now) }
+    requires { request.now.is_alone ≡ false }
+    ensures { MatchResult result (RunsRing request.now.is_alone (run_of request.now)) IsNoMemory }
 {
-    let Ok(terms) = u32::try_from(request.terms) else {
-        return Err(RunFault::Setup);
-    };
-    let setup = setup(request, alloc.clone()?, nodes, terms)?;
-    run_ring(rt, alloc, &setup, &OpenGate)
+    Ok(run_asked_on_threads(rt, alloc.clone()?, &run_of(request))?)
 }

@@ -22,7 +22,6 @@ mod program;
 mod program_fault;
 mod progress;
 mod read_files;
-mod record_run;
 mod show_files;
 mod shown_name;
 mod source_names;

@@ -8,6 +8,7 @@ ghost use Rattle.ira_main.specs.Progress.{ServesOrLeaves};
 ghost use Rattle.ira_main.specs.Unread.{TellsUnread, wants_json};
 ghost use Rattle.ira_main.specs.Serve.{Serves};
 
+use crate::asked_run::{record_run_alone, record_run_on_threads};
 use crate::decide_files::decide_files;
 use crate::delivery::{deliver, deliver_and_keep, record_and_deliver};
 use crate::draw_files::draw_files;
@@ -19,7 +20,6 @@ use crate::judge_files::{check_files, judge_files, judge_input};
 use crate::mend_files::mend_files;
 use crate::program_fault::{ProgramFault, report_outcome};
 use crate::progress::Progress;
-use crate::record_run::{record_run_alone, record_run_on_threads};
 use crate::show_files::show_files;
 use crate::tell_unread::tell_unread;
 use crate::upgrade_files::upgrade_files;

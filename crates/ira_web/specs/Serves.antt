@@ -69,7 +69,7 @@ Serves A (Check is_json) files reply = ChecksFiles (λ _ _. ReportsAs is_json) f
 Serves A (Pairs nodes) files reply = (files ≡ []) × AsksPairs nodes reply
 Serves A Upgrade files reply = UpgradesTexts (texts_of files) reply
 Serves A (Mend is_initiator) files reply = MendsTexts is_initiator (texts_of files) reply
-Serves A (Run asked) files reply = (files ≡ []) × RunsRing asked reply
+Serves A (Run asked) files reply = (files ≡ []) × RunsRing true asked reply
 
 -- the values are those of a request, lengths and bytes those of its files, and this comes of it
 pub record IsAnswered (values lengths bytes : List ℕ) (reply : Reply) : Type 0 where
