@@ -10,7 +10,7 @@ import sys
 import tempfile
 
 from pictures import HERE, Ring, logs_in, redrawn
-from plain_pages import next_of
+from plain_pages import ended_logs, next_of
 
 
 class Reader:
@@ -201,6 +201,14 @@ def due(value):
     return value['node'], ' '.join([value['next'] + 's', *(load(value) if value['next'] != 'draw' else [])])
 
 
+def check_election(answer, ring):
+    """Whether the election is over when the logs end, and else what comes next."""
+    assert answer['over'] == any(states[-1].phase == 'leader' for states in ring.states), answer
+    assert ('next' in answer) != answer['over'], answer
+    at = [len(events) for events in ring.events]
+    assert [due(value) for value in answer.get('next', [])] == list(next_of(ring, at)), answer
+
+
 def check_moment(reader, ring, names, cut, words):
     """What is shown at a moment; without a cut, when the logs end."""
     at = cut or [len(events) for events in ring.events]
@@ -280,7 +288,7 @@ def check_question(reader, question, certificate, names):
                 lines.append(f"case {k}: present at {' '.join(map(str, value['cut']))}\n")
         assert plain == ''.join(lines), plain
     explained, *asked = check_explained(reader, ['--question', question], names)
-    assert explained['answer'] == answer['answer'] and explained['status'] == status
+    assert explained['answer'] == answer['answer'] and explained['status'] == status and 'over' not in explained
     check_asks(question, reader.run('explain', *options)[1], asked)
     assert asked == cases
     if certificate:
@@ -297,7 +305,7 @@ def check_logs(reader, names, folder):
     assert status == plain_status and plain == answer['answer'] + '\n'
     (explained,) = check_explained(reader, [], names)
     assert {**explained, **answer} == explained
-    assert ('fault' in explained) == (status != 0)
+    assert ('fault' in explained) == (status != 0) == ('over' not in explained)
     for place in range(len(names)):
         with open(names[place]) as log:
             done = subprocess.run([reader.program, 'explain', '--json'], check=False, stdin=log, capture_output=True, text=True)
@@ -306,13 +314,15 @@ def check_logs(reader, names, folder):
         reader.lines += 1
     if status == 0:
         ring = Ring(names)
+        check_election(explained, ring)
         check_moment(reader, ring, names, None, [])
         check_events(reader, ring, names, None)
         check_leaders(reader, ring, names)
         for i in range(0, ring.n, 1 + ring.n // 4):
             for p in range(1, len(ring.events[i]) + 1, 1 + len(ring.events[i]) // 4):
                 check_moment(reader, ring, names, ring.past(i, p), [])
-        check_events(reader, ring, names, ring.past(0, 1))
+        if ring.events[0]:
+            check_events(reader, ring, names, ring.past(0, 1))
     if folder and len(names) <= 16:
         question, certificate = os.path.join(folder, 'pairs.ask'), os.path.join(folder, 'pairs.cert')
         with open(question, 'w') as out:
@@ -385,6 +395,9 @@ def main():
             check_logs(reader, logs_in(folder), folder)
             if nodes in (3, 4):
                 check_broken(reader, logs_in(folder))
+            if nodes in (2, 3):
+                for ended in ended_logs(logs_in(folder), temp):
+                    check_logs(reader, ended, None)
     print(f'{reader.lines} lines of JSON say what the plain answers and the logs do')
 
 

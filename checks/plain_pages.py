@@ -343,7 +343,8 @@ def main():
             if len(names) > 1:
                 check_explained(reader, [names[1], names[0], *names[2:]])
             if len(names) in (2, 3) and folder.startswith(temp):
-                check_ended(reader, names, temp)
+                for ended in ended_logs(names, temp):
+                    assert check_explained(reader, ended) == 'yes', folder
             if len(names) in (3, 4) and folder.startswith(temp):
                 damaged(names, lambda: check_explained(reader, names))
                 redrawn(names, lambda: check_explained(reader, names))
@@ -351,8 +352,8 @@ def main():
     print(f'{reader.lines} lines of plain pages say what the logs do')
 
 
-def check_ended(reader, names, temp):
-    """A ring that ends after each event of an order of all: each is a run, and its election over or not."""
+def ended_logs(names, temp):
+    """The logs of a ring that ends after each event of an order of all: of a run, its election over or not."""
     ring = Ring(names)
     order = sorted(ring.column, key=lambda event: (ring.column[event], event))
     ended = [os.path.join(temp, f'{i}.ended') for i in range(ring.n)]
@@ -364,7 +365,7 @@ def check_ended(reader, names, temp):
             with open(name) as log, open(copy, 'w') as file:
                 lines = log.read().split('\n')
                 file.write('\n'.join([*lines[:4 + events], f'end {events}', '']))
-        assert check_explained(reader, ended) == 'yes', at
+        yield ended
 
 
 if __name__ == '__main__':

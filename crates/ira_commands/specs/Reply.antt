@@ -4,6 +4,7 @@ use Rattle.ira_event.specs.Log.{Log}
 use Rattle.ira_event.specs.LogText.{log_text}
 use Rattle.ira_audit.specs.Report.{report_line}
 use Rattle.ira_audit.specs.declared.answer.Answer.{Answer}
+use Rattle.ira_view_election.specs.Election.{Standing}
 use Rattle.ira_view_page.specs.declared.explanation.Explanation.{Explanation}
 use Rattle.ira_view.specs.Status.{answer_status}
 use Rattle.ira_view.specs.ViewText.{IsAnswerText, IsViewText}
@@ -66,9 +67,11 @@ Reports answer reply = reply ≡ printed (answer_status answer) (report_line ans
 abbrev pub ReportsAs : Bool → Telling
 ReportsAs is_json answer = Prints (IsAnswerText is_json answer) (answer_status answer)
 
--- it is printed with this explanation: as JSON, where that is wanted, or else its line and the page, which is printable
-abbrev pub ExplainsAs : {A : Type 0} → Bool → Explanation A → Telling
-ExplainsAs is_json explanation answer = Prints (IsViewText is_json answer explanation) (answer_status answer)
+-- it is printed with this explanation: as JSON, where that is wanted, with how the election stands where that is known,
+-- or else its line and the page, which is printable
+abbrev pub ExplainsAs : {A : Type 0} → Bool → Explanation A → Option Standing → Telling
+ExplainsAs is_json explanation standing answer =
+    Prints (IsViewText is_json answer explanation standing) (answer_status answer)
 
 -- the text of each file
 abbrev pub file_texts : MadeFiles → List (List ℕ)

@@ -1,7 +1,8 @@
-ghost use Rattle.std.specs.Prelude.{IfOk};
+ghost use Rattle.std.specs.Prelude.{IfOk, option_map};
 ghost use Rattle.ira_audit.specs.Judged.{IsJudged};
 ghost use Rattle.ira_audit.specs.Report.{IsReportable};
 ghost use Rattle.ira_view.specs.Texts.{texts_of};
+ghost use Rattle.ira_view_election.specs.Election.{standing_of};
 ghost use Rattle.ira_commands.specs.Explain.{ExplainsLog, ExplainsLogs};
 ghost use Rattle.ira_commands.specs.Judging.{JudgesLog, JudgesLogs};
 ghost use Rattle.ira_commands.specs.Reply.{ExplainsAs};
@@ -10,20 +11,23 @@ use crate::reply::Reply;
 use ira_audit::Judged;
 use ira_event::{MemorySink, OutOfMemory};
 use ira_view::{Status, View, explain_text, explain_texts, write_view_as};
+use ira_view_election::Election;
 use ira_view_page::NamedText;
 use std::alloc::Allocator;
 
-/// An answer, and why it is so, as JSON where that is wanted.
-pub fn tell_view<A: Allocator + Clone>(
+/// An answer, and why it is so, as JSON where that is wanted, with how the election stands where that is known.
+pub fn tell_view<'v, A: Allocator + Clone>(
     alloc: A,
     is_json: bool,
-    view: &View<A>,
+    view: &'v View<A>,
+    election: Option<&'v Election<A>>,
 ) -> Result<Reply<A>, OutOfMemory>
     requires { IsReportable view.now.answer }
-    ensures { IfOk result (ExplainsAs is_json view.now.explanation view.now.answer) }
+    ensures { IfOk result (ExplainsAs is_json view.now.explanation
+        (option_map (λ election. standing_of election.now) election.entry) view.now.answer) }
 {
     let mut text = MemorySink::new(alloc.clone()?);
-    let Ok(()) = write_view_as(alloc, is_json, view, &mut text) else {
+    let Ok(()) = write_view_as(alloc, is_json, view, election, &mut text) else {
         return Err(OutOfMemory);
     };
     Ok(Reply::printed(Status::of_answer(&view.answer), text))
@@ -38,7 +42,7 @@ pub fn explain_one<A: Allocator + Clone>(
     ensures { IfOk result (JudgesLog (ExplainsLog A is_json log.now) log.now.text.now) }
 {
     let view = explain_text(alloc.clone()?, log)?;
-    tell_view(alloc, is_json, &view)
+    tell_view(alloc, is_json, &view, None)
 }
 
 /// The answer of the logs of a ring in these files, and why it is so.
@@ -51,6 +55,6 @@ pub fn explain_all<A: Allocator + Clone>(
     requires { IsJudged (texts_of logs.now) judged.now }
     ensures { IfOk result (JudgesLogs (ExplainsLogs A is_json logs.now) (texts_of logs.now)) }
 {
-    let view = explain_texts(alloc.clone()?, logs, judged)?;
-    tell_view(alloc, is_json, &view)
+    let ring = explain_texts(alloc.clone()?, logs, judged)?;
+    tell_view(alloc, is_json, &ring.view, ring.election.as_ref())
 }

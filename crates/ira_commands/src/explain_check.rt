@@ -52,5 +52,5 @@ pub fn explain_check_alone<A: Allocator + Clone>(
         files.entry.question.now.text.now certificate.now.text.now (texts_of files.entry.logs.now)) }
 {
     let view = explain_judged(alloc.clone()?, files, certificate, judged)?;
-    tell_view(alloc, is_json, &view)
+    tell_view(alloc, is_json, &view, None)
 }

@@ -150,7 +150,7 @@ where
         question,
     };
     let view = explain_certified(rt, alloc.clone()?, files, certificate, &judged)?;
-    tell_view(alloc, is_json, &view)
+    tell_view(alloc, is_json, &view, None)
 }
 
 /// Judges the logs of a source with a question and a certificate, and says why the answer is as it is.

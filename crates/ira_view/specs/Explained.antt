@@ -1,5 +1,5 @@
 -- What is told of texts beside their answer.
-use Rattle.std.specs.Prelude.{◌≡◌, ℕ, List, [], ◌∷◌, ◌++◌, None, Option, Some, codes, length, ⊤}
+use Rattle.std.specs.Prelude.{◌≡◌, ℕ, List, [], ◌∷◌, ◌++◌, None, Option, Some, codes, length}
 use Rattle.ira_event.specs.Log.{Log}
 use Rattle.ira_cert_text.specs.Certificate.{Certificate, Section}
 use Rattle.ira_cert_text.specs.CertText.{IsCertText}
@@ -37,26 +37,26 @@ pub record IsLogExplanation {A : Type 0} (file : NamedText) (answer : Answer) (e
   pub ring : explanation.ring ≡ None
   pub told : IsLogTold file answer explanation.state_before explanation.evidence.items
 
--- a page ends with how the election stands when the logs end, below an empty line
-pub record EndsWithElection (logs : List Log) (page : List ℕ) : Type 0 where
-  pub standing : Standing
-  pub stands : StandsAt logs (whole_cut logs) standing
+-- a page ends with how an election stands, below an empty line
+pub record EndsWithElection (standing : Standing) (page : List ℕ) : Type 0 where
   pub above : List ℕ
   pub text : page ≡ above ++ codes "\n" ++ standing_text standing
 
--- of good logs the page does
-abbrev pub TellsElection : {A : Type 0} → Judged A → List ℕ → Type 0
-TellsElection (Good logs) page = EndsWithElection logs page
-TellsElection (JudgedRefused refused) page = ⊤
-TellsElection (NoRing reason) page = ⊤
+-- how the election stands when good logs end, at the end of the page too; nothing of others
+abbrev pub TellsElection : {A : Type 0} → Judged A → Option Standing → List ℕ → Type 0
+TellsElection (Good logs) (Some standing) page =
+    StandsAt logs (whole_cut logs) standing × EndsWithElection standing page
+TellsElection (Good logs) None page = ⊥
+TellsElection (JudgedRefused refused) standing page = standing ≡ None
+TellsElection (NoRing reason) standing page = standing ≡ None
 
--- of texts that were judged: how many nodes and events there are, the evidence for the answer, and of good logs how the
--- election stands
+-- of texts that were judged: how many nodes and events there are, the evidence for the answer, and how the election
+-- stands
 pub record IsExplanation {A : Type 0} (files : List NamedText) (judged : Judged A) (explanation : Explanation A)
-    : Type 0 where
+    (standing : Option Standing) : Type 0 where
   pub ring : explanation.ring ≡ ring_of judged
   pub told : IsTold files judged explanation.state_before explanation.evidence.items
-  pub election : TellsElection judged explanation.page
+  pub election : TellsElection judged standing explanation.page
 
 -- it is explained why a question isn't asked of the ring of these logs: by its own text, or else by theirs
 abbrev pub IsNotAskedExplained : {A : Type 0} → AskedFiles → Judged A → Reason → Explanation A → Type 0

@@ -62,8 +62,8 @@ IsRingHtml ring from to text =
 abbrev pub IsRefusalTold : Type 0 → List NamedText → RefusedLogs → List ℕ → Type 0
 IsRefusalTold A files refused told =
     (explanation : Explanation A) × (line : List ℕ) × (page : List ℕ) × (others : List ℕ)
-    × IsExplanation {A = A} files (Refused refused) explanation
-    × IsViewText true (No refused.reason) explanation line
+    × IsExplanation {A = A} files (Refused refused) explanation None
+    × IsViewText true (No refused.reason) explanation None line
     × IsLineOf (explanation_value explanation.page) page
     × AreLogLines (zip (map (λ file. file.name.now) files) refused.logs) others × (told ≡ line ++ page ++ others)
 

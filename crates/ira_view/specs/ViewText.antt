@@ -1,5 +1,5 @@
 -- What is written of answers and findings, for a person or as JSON.
-use Rattle.std.specs.Prelude.{◌≡◌, ℕ, Bool, true, false, List, ◌++◌, Result, Ok, Err}
+use Rattle.std.specs.Prelude.{◌≡◌, ℕ, Bool, true, false, List, ◌++◌, Option, Result, Ok, Err}
 use Rattle.ira_event.specs.Sink.{SinkState, StopsIn, Takes}
 use Rattle.ira_audit.specs.FindingsText.{findings_text}
 use Rattle.ira_audit.specs.Report.{report_line}
@@ -9,6 +9,7 @@ use Rattle.ira_view_page.specs.Printable.{IsPrintable}
 use Rattle.ira_view_page.specs.declared.explanation.Explanation.{Explanation}
 use Rattle.ira_view_page.specs.declared.show_fault.ShowFault.{ShowFault}
 use Rattle.ira_view_page.specs.declared.show_fault.ShowFault.TheVariants.{OutOfMemory, Write}
+use Rattle.ira_view_election.specs.Election.{Standing}
 use Rattle.ira_view_json.specs.AnswerValue.{answer_value, findings_values}
 use Rattle.ira_view_json.specs.ExplainedFindings.{explained_findings}
 use Rattle.ira_view_json.specs.ExplainedValue.{explained_value}
@@ -21,12 +22,12 @@ abbrev pub IsAnswerText : Bool → Answer → List ℕ → Type 0
 IsAnswerText true answer text = IsLineOf (answer_value (status_number (answer_status answer)) answer) text
 IsAnswerText false answer text = text ≡ report_line answer
 
--- the text of an answer that is explained: as JSON, where that is wanted, with its status and with what it rests on; or
--- else its line, and after it the page, which is printable
-abbrev pub IsViewText : {A : Type 0} → Bool → Answer → Explanation A → List ℕ → Type 0
-IsViewText true answer explanation text =
-    IsLineOf (explained_value (status_number (answer_status answer)) answer explanation) text
-IsViewText false answer explanation text =
+-- the text of an answer that is explained: as JSON, where that is wanted, with its status, with what it rests on, and
+-- with how the election stands where that is known; or else its line, and after it the page, which is printable
+abbrev pub IsViewText : {A : Type 0} → Bool → Answer → Explanation A → Option Standing → List ℕ → Type 0
+IsViewText true answer explanation standing text =
+    IsLineOf (explained_value (status_number (answer_status answer)) answer explanation standing) text
+IsViewText false answer explanation standing text =
     IsPrintable explanation.page × (text ≡ report_line answer ++ explanation.page)
 
 -- the text of findings: as JSON, where that is wanted, with their status; or else their lines

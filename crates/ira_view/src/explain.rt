@@ -1,36 +1,33 @@
-ghost use Rattle.std.specs.Prelude.{IfOk};
+ghost use Rattle.std.specs.Prelude.{IfOk, option_map};
 ghost use Rattle.ira_audit.specs.Judged.{IsJudged};
 ghost use Rattle.ira_audit.specs.LogTextAnswer.{IsLogTextAnswer};
 ghost use Rattle.ira_audit.specs.RingAnswer.{IsRingAnswer};
 ghost use Rattle.ira_audit.specs.Report.{IsReportable};
-ghost use Rattle.ira_order.specs.Matching.{Matches};
-ghost use Rattle.ira_order.specs.Run.{AreLocalRuns};
+ghost use Rattle.ira_view_election.specs.Election.{standing_of};
 ghost use Rattle.ira_view.specs.Explained.{EndsWithElection, IsExplanation, IsLogExplanation};
 ghost use Rattle.ira_view.specs.Texts.{texts_of};
 
+use crate::ring_view::RingView;
 use crate::view::View;
 use ira_audit::Judged;
-use ira_event::{Logs, OutOfMemory};
-use ira_view_election::{election_at_end, print_election};
+use ira_event::OutOfMemory;
+use ira_view_election::{Election, election_at_end, print_election};
 use ira_view_explain::{explain_log, explain_logs};
 use ira_view_page::{NamedText, Page, PageText};
 use std::alloc::Allocator;
 
-/// The page of good logs, and below it how the election stands when they end.
-fn page_with_election<A: Allocator + Clone>(
+/// A page, and below it how an election stands.
+fn page_with_election<A: Allocator>(
     alloc: A,
     page: &PageText<A>,
-    logs: &Logs<A>,
+    election: &Election<A>,
 ) -> Result<PageText<A>, OutOfMemory>
-    requires matches { Matches logs.now }
-    requires local { AreLocalRuns logs.now }
-    ensures { IfOk result (EndsWithElection logs.now) }
+    ensures { IfOk result (EndsWithElection (standing_of election.now)) }
 {
-    let election = election_at_end(alloc.clone()?, logs)?;
     let mut whole = Page::new(alloc);
     whole.words(page.as_str());
     whole.blank();
-    print_election(&mut whole, &election);
+    print_election(&mut whole, election);
     whole.finish()
 }
 
@@ -39,25 +36,29 @@ pub fn explain_texts<A: Allocator + Clone>(
     alloc: A,
     texts: &[NamedText<'_>],
     judged: &Judged<A>,
-) -> Result<View<A>, OutOfMemory>
+) -> Result<RingView<A>, OutOfMemory>
     requires { IsJudged (texts_of texts.now) judged.now }
-    ensures answer { IfOk result (λ view. IsRingAnswer (texts_of texts.now) view.answer) }
-    ensures reportable { IfOk result (λ view. IsReportable view.answer) }
-    ensures explained { IfOk result (λ view. IsExplanation texts.now judged.now view.explanation) }
+    ensures answer { IfOk result (λ ring. IsRingAnswer (texts_of texts.now) ring.view.answer) }
+    ensures reportable { IfOk result (λ ring. IsReportable ring.view.answer) }
+    ensures explained { IfOk result (λ ring.
+        IsExplanation texts.now judged.now ring.view.explanation (option_map standing_of ring.election)) }
 {
     let answer = judged.answer();
     let mut explanation = explain_logs(alloc.clone()?, texts, judged)?;
-    match judged {
+    let election = match judged {
         Judged::Good(logs) => {
-            explanation.page = page_with_election(alloc, &explanation.page, logs.logs())?;
+            let election = election_at_end(alloc.clone()?, logs.logs())?;
+            explanation.page = page_with_election(alloc, &explanation.page, &election)?;
+            Some(election)
         }
-        Judged::Refused(_) => {}
-        Judged::NoRing(_) => {}
-    }
-    Ok(View {
+        Judged::Refused(_) => None,
+        Judged::NoRing(_) => None,
+    };
+    let view = View {
         answer,
         explanation,
-    })
+    };
+    Ok(RingView { view, election })
 }
 
 /// Judges the text of one log alone, and says why the answer is as it is.

@@ -98,10 +98,11 @@ pub fn refused_lines<A: Allocator + Clone>(
     let Judged::Refused(refused) = judged else {
         return Ok(String::new(alloc));
     };
-    let view = explain_texts(alloc.clone()?, files, judged)?;
+    let ring = explain_texts(alloc.clone()?, files, judged)?;
+    let explanation = &ring.view.explanation;
     let answer = Answer::No(refused.reason());
-    let mut told = view_line(alloc.clone()?, &answer, &view.explanation)?;
-    let page = explanation_line(alloc.clone()?, view.explanation.page.as_str())?;
+    let mut told = view_line(alloc.clone()?, &answer, explanation, None)?;
+    let page = explanation_line(alloc.clone()?, explanation.page.as_str())?;
     told.push_str(page.as_str())?;
     add_logs(alloc, &mut told, refused.logs(), files)?;
     Ok(told)

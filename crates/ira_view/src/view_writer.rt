@@ -1,4 +1,4 @@
-ghost use Rattle.std.specs.Prelude.{◌≡◌, ◌++◌, Bool, IfOk, false, string_bytes, true};
+ghost use Rattle.std.specs.Prelude.{◌≡◌, ◌++◌, Bool, IfOk, false, option_map, string_bytes, true};
 ghost use Rattle.std.specs.List.{enumerate_from, flat_map};
 ghost use Rattle.ira_event.specs.Sink.{Wrote};
 ghost use Rattle.ira_audit.specs.DecidedCases.{AreDecided};
@@ -6,6 +6,7 @@ ghost use Rattle.ira_audit.specs.Findings.{AreReportable};
 ghost use Rattle.ira_audit.specs.FindingsText.{decided_line, findings_text};
 ghost use Rattle.ira_audit.specs.Report.{IsReportable, report_line};
 ghost use Rattle.ira_audit.specs.declared.findings.Findings.{Findings};
+ghost use Rattle.ira_view_election.specs.Election.{standing_of};
 ghost use Rattle.ira_view_page.specs.Printable.{IsPrintable};
 ghost use Rattle.ira_view.specs.ViewText.{IsAnswerText, IsFindingsText, IsFindingsViewText, IsViewText, WroteText};
 
@@ -14,6 +15,7 @@ use crate::status::Status;
 use crate::view::View;
 use ira_audit::{Answer, DecidedCases, write_findings, write_report};
 use ira_event::{MemorySink, OutOfMemory, Sink, WriteFault, write_bytes};
+use ira_view_election::Election;
 use ira_view_json::{answer_line, cases_lines, explained_findings_lines, explained_line};
 use ira_view_page::{Explanation, ShowFault};
 use std::alloc::Allocator;
@@ -45,16 +47,18 @@ fn write_findings_view<A: Allocator, W: Sink>(
 }
 
 /// The line of JSON of an answer that is explained.
-pub(crate) fn view_line<A: Allocator + Clone>(
+pub(crate) fn view_line<'v, A: Allocator + Clone>(
     alloc: A,
     answer: &Answer,
-    explanation: &Explanation<A>,
+    explanation: &'v Explanation<A>,
+    election: Option<&'v Election<A>>,
 ) -> Result<String<A>, OutOfMemory>
     requires { IsReportable answer.now }
-    ensures { IfOk result (λ line. IsViewText true answer.now explanation.now (string_bytes line)) }
+    ensures { IfOk result (λ line. IsViewText true answer.now explanation.now
+        (option_map (λ election. standing_of election.now) election.entry) (string_bytes line)) }
 {
     let status = Status::of_answer(answer);
-    explained_line(alloc, answer, status.number(), explanation)
+    explained_line(alloc, answer, status.number(), explanation, election)
 }
 
 /// Writes a text that was put together before.
@@ -82,19 +86,22 @@ pub fn write_answer_as<A: Allocator + Clone, W: Sink>(
     Ok(write_report(answer, sink)?)
 }
 
-/// Writes an answer with why it is so, as JSON where that is wanted, or else as a page after its line.
-pub fn write_view_as<A: Allocator + Clone, W: Sink>(
+/// Writes an answer with why it is so, as JSON where that is wanted, with how the election stands where that is known,
+/// or else as a page after its line.
+pub fn write_view_as<'v, A: Allocator + Clone, W: Sink>(
     alloc: A,
     is_json: bool,
-    view: &View<A>,
+    view: &'v View<A>,
+    election: Option<&'v Election<A>>,
     sink: &mut W,
 ) -> Result<(), ShowFault>
     requires { IsReportable view.now.answer }
-    ensures { WroteText (IsViewText is_json view.now.answer view.now.explanation) result
+    ensures { WroteText (IsViewText is_json view.now.answer view.now.explanation
+        (option_map (λ election. standing_of election.now) election.entry)) result
         (W.state sink.old) (W.state sink.new) }
 {
     if is_json {
-        let line = view_line(alloc, &view.answer, &view.explanation)?;
+        let line = view_line(alloc, &view.answer, &view.explanation, election)?;
         return write_text(line.as_bytes(), sink);
     }
     Ok(write_view(&view.answer, view.explanation.page.bytes(), sink)?)

@@ -41,7 +41,7 @@ explained_decision status found explanation =
 -- findings with what they rest on, and the status that goes with them: the answer by a reason, or what is found for the
 -- cases
 abbrev pub explained_findings : {A B : Type 0} → ℕ → Findings B → Explanation A → List Json
-explained_findings status (Refused reason) explanation = explained_value status (No reason) explanation ∷ []
+explained_findings status (Refused reason) explanation = explained_value status (No reason) explanation None ∷ []
 explained_findings status (Cases nodes found) explanation =
     explained_decision status found.items explanation
     ∷ map (explained_case explanation.cases.items) (enumerate_from 0 found.items)

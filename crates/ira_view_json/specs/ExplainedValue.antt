@@ -26,7 +26,9 @@ use Rattle.ira_node.specs.declared.node_state.NodeState.{NodeState}
 use Rattle.ira_view_page.specs.declared.evidence.Evidence.{Evidence}
 use Rattle.ira_view_page.specs.declared.explanation.Explanation.{Explanation}
 use Rattle.ira_view_page.specs.declared.ring_counts.RingCounts.{RingCounts}
+use Rattle.ira_view_election.specs.Election.{Standing}
 use Rattle.ira_view_json.specs.AnswerValue.{answer_members}
+use Rattle.ira_view_json.specs.ElectionValue.{with_election}
 use Rattle.ira_view_json.specs.EvidenceValue.{evidence_value}
 use Rattle.ira_view_json.specs.Members.{put, with_number, with_words}
 use Rattle.ira_view_json.specs.StateValue.{with_state}
@@ -126,7 +128,8 @@ with_explanation explanation members =
     (with_state_before explanation.state_before
     (with_ring explanation.ring members)))
 
--- an answer with its reason and what it rests on, and the status that goes with it
-abbrev pub explained_value : {A : Type 0} → ℕ → Answer → Explanation A → Json
-explained_value status answer explanation =
-    object (with_explanation explanation (with_reason_of answer (answer_members status answer)))
+-- an answer with its reason, what it rests on and its status, and how the election stands, where that is known
+abbrev pub explained_value : {A : Type 0} → ℕ → Answer → Explanation A → Option Standing → Json
+explained_value status answer explanation standing =
+    object (with_election standing
+    (with_explanation explanation (with_reason_of answer (answer_members status answer))))

@@ -1,8 +1,9 @@
-ghost use Rattle.std.specs.Prelude.{◌∷◌, IfOk, map, string_bytes};
+ghost use Rattle.std.specs.Prelude.{◌∷◌, IfOk, map, option_map, string_bytes};
 ghost use Rattle.std.specs.List.{enumerate_from};
 ghost use Rattle.ira_view_json.specs.View.{view};
 ghost use Rattle.ira_audit.specs.Findings.{AreReportable};
 ghost use Rattle.ira_audit.specs.Report.{IsReportable};
+ghost use Rattle.ira_view_election.specs.Election.{standing_of};
 ghost use Rattle.ira_view_json.specs.AnswerValue.{answer_value, cases_values};
 ghost use Rattle.ira_view_json.specs.ExplainedFindings.{explained_case, explained_findings};
 ghost use Rattle.ira_view_json.specs.ExplainedValue.{explained_value};
@@ -17,6 +18,7 @@ use crate::value::Value;
 use ira_audit::{Answer, DecidedCases, Findings};
 use ira_elim::Found;
 use ira_event::OutOfMemory;
+use ira_view_election::Election;
 use ira_view_page::{AskedCase, Explanation};
 use std::alloc::Allocator;
 
@@ -33,18 +35,20 @@ pub fn answer_line<A: Allocator + Clone>(
     line_of(alloc, &value)
 }
 
-/// The line of an answer with its reason and what it rests on, and the status that goes with it. The answer must not
-/// say that memory ran out.
-pub fn explained_line<A: Allocator + Clone, B: Allocator>(
+/// The line of an answer with its reason, what it rests on and its status, and how the election stands, where that is
+/// known. The answer must not say that memory ran out.
+pub fn explained_line<'v, A: Allocator + Clone, B: Allocator>(
     alloc: A,
     answer: &Answer,
     status: u8,
-    explanation: &Explanation<B>,
+    explanation: &'v Explanation<B>,
+    election: Option<&'v Election<B>>,
 ) -> Result<String<A>, OutOfMemory>
     requires { IsReportable answer.now }
-    ensures { IfOk result (λ text. IsLineOf (explained_value status answer.now explanation.now) (string_bytes text)) }
+    ensures { IfOk result (λ text. IsLineOf (explained_value status answer.now explanation.now
+        (option_map (λ election. standing_of election.now) election.entry)) (string_bytes text)) }
 {
-    let value = explained_value(&alloc, answer, status, explanation)?;
+    let value = explained_value(&alloc, answer, status, explanation, election)?;
     line_of(alloc, &value)
 }
 
@@ -114,7 +118,7 @@ pub fn explained_findings_lines<A: Allocator + Clone, B: Allocator, C: Allocator
 {
     match findings {
         Findings::Refused(reason) => {
-            explained_line(alloc, &Answer::No(*reason), status, explanation)
+            explained_line(alloc, &Answer::No(*reason), status, explanation, None)
         }
         Findings::Cases { found, .. } => {
             let decision = explained_decision(&alloc, found, status, explanation)?;

@@ -1,8 +1,15 @@
-ghost use Rattle.ira_view_json.specs.ElectionValue.{with_due, with_node_due, with_over};
+ghost use Rattle.std.specs.Prelude.{◌≡◌, IfOk, map, option_map};
+ghost use Rattle.json.specs.Json.{array};
+ghost use Rattle.json.specs.Value.{items_of};
+ghost use Rattle.ira_view_election.specs.Election.{standing_of};
+ghost use Rattle.ira_view_json.specs.ElectionValue.{due_value, with_due, with_election, with_node_due, with_over, with_standing};
 ghost use Rattle.ira_view_json.specs.Object.{Puts};
+ghost use Rattle.ira_view_json.specs.View.{view};
 
 use crate::object::Object;
-use ira_view_election::{Due, NodeDue};
+use crate::value::Value;
+use ira_event::OutOfMemory;
+use ira_view_election::{Due, Election, NodeDue};
 use std::alloc::Allocator;
 
 impl<A: Allocator + Clone> Object<A> {
@@ -36,4 +43,46 @@ impl<A: Allocator + Clone> Object<A> {
     {
         self.flag("over", is_over);
     }
+
+    fn standing<B: Allocator>(&mut self, election: &Election<B>)
+        ensures { Puts (with_standing (standing_of election.now)) self.old self.new }
+    {
+        match election {
+            Election::Over => self.over(true),
+            Election::GoesOn(next) => {
+                self.over(false);
+                self.value("next", dues_list(self.alloc(), next));
+            }
+        }
+    }
+
+    /// Puts how an election stands, where that is known.
+    pub(crate) fn election<B: Allocator>(&mut self, election: Option<&Election<B>>)
+        ensures { Puts (with_election (option_map (λ election. standing_of election.now) election.entry))
+            self.old self.new }
+    {
+        if let Some(election) = election {
+            self.standing(election);
+        }
+    }
+}
+
+/// A node and what comes next there, as an object.
+fn due_value<A: Allocator + Clone>(alloc: &A, next: NodeDue) -> Result<Value<A>, OutOfMemory>
+    ensures { IfOk result (λ value. view value ≡ due_value next) }
+{
+    let mut object = Object::new(alloc.clone()?);
+    object.node_due(next);
+    object.finish()
+}
+
+/// What comes next at nodes, in a list.
+fn dues_list<A: Allocator + Clone>(alloc: &A, next: &[NodeDue]) -> Result<Value<A>, OutOfMemory>
+    ensures { IfOk result (λ value. view value ≡ array (items_of (map due_value next.now))) }
+{
+    let mut list = Vec::with_capacity(alloc.clone()?, next.len())?;
+    for one in next {
+        list.push(due_value(alloc, *one)?)?;
+    }
+    Ok(Value::Array(list))
 }

@@ -1,8 +1,9 @@
-ghost use Rattle.std.specs.Prelude.{◌≡◌, IfOk, map};
+ghost use Rattle.std.specs.Prelude.{◌≡◌, IfOk, map, option_map};
 ghost use Rattle.json.specs.Json.{array};
 ghost use Rattle.json.specs.Value.{items_of};
 ghost use Rattle.ira_view_json.specs.View.{view};
 ghost use Rattle.ira_audit.specs.Report.{IsReportable, IsReportableReason};
+ghost use Rattle.ira_view_election.specs.Election.{standing_of};
 ghost use Rattle.ira_view_json.specs.ExplainedValue.{explained_value, hint_value, with_evidence, with_explanation, with_fault, with_hints, with_match_fault, with_numbered, with_reason, with_reason_of, with_receipt, with_ring, with_said, with_section_fault, with_sections, with_state_before, with_step_fault};
 ghost use Rattle.ira_view_json.specs.Object.{Puts};
 
@@ -16,6 +17,7 @@ use ira_cert::SectionFault;
 use ira_event::{FaultWords, OutOfMemory};
 use ira_node::{NodeState, StepFault};
 use ira_order::MatchFault;
+use ira_view_election::Election;
 use ira_view_page::{Evidence, Explanation, RingCounts};
 use std::alloc::Allocator;
 
@@ -193,18 +195,21 @@ fn hints_list<A: Allocator + Clone, B: Allocator>(
     Ok(Value::Array(list))
 }
 
-/// An answer with its reason and what it rests on, and the status that goes with it.
-pub(crate) fn explained_value<A: Allocator + Clone, B: Allocator>(
+/// An answer with its reason, what it rests on and its status, and how the election stands, where that is known.
+pub(crate) fn explained_value<'v, A: Allocator + Clone, B: Allocator>(
     alloc: &A,
     answer: &Answer,
     status: u8,
-    explanation: &Explanation<B>,
+    explanation: &'v Explanation<B>,
+    election: Option<&'v Election<B>>,
 ) -> Result<Value<A>, OutOfMemory>
     requires { IsReportable answer.now }
-    ensures { IfOk result (λ value. view value ≡ explained_value status answer.now explanation.now) }
+    ensures { IfOk result (λ value. view value ≡ explained_value status answer.now explanation.now
+        (option_map (λ election. standing_of election.now) election.entry)) }
 {
     let mut object = answered(alloc.clone()?, answer, status);
     object.reason_of(answer);
     object.explanation(explanation);
+    object.election(election);
     object.finish()
 }

@@ -1,20 +1,31 @@
-use Rattle.std.proofs.Common.{◌∙◌, ◌++◌, ap, length, map, string_bytes, subst, sym, true}
+use Rattle.std.proofs.Common.{◌∙◌, ◌++◌, ap, length, map, refl, string_bytes, subst, sym, true}
 use Rattle.std.specs.List.{zip}
 use Rattle.std.proofs.lemmas.List.{length-map}
 use Rattle.ira_event.specs.Log.{Log}
 use Rattle.ira_event.specs.LogText.{IsLogText}
-use Rattle.std.specs.Prelude.{List}
+use Rattle.std.specs.Prelude.{List, None, Option}
 use Rattle.ira_audit.proofs.Judging.{refused_reason}
 use Rattle.ira_audit.proofs.Zipped.{zipped_length}
+use Rattle.ira_audit.specs.RefusedLogs.{RefusedLogs}
 use Rattle.ira_audit.specs.declared.answer.Answer.TheVariants.{No}
+use Rattle.ira_audit.specs.declared.judged.Judged.TheVariants.{Refused}
 use Rattle.ira_audit.specs.declared.reason.Reason.{Reason}
+use Rattle.ira_view_page.specs.declared.explanation.Explanation.{Explanation}
 use Rattle.ira_view_page.specs.declared.named_text.NamedText.{NamedText}
+use Rattle.ira_view_election.specs.Election.{Standing}
 use Rattle.ira_view_json.specs.Line.{IsLineOf}
 use Rattle.ira_view_json.specs.PageLine.{explanation_value}
+use Rattle.ira_view.specs.Explained.{IsExplanation}
 use Rattle.ira_view.specs.Html.{AreLogLines, IsRefusalTold}
 use Rattle.ira_view.specs.Texts.{texts_of}
 use Rattle.ira_view.specs.ViewText.{IsViewText}
 use Rattle.ira_view.proofs.html.refused_lines.Goals as goal
+
+-- nothing is known of the election of refused logs
+untold : {A : Type 0} (files : List NamedText) (refused : RefusedLogs) (explanation : Explanation A)
+    (known : Option Standing) → IsExplanation {A = A} files (Refused refused) explanation known
+    → IsExplanation {A = A} files (Refused refused) explanation None
+untold files refused explanation known is = record { ring = is.ring; told = is.told; election = refl }
 
 pub view_line-requires : goal.view_line-requires
 view_line-requires g c =
@@ -32,7 +43,7 @@ add_logs-requires g c =
 pub returns : goal.returns
 returns g c =
     let refused = c.in-Refused.refused in
-    let explanation = c.in_ok-view.view.explanation in
+    let explanation = c.in_ok-ring.ring.view.explanation in
     let line = string_bytes c.in_ok-told.told in
     let files = c.args.files.now in
     let added = c.in_ok-add_logs.ensures in
@@ -45,8 +56,8 @@ returns g c =
       line,
       page,
       added.0,
-      rw c.in-Refused.is at c.in_ok-view.ensures.explained,
-      subst (λ (r : Reason). IsViewText true (No r) explanation line) c.reason.ensures.value c.in_ok-told.ensures,
+      untold files refused explanation _ (rw c.in-Refused.is at c.in_ok-ring.ensures.explained),
+      subst (λ (r : Reason). IsViewText true (No r) explanation None line) c.reason.ensures.value c.in_ok-told.ensures,
       subst (λ text. IsLineOf (explanation_value text) page) c.as_str.ensures.text c.in_ok-page.ensures,
       lines,
       added.2 ∙ ap (λ text. text ++ added.0) (c.in_ok-push_str.ensures.bytes ∙ ap (λ more. line ++ more) c.as_str-2.ensures.value),

@@ -1,6 +1,10 @@
 use Rattle.std.proofs.Common.{◌++◌, refl, subst, sym, true}
 use Rattle.std.proofs.lemmas.Result.{err_from_is_err_and}
+use Rattle.std.specs.Borrow.{Bor}
+use Rattle.std.specs.Option.{option_map}
 use Rattle.ira_audit.specs.Report.{report_line}
+use Rattle.ira_view_election.specs.Election.{standing_of}
+use Rattle.ira_view_election.specs.declared.election.Election.{Election}
 use Rattle.ira_view.proofs.Written.{text_written}
 use Rattle.ira_view.specs.ViewText.{IsViewText}
 use Rattle.ira_view.proofs.view_writer.write_view_as.Goals as goal
@@ -8,12 +12,12 @@ use Rattle.ira_view.proofs.view_writer.write_view_as.Goals as goal
 pub returns-then-is_json : goal.returns-then-is_json
 returns-then-is_json g c =
     let view = c.args.view.now in
+    let standing = option_map (λ (e : Bor (Election g.row.A.Denot)). standing_of e.now) c.args.election in
+    let IsText = IsViewText true view.answer view.explanation standing in
     let s = g.W.Sink.state c.args.sink.now in
     let t = g.W.Sink.state c.write_text.new.sink in
-    rw c.if-is_json.true (text_written (IsViewText true view.answer view.explanation) c.as_bytes.result.now
-    c.write_text.result s t
-    (subst (IsViewText true view.answer view.explanation) (sym c.as_bytes.ensures.value) c.in_ok-line.ensures)
-    c.write_text.ensures)
+    rw c.if-is_json.true (text_written IsText c.as_bytes.result.now c.write_text.result s t
+    (subst IsText (sym c.as_bytes.ensures.value) c.in_ok-line.ensures) c.write_text.ensures)
 
 pub returns : goal.returns
 returns g c =

@@ -1,4 +1,4 @@
-use Rattle.std.proofs.Common.{◌∙◌, IfOk, ap, string_bytes, subst, sym}
+use Rattle.std.proofs.Common.{◌∙◌, IfOk, None, ap, string_bytes, subst, sym}
 use Rattle.ira_audit.specs.declared.answer.Answer.TheVariants.{No}
 use Rattle.ira_view_json.specs.ExplainedFindings.{explained_decision, explained_findings}
 use Rattle.ira_view_json.specs.ExplainedValue.{explained_value}
@@ -14,7 +14,8 @@ returns-in-Refused g c =
     let r = c.explained_line.result in
     subst (λ findings. IfOk r (λ text. AreLinesOf (explained_findings status findings explanation) (string_bytes text)))
     (sym c.in-Refused.is)
-    (one_line_of r string_bytes (explained_value status (No c.in-Refused.reason) explanation) c.explained_line.ensures)
+    (one_line_of r string_bytes (explained_value status (No c.in-Refused.reason) explanation None)
+    c.explained_line.ensures)
 
 pub returns-in_ok-decision-in-Cases : goal.returns-in_ok-decision-in-Cases
 returns-in_ok-decision-in-Cases g c =
