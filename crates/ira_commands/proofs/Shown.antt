@@ -28,9 +28,11 @@ pub fault_reportable : (logs : List Log) (moment : RingMoment) (question : List 
 fault_reportable logs AtEnd question f h = absurd h
 fault_reportable logs (AtCut events) question (fault.No r) h = absurd h
 fault_reportable logs (AtCut events) question (fault.Cut f) h = tt
+fault_reportable logs (AtCut events) question fault.NoCase h = tt
 fault_reportable logs (AtCut events) question fault.OutOfMemory h = tt
 fault_reportable logs (OfQuestion case) question (fault.No r) h = question_reportable question _ r h
 fault_reportable logs (OfQuestion case) question (fault.Cut f) h = tt
+fault_reportable logs (OfQuestion case) question fault.NoCase h = tt
 fault_reportable logs (OfQuestion case) question fault.OutOfMemory h = tt
 
 -- a picture, or why there is none

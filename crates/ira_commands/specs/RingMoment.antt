@@ -16,8 +16,9 @@ IsAskedRing logs AtEnd question ring =
 IsAskedRing logs (AtCut events) question ring = IsAtCut logs events.now ring
 IsAskedRing logs (OfQuestion case) question ring = IsOfQuestion logs question case ring
 
--- why there is none: the numbers are no such cut, or the question isn't one of their ring, or memory ran out
+-- why there is none: the numbers are no such cut; the question isn't one of their ring, or has no case of the number; or
+-- memory ran out
 abbrev pub IsNoAskedRing : List Log → RingMoment → List ℕ → RingFault → Type 0
 IsNoAskedRing logs AtEnd question f = ⊥
 IsNoAskedRing logs (AtCut events) question f = IsNoCut logs events.now f
-IsNoAskedRing logs (OfQuestion case) question f = IsNoQuestion logs question f
+IsNoAskedRing logs (OfQuestion case) question f = IsNoQuestion logs question case f

@@ -31,7 +31,7 @@ use Rattle.ira_commands.specs.Reply.MadeFiles.{one_text}
 use Rattle.ira_commands.specs.RingForm.{leaders_of, wants_json}
 use Rattle.ira_commands.specs.RingLeaders.{AreDifferencesOf, AreNoPlaces, named_places}
 use Rattle.ira_commands.specs.RingMoment.{IsAskedRing, IsNoAskedRing}
-use Rattle.ira_commands.specs.declared.command_fault.CommandFault.TheVariants.{NoMoment, NoPlace, TooManyEvents}
+use Rattle.ira_commands.specs.declared.command_fault.CommandFault.TheVariants.{NoCase, NoMoment, NoPlace, TooManyEvents}
 use Rattle.ira_commands.specs.declared.ring_form.LinesForm.{LinesForm}
 use Rattle.ira_commands.specs.declared.ring_form.RingForm.{RingForm}
 use Rattle.ira_commands.specs.declared.ring_form.RingForm.TheVariants.{Html, Lines, Picture}
@@ -88,11 +88,12 @@ TellsRefused A (Html columns) names texts logs =
     (IsHtmlOf (IsPictureTold logs.logs at_end None columns.from columns.to) (IsRefusalToldOf A names texts logs))
     (HasTooManyEvents logs.logs None columns.from columns.to)
 
--- why there is no such moment: the reason against the question is the answer, or numbers that are no consistent cut are
--- refused
+-- why there is no such moment: the reason against the question is the answer; numbers that are no consistent cut, and that
+-- of a case that isn't there, are refused
 abbrev pub TellsFault : Bool → RingFault → Reply → Type 0
 TellsFault is_json (fault.No r) reply = ReportsAs is_json (answer.No r) reply
 TellsFault is_json (fault.Cut f) reply = reply ≡ refused (NoMoment f)
+TellsFault is_json fault.NoCase reply = reply ≡ refused NoCase
 TellsFault is_json fault.OutOfMemory reply = ⊥
 
 -- what comes of good logs and of the text of a question: the ring is told at the moment that is asked for; or why there
@@ -129,6 +130,7 @@ IsToldOf form names texts judged told = ⊤
 abbrev pub IsReportableFault : RingFault → Type 0
 IsReportableFault (fault.No r) = IsReportableReason r
 IsReportableFault (fault.Cut f) = ⊤
+IsReportableFault fault.NoCase = ⊤
 IsReportableFault fault.OutOfMemory = ⊤
 
 -- a picture is a file, and the line of the answer is printed; or the events are too many for one

@@ -14,6 +14,8 @@ pub enum CommandFault {
     RingSize,
     /// The numbers of events that are asked for are no consistent cut of the logs.
     NoMoment(CutFault),
+    /// The question has no case of the number that is asked for.
+    NoCase,
     /// A node that is to lead is none of the ring.
     NoPlace,
     /// So many events have the columns that are asked for, and these are too many for one picture.
@@ -32,6 +34,9 @@ impl CommandFault {
         match self {
             CommandFault::RingSize => write_bytes(b"ira: ring size\n", err),
             CommandFault::NoMoment(fault) => write_cut_fault(*fault, err),
+            CommandFault::NoCase => {
+                write_bytes(b"ira: --case names a case that the question has not\n", err)
+            }
             CommandFault::NoPlace => {
                 write_bytes(b"ira: --leads names a node that the ring has not\n", err)
             }

@@ -38,6 +38,7 @@ fn tell_fault<A: Allocator + Clone>(
     match fault {
         RingFault::No(reason) => Reply::of_answer_as(alloc, is_json, &Answer::No(reason)),
         RingFault::Cut(fault) => Ok(Reply::refused(alloc, CommandFault::NoMoment(fault))),
+        RingFault::NoCase => Ok(Reply::refused(alloc, CommandFault::NoCase)),
         RingFault::OutOfMemory => Err(OutOfMemory),
     }
 }

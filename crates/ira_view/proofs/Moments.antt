@@ -7,7 +7,8 @@ use Rattle.ira_cert_text.specs.Certificate.{Section}
 use Rattle.ira_elim.specs.Found.{IsAbsence}
 use Rattle.ira_elim.specs.LeastCut.{IsLeastCut}
 use Rattle.ira_pred.specs.Case.{Conjunct}
-use Rattle.ira_pred.specs.Question.{IsQuestion}
+use Rattle.ira_pred.specs.Question.{IsQuestion, QuestionCases}
+use Rattle.ira_pred.specs.QuestionText.{IsQuestionText}
 use Rattle.ira_audit.proofs.NeverMet.{absent_more}
 use Rattle.ira_audit.proofs.Places.{different_places}
 use Rattle.ira_audit.specs.AskedQuestion.{AskedQuestion, IsFirstPresent}
@@ -21,22 +22,26 @@ use Rattle.ira_view_moment.specs.declared.chosen_moment.ChosenMoment.TheVariants
 use Rattle.ira_view_moment.specs.Told.{told_of}
 use Rattle.ira_view_show.specs.EventsText.{TellsEventsOf}
 use Rattle.ira_view_show.specs.MomentText.{TellsChosen}
-use Rattle.ira_view.specs.FirstCut.{IsPresent}
+use Rattle.ira_view.specs.FirstCut.{IsNotLookedFor, IsPresent}
+use Rattle.ira_view.specs.declared.ring_fault.RingFault.{RingFault}
+use Rattle.ira_view.specs.declared.ring_fault.RingFault.TheVariants as fault
 use Rattle.ira_view.specs.ShownRing.{IsNoQuestion, TellsEventsAt, TellsMomentOf, refusal_fault}
 
--- a question has no case of a number past its cases
-pub no_case : (asked : AskedQuestion) (number : ℕ) → length asked.question.cases ≤ number
-    → IsPresent asked (Some number) None
-no_case asked number past = λ case at.
-    absurd (omega (arith, past, slice_get_within asked.question.cases number case at))
-
 -- no cut meets a case that a section shows absent
-pub absent_case : (asked : AskedQuestion) (number : ℕ) (case : List Conjunct) (section : Section)
-    → IsQuestion asked.question → slice_get asked.question.cases number ≡ Some case
-    → IsAbsence asked.logs case section → NoCutMeetsAny asked.logs (case ∷ [])
-absent_case asked number case section valid at is =
-    absent_more asked.logs [] case section (different_places asked.question valid number case at)
-    (λ none cut has consistent. absurd (omega (arith, has.1))) is
+pub absent_case : (asked : AskedQuestion) (number : ℕ) (section : Section) → IsQuestion asked.question
+    → number < length asked.question.cases
+    → ((case : List Conjunct) → slice_get asked.question.cases number ≡ Some case → IsAbsence asked.logs case section)
+    → IsPresent asked (Some number) None
+absent_case asked number section valid within is =
+    elim (slice_get_cases asked.question.cases number).1 [
+      | inl some ↦ (
+        some.0,
+        some.2,
+        absent_more asked.logs [] some.0 section (different_places asked.question valid number some.0 some.2)
+            (λ none cut has consistent. absurd (omega (arith, has.1))) (is some.0 some.2),
+      )
+      | inr far ↦ absurd (omega (arith, far.0, within))
+    ]
 
 -- a case that its least cut meets
 pub met_case : (asked : AskedQuestion) (number : ℕ) (cut : List ℕ) → number < length asked.question.cases
@@ -62,10 +67,19 @@ any_case asked (Some found) first = (
 )
 
 -- why a question is refused is why there is no moment of it
-pub no_question : {T : Type 0} (P : T → Type 0) (logs : List Log) (text : List ℕ) (r : Refusal)
-    → MatchRefusal {T = T} (Err r) P (IsQuestionRefusal text (length logs)) → IsNoQuestion logs text (refusal_fault r)
-no_question P logs text (refusal.No reason) h = h
-no_question P logs text refusal.OutOfMemory h = tt
+pub no_question : {T : Type 0} (P : T → Type 0) (logs : List Log) (text : List ℕ) (case : Option ℕ) (r : Refusal)
+    → MatchRefusal {T = T} (Err r) P (IsQuestionRefusal text (length logs)) → IsNoQuestion logs text case (refusal_fault r)
+no_question P logs text case (refusal.No reason) h = h
+no_question P logs text case refusal.OutOfMemory h = tt
+
+-- why no moment of a ring's question is looked for is why there is none
+pub no_moment : (logs : List Log) (text : List ℕ) (asked : QuestionCases) (case : Option ℕ) (f : RingFault)
+    → IsQuestionText text asked → asked.nodes ≡ length logs → IsNotLookedFor asked.cases case f
+    → IsNoQuestion logs text case f
+no_moment logs text asked case (fault.No r) is nodes h = absurd h
+no_moment logs text asked case (fault.Cut f) is nodes h = absurd h
+no_moment logs text asked case fault.NoCase is nodes h = (asked, is, nodes, h)
+no_moment logs text asked case fault.OutOfMemory is nodes h = tt
 
 -- what is told of a moment, by its cut and which one it is
 pub page_of : {A : Type 0} (logs : List Log) (moment : ChosenMoment A) (text : List ℕ) → TellsChosen logs moment text

@@ -20,11 +20,11 @@ use Rattle.ira_view_json.specs.ShownAnswer.{AreAny, AreTold, IsRingText}
 use Rattle.ira_view_picture.specs.DrawFault.{HasTooManyEvents}
 use Rattle.ira_view_moment.specs.Told.{Told, at_cut, at_end, of_case, unmet}
 use Rattle.ira_view_moment.specs.Moment.{IsMoment, Moment}
-use Rattle.ira_view.specs.FirstCut.{IsFirstMoment}
+use Rattle.ira_view.specs.FirstCut.{HasNoCase, IsFirstMoment}
 use Rattle.ira_view.specs.Status.{status_number}
 use Rattle.ira_view.specs.declared.status.Status.{Status}
 use Rattle.ira_view.specs.declared.ring_fault.RingFault.{RingFault}
-use Rattle.ira_view.specs.declared.ring_fault.RingFault.TheVariants.{No, Cut, OutOfMemory}
+use Rattle.ira_view.specs.declared.ring_fault.RingFault.TheVariants.{No, Cut, NoCase, OutOfMemory}
 
 -- its logs, how many events each node has made by then, if there is such a moment, and which one it is told to be
 pub record ShownRing : Type 0 where
@@ -46,6 +46,7 @@ IsAtCut logs events ring =
 abbrev pub IsNoCut : List Log → List ℕ → RingFault → Type 0
 IsNoCut logs events (No r) = ⊥
 IsNoCut logs events (Cut f) = IsCutFault logs events f
+IsNoCut logs events NoCase = ⊥
 IsNoCut logs events OutOfMemory = ⊤
 
 -- the ring of these logs at the first moment that meets a case of the question of a text: of the case of a number, or
@@ -55,11 +56,14 @@ IsOfQuestion logs text case ring =
     (ring.logs ≡ logs) × ((asked : QuestionCases) × IsQuestionText text asked × (asked.nodes ≡ length logs)
     × IsFirstMoment logs asked.cases case ring.cut ring.told)
 
--- why there is none: the question isn't one of their ring, or memory ran out
-abbrev pub IsNoQuestion : List Log → List ℕ → RingFault → Type 0
-IsNoQuestion logs text (No r) = IsQuestionRefusal text (length logs) r
-IsNoQuestion logs text (Cut f) = ⊥
-IsNoQuestion logs text OutOfMemory = ⊤
+-- why there is none: the question isn't one of their ring, or has no case of the number, or memory ran out
+abbrev pub IsNoQuestion : List Log → List ℕ → Option ℕ → RingFault → Type 0
+IsNoQuestion logs text case (No r) = IsQuestionRefusal text (length logs) r
+IsNoQuestion logs text case (Cut f) = ⊥
+IsNoQuestion logs text case NoCase =
+    (asked : QuestionCases) × IsQuestionText text asked × (asked.nodes ≡ length logs)
+    × HasNoCase asked.cases case
+IsNoQuestion logs text case OutOfMemory = ⊤
 
 -- the words of which moment it is
 abbrev pub heading_words : Told → List ℕ

@@ -7,7 +7,7 @@ ghost use Rattle.ira_view_moment.specs.ChosenMoment.{IsMomentOf, cut_of};
 ghost use Rattle.ira_view_moment.specs.Told.{told_of};
 ghost use Rattle.ira_view_moment.specs.CutFault.{IsCutFault};
 ghost use Rattle.ira_view_moment.specs.declared.cut_fault.CutFault.{CutFault};
-ghost use Rattle.ira_view.specs.FirstCut.{IsFirstMoment, IsPresent};
+ghost use Rattle.ira_view.specs.FirstCut.{IsFirstMoment, IsNotLookedFor, IsPresent};
 ghost use Rattle.ira_view.specs.declared.ring_fault.RingFault.TheVariants as fault;
 
 use crate::ring_fault::RingFault;
@@ -67,20 +67,21 @@ fn present_case<A: Allocator + Clone>(
 }
 
 /// The case of a number, if one is asked for, or else the first that any cut meets, and the least cut that meets it, if
-/// there is such a case and such a cut.
+/// there is such a cut.
 fn first_present<A: Allocator + Clone>(
     asked: &AskedQuestion<'_, A>,
     case: Option<u64>,
-) -> Result<Option<(usize, Cut<A>)>, OutOfMemory>
-    ensures { IfOk result (IsPresent asked.now case) }
+) -> Result<Option<(usize, Cut<A>)>, RingFault>
+    ensures found { IfOk result (IsPresent asked.now case) }
+    ensures fault { IfErr result (IsNotLookedFor asked.now.question.cases case) }
 {
     let Some(number) = case else {
-        return asked.first_present();
+        return Ok(asked.first_present()?);
     };
-    if number < asked.cases().len() as u64 {
-        return present_case(asked, number as usize);
+    if number >= asked.cases().len() as u64 {
+        return Err(RingFault::NoCase);
     }
-    Ok(None)
+    Ok(present_case(asked, number as usize)?)
 }
 
 /// The first moment that meets a case of a question: the case of a number, or any.
@@ -88,11 +89,12 @@ pub(crate) fn first_moment<A: Allocator + Clone>(
     alloc: A,
     asked: AskedQuestion<'_, A>,
     case: Option<u64>,
-) -> Result<ChosenMoment<A>, OutOfMemory>
+) -> Result<ChosenMoment<A>, RingFault>
     ensures first { IfOk result (λ moment.
         IsFirstMoment asked.entry.logs asked.entry.question.cases case (cut_of asked.entry.logs moment)
         (told_of moment)) }
     ensures moment { IfOk result (IsMomentOf asked.entry.logs) }
+    ensures fault { IfErr result (IsNotLookedFor asked.entry.question.cases case) }
 {
     let Some((number, cut)) = first_present(&asked, case)? else {
         return Ok(ChosenMoment::Unmet(case));

@@ -10,6 +10,8 @@ pub enum RingFault {
     No(Reason),
     /// The numbers that are asked for are no consistent cut of the logs.
     Cut(CutFault),
+    /// The question has no case of the number that is asked for.
+    NoCase,
     OutOfMemory,
 }
 

@@ -79,7 +79,7 @@ impl<A: Allocator + Clone> ShownRing<A> {
         question: &[u8],
         case: Option<u64>,
     ) -> Result<ShownRing<A>, RingFault>
-        ensures { MatchResult result (IsOfQuestion logs question.now case) (IsNoQuestion logs question.now) }
+        ensures { MatchResult result (IsOfQuestion logs question.now case) (IsNoQuestion logs question.now case) }
     {
         let asked = logs.ask(question)?;
         let moment = first_moment(alloc, asked, case)?;

@@ -7,6 +7,6 @@ returns-in-Present g c =
     (λ case at. rw c.in-Present.is at c.in_ok-cut.ensures case at)
 
 pub returns : goal.returns
-returns g c = λ case at.
-    absent_case c.args.asked.now c.args.number case c.in-Absent.field-0 c.requires.valid at
-    (rw c.in-Absent.is at c.in_ok-cut.ensures case at)
+returns g c =
+    absent_case c.args.asked.now c.args.number c.in-Absent.field-0 c.requires.valid c.requires.within
+    (λ case at. rw c.in-Absent.is at c.in_ok-cut.ensures case at)

@@ -2,14 +2,22 @@ use Rattle.std.proofs.Common.{◌≡◌, refl, subst}
 use Rattle.std.proofs.lemmas.Result.{err_from_is_err_and}
 use Rattle.ira_view_moment.specs.ChosenMoment.{IsMomentOf, cut_of}
 use Rattle.ira_view_moment.specs.Told.{told_of}
-use Rattle.ira_view.proofs.Moments.{no_question}
+use Rattle.ira_view.proofs.Moments.{no_moment, no_question}
 use Rattle.ira_view.specs.FirstCut.{IsFirstMoment}
 use Rattle.ira_view.proofs.shown_ring.ShownRing.of_question.Goals as goal
 
 pub returns-in_err-asked : goal.returns-in_err-asked
 returns-in_err-asked g c =
     let p = err_from_is_err_and c.from_residual.result c.from_residual.ensures.1 in
-    rw (p.1, p.2) (no_question _ c.args.logs c.args.question.now _ c.in_err-asked.ensures)
+    rw (p.1, p.2) (no_question _ c.args.logs c.args.question.now c.args.case _ c.in_err-asked.ensures)
+
+pub returns-in_err-moment : goal.returns-in_err-moment
+returns-in_err-moment g c =
+    let p = err_from_is_err_and c.from_residual-in_err-moment.result c.from_residual-in_err-moment.ensures.1 in
+    let asked = c.in_ok-asked.asked in
+    rw (p.1, p.2)
+    (no_moment c.args.logs c.args.question.now asked.question c.args.case _ c.in_ok-asked.ensures.1
+    c.in_ok-asked.ensures.2 c.in_err-moment.ensures.fault)
 
 pub invariant_of-result : goal.invariant_of-result
 invariant_of-result g c =
