@@ -1,9 +1,10 @@
 -- What is written of good logs: an answer, and lines after it.
 use Rattle.std.specs.Prelude.{◌≡◌, ◌⊎◌, ℕ, Bool, true, false, List, [], ◌∷◌, Option, Some, None, Result, Ok, Err, ⊤}
-use Rattle.std.specs.Prelude.{◌==◌, codes, length, not}
+use Rattle.std.specs.Prelude.{◌==◌, ◌<◌, Contains, codes, length, not}
 use Rattle.json.specs.Json.{Json, Members, no_members, null, object}
 use Rattle.ira_event.specs.Log.{Log}
 use Rattle.ira_event.specs.Sink.{SinkState, StopsIn, Takes}
+use Rattle.ira_order.specs.FaultyEvent.{Rises}
 use Rattle.ira_view_page.specs.declared.show_fault.ShowFault.{ShowFault}
 use Rattle.ira_view_page.specs.declared.show_fault.ShowFault.TheVariants.{OutOfMemory, Write}
 use Rattle.ira_view_moment.specs.Moment.{AreLeaders, IsMoment, Moment, whole_cut}
@@ -42,6 +43,12 @@ with_moment (at_cut events) cut members = with_cut cut members
 with_moment (of_case number case) cut members = with_cut cut (with_number (codes "case") number members)
 with_moment (unmet number) cut members = with_cut cut members
 
+-- the nodes at these places, each named once, in their order, are those that lead at the moment
+pub record AreLeadersInOrder (m : Moment) (leaders : List ℕ) : Type 0 where
+  pub are : AreLeaders m leaders
+  pub within : (i : ℕ) → Contains leaders i → i < length m.nodes
+  pub rise : Rises (λ i. i) leaders
+
 -- the value is an object that says yes of logs, with this status: what their events come to, who leads when they end,
 -- who is to lead, and which moment is told
 pub record IsYes (logs : List Log) (named : Option (List ℕ)) (status : ℕ) (told : Told) (cut : Option (List ℕ))
@@ -49,7 +56,7 @@ pub record IsYes (logs : List Log) (named : Option (List ℕ)) (status : ℕ) (t
   pub end : Moment
   pub is_end : IsMoment logs (whole_cut logs) end
   pub leaders : List ℕ
-  pub are_leaders : AreLeaders end leaders
+  pub are_leaders : AreLeadersInOrder end leaders
   pub is : value
       ≡ object (with_words (codes "answer") (codes "yes") (with_number (codes "status") status (with_moment told cut
       (with_named named (with_totals end leaders (with_words (codes "type") (codes "answer") no_members))))))

@@ -3,9 +3,9 @@ ghost use Rattle.ira_view_json.specs.View.{view};
 ghost use Rattle.ira_order.specs.Matching.{Matches};
 ghost use Rattle.ira_order.specs.Run.{AreLocalRuns};
 ghost use Rattle.ira_view_json.specs.Object.{Puts};
-ghost use Rattle.ira_view_json.specs.ShownAnswer.{IsYes, WroteRing, with_moment, with_named, with_totals};
+ghost use Rattle.ira_view_json.specs.ShownAnswer.{AreLeadersInOrder, IsYes, WroteRing, with_moment, with_named, with_totals};
 ghost use Rattle.ira_view_moment.specs.ChosenMoment.{cut_of, numbers_of};
-ghost use Rattle.ira_view_moment.specs.Moment.{AreLeaders, IsMoment, whole_cut};
+ghost use Rattle.ira_view_moment.specs.Moment.{IsMoment, whole_cut};
 ghost use Rattle.ira_view_moment.specs.Told.{told_of};
 
 use crate::line::write_line;
@@ -20,7 +20,7 @@ use std::alloc::{AllocError, Allocator};
 
 /// The places that lead, in their order.
 fn leaders<A: Allocator>(alloc: A, moment: &Moment<A>) -> Result<Vec<u8, A>, AllocError>
-    ensures { IfOk result (λ leaders. AreLeaders moment.now leaders.items) }
+    ensures { IfOk result (λ leaders. AreLeadersInOrder moment.now leaders.items) }
 {
     let mut leaders = Vec::new(alloc);
     for place in 0..moment.size() {

@@ -18,5 +18,10 @@ loop-place-preserved g c =
     ]
 
 pub returns : goal.returns
-returns g c = λ i lt.
-    c.loop-place.invariant.led i (omega (arith, lt, c.loop-place-test.false, c.size-place-end.ensures.value))
+returns g c =
+    let so_far = c.loop-place.invariant in
+    let size = c.size-place-end.ensures.value in record {
+      are = λ i lt. so_far.led i (omega (arith, lt, c.loop-place-test.false, size));
+      within = λ i h. let lt = so_far.within i h in omega (arith, lt, c.loop-place.far-place, size);
+      rise = so_far.rise;
+    }
