@@ -9,7 +9,7 @@ import subprocess
 import sys
 import tempfile
 
-from pictures import HERE, Ring, logs_in, redrawn
+from pictures import HERE, Ring, logs_in, read, redrawn
 from plain_pages import ended_logs, next_of
 
 
@@ -209,6 +209,17 @@ def check_election(answer, ring):
     assert [due(value) for value in answer.get('next', [])] == list(next_of(ring, at)), answer
 
 
+def rounds_of(ring, at):
+    """What was drawn in each round of each term up to a moment: how often, the greatest ID, and by whom that."""
+    rounds = {}
+    for i, states in enumerate(ring.states):
+        for event, state in zip(ring.events[i][:at[i]], states[1:]):
+            if event[0] == 'draw':
+                rounds.setdefault((state.term, state.round), []).append((state.id, i))
+    return [(*key, len(drawn), max(drawn)[0], sorted(i for id, i in drawn if id == max(drawn)[0]))
+            for key, drawn in sorted(rounds.items())]
+
+
 def check_moment(reader, ring, names, cut, words):
     """What is shown at a moment; without a cut, when the logs end."""
     at = cut or [len(events) for events in ring.events]
@@ -224,8 +235,11 @@ def check_moment(reader, ring, names, cut, words):
         events = ring.events[i][:at[i]]
         kinds = [event[0] for event in events]
         assert value['file'] == names[i] and value['events'] == at[i] and value['of'] == len(ring.events[i])
-        found = value['draws'], value['sent'], value['received']
-        assert found == (kinds.count('draw'), kinds.count('send'), kinds.count('recv')), value
+        dropped = sum(event[0] == 'recv' and state == after
+                      for event, state, after in zip(events, ring.states[i], ring.states[i][1:]))
+        found = value['draws'], value['sent'], value['received'], value['dropped']
+        assert found == (kinds.count('draw'), kinds.count('send'), kinds.count('recv'), dropped), value
+        assert value['start'] == ('initiator' if read(names[i])[0] else 'passive'), value
         assert_state(value, ring.states[i][at[i]])
     ways = {value['link']: value['on_the_way'] for value in rest if value['type'] == 'link'}
     for i in range(ring.n):
@@ -234,8 +248,8 @@ def check_moment(reader, ring, names, cut, words):
         way = [(m['event'], load(m)) for m in ways.get(i, [])]
         assert way == [(k, ring.events[i][k - 1][1:]) for k in sent[got:]], (i, way)
     assert [due(value) for value in rest if value['type'] == 'next'] == list(next_of(ring, at)), rest
-    rounds = [value for value in rest if value['type'] == 'round']
-    assert sum(value['drew'] for value in rounds) == sum(value['draws'] for value in nodes)
+    assert [(v.get('term', 1), v['round'], v['drew'], v['greatest'], v['drawn_by'])
+            for v in rest if v['type'] == 'round'] == rounds_of(ring, at), rest
 
 
 def check_events(reader, ring, names, cut):

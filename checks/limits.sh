@@ -91,6 +91,17 @@ tie_log 1 19999 > "$folder/1.log"
 judged $? "0: yes: " "a long log alone"
 "$ira" logs "$folder/0.log" "$folder/1.log" < /dev/null > "$folder/out" 2> "$folder/err"
 judged $? "0: yes: " "long logs"
+# Of clauses that hold nearly everywhere, each in two cases, no more positions are kept than the logs have: 1,000 tables of all
+# positions wouldn't fit here.
+awk 'BEGIN {
+    printf "irask 1\nnodes 2\n"
+    for (k = 0; k < 2000; k++) printf "case\n0: (not round = %d)\n1: leader\n", 1 + k % 1000
+    printf "end\n"
+}' > "$folder/many.ask"
+(ulimit -v 150000 && "$ira" decide --question "$folder/many.ask" "$folder/0.log" "$folder/1.log" < /dev/null > "$folder/all" 2> "$folder/err")
+status=$?
+absent 2000 0 | cmp -s - "$folder/all" && echo whole > "$folder/out"
+judged $status "0: whole: " "decide of many clauses in little memory"
 refuses "ira: 199998 events are too many for one picture, which holds 20000: give --from and --to" \
     draw --out "$folder/drawn.svg" "$folder/0.log" "$folder/1.log"
 [ ! -e "$folder/drawn.svg" ] || fail "draw of long logs: a picture"
