@@ -4,6 +4,8 @@ and messages is held against the logs, which are read and stepped here anew.
 
     python3 checks/script.py PROGRAM      PROGRAM makes the pages; node is on the PATH
 """
+import base64
+import hashlib
 import json
 import os
 import re
@@ -235,6 +237,8 @@ def main():
             check = Script(program, browser, temp)
             _, text = check.draw(EXAMPLES['tie_then_win'])
             assert f'<script>\n{script}</script>' in text, 'the program has another script'
+            digest = base64.b64encode(hashlib.sha256(f'\n{script}'.encode()).digest()).decode()
+            assert f"script-src 'sha256-{digest}'" in text, f'frame.rt: the policy of a page allows its script by {digest}'
             raised, drawn = (recorded(os.path.join(temp, name), records) for name, records in (('raised', RAISED), ('drawn', DRAWN_TOO_HIGH)))
             for name in ('two_node_election', 'tie_then_win', 'second_term', 'recorded_ring'):
                 check.events(EXAMPLES[name], 99)
