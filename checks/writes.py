@@ -3,9 +3,10 @@
 python3 checks/writes.py IRA: each command that writes files writes over older ones, where files may have so many bytes and
 no more: the write fails, or the program is killed within it; where it has the rights to, also on a disk that is full. After a failure the
 status is 2, each file is the old one, and no other file is there; after a kill each file is the old one, whatever lies
-beside it. Links to files, a device and a pipe are written to as they are named."""
+beside it. Links to files, a device and a pipe are written to as they are named. Who reads the answer may go away, and a
+terminal is told that a log is read from it."""
 
-import contextlib, os, resource, shutil, signal, stat, subprocess, sys, tempfile
+import contextlib, os, pty, resource, shutil, signal, stat, subprocess, sys, tempfile
 
 HERE = os.path.dirname(os.path.abspath(__file__))
 ELECTION = os.path.join(HERE, "..", "examples", "two_node_election")
@@ -110,6 +111,28 @@ def as_named(ira):
         return f"left over: {left}" if left else None
 
 
+def streams(ira):
+    """A reader that went away, and a terminal."""
+    with tempfile.TemporaryDirectory() as room:
+        laid(room)
+        for names, status in (["0.log", "1.log"], 0), (["1.log", "0.log"], 1):
+            for words in ["logs", *names], ["explain", *names], ["show", "--events", *names]:
+                reader, out = os.pipe()
+                os.close(reader)
+                run = subprocess.run([ira, *words], cwd=room, stdin=subprocess.DEVNULL, stdout=out, stderr=subprocess.PIPE)
+                os.close(out)
+                if (run.returncode, run.stderr) != (status, b""):
+                    return f"{words} without a reader: status {run.returncode}, {run.stderr!r}"
+        ours, terminal = pty.openpty()
+        with open(f"{room}/0.log", "rb") as log:
+            os.write(ours, log.read() + b"\x04")
+        for words, told in ([], 1), (["logs", "0.log", "1.log"], 0):
+            run = subprocess.run([ira, *words], cwd=room, stdin=terminal, capture_output=True, timeout=60)
+            if run.returncode or run.stdout != b"yes\n" or run.stderr.count(b"\n") != told:
+                return f"{words} on a terminal: status {run.returncode}, {run.stdout!r}, {run.stderr!r}"
+    return None
+
+
 def main(ira):
     ira = os.path.realpath(ira)
     runs, wrong = 0, []
@@ -136,10 +159,10 @@ def main(ira):
             runs += 1
             if why:
                 wrong.append(f"{' '.join(words)}, disk full: {why}")
-    why = as_named(ira)
-    runs += 1
-    if why:
-        wrong.append(why)
+    for of_one in as_named, streams:
+        runs += 1
+        if why := of_one(ira):
+            wrong.append(why)
     print(*wrong, f"writes: {runs} runs, {len(wrong)} wrong", sep="\n")
     return bool(wrong)
 

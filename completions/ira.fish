@@ -36,7 +36,7 @@ complete -c ira -n '__fish_seen_subcommand_from check' -l depth -x -a '0 1 2 3 4
 complete -c ira -n '__fish_seen_subcommand_from decide' -l out -r -F -d 'The file for the certificate, which is made where all cases are absent'
 complete -c ira -n '__fish_seen_subcommand_from run' -l nodes -x -d 'How many nodes the ring has, 2 to 255'
 complete -c ira -n '__fish_seen_subcommand_from run' -l seed -x -d 'The number that all draws come from'
-complete -c ira -n '__fish_seen_subcommand_from run upgrade mend' -l out -x -a '(__fish_complete_directories)' -d 'The folder, which exists, for the logs 0.log, 1.log and so on'
+complete -c ira -n '__fish_seen_subcommand_from run upgrade mend' -l out -x -a '(__fish_complete_directories)' -d 'The folder for the logs 0.log, 1.log and so on, made if there is none'
 complete -c ira -n '__fish_seen_subcommand_from run' -l initiators -x -d 'How many nodes begin, from node 0 on; all if not given'
 complete -c ira -n '__fish_seen_subcommand_from run' -l draws -x -d 'How many IDs each node is given to draw, 0 to 100000'
 complete -c ira -n '__fish_seen_subcommand_from run' -l cap -x -d 'The most records of a log, 1 to 100000'

@@ -72,7 +72,7 @@ of_back reads before names shelf texts f read (inl stop) =
 pub reads_next : {S : Type 0} (reads : Reading S) (names : List (List ℕ)) (i : ℕ) (name : List ℕ) (shelf : S)
     (texts : List (List ℕ)) (text : List ℕ) → slice_get names i ≡ Some name
     → ReadsFiles reads (take i names) shelf texts
-    → reads shelf name (Ok text) → ReadsFiles reads (take (i + 1) names) shelf (texts ++ text ∷ [])
+    → reads.text shelf name (Ok text) → ReadsFiles reads (take (i + 1) names) shelf (texts ++ text ∷ [])
 reads_next reads names i name shelf texts text at before read =
     let both = reads_both reads (take i names) (name ∷ []) shelf texts (text ∷ []) before (read, tt) in
     subst (λ ns. ReadsFiles reads ns shelf (texts ++ text ∷ [])) (next_taken names i name at) both
@@ -80,7 +80,7 @@ reads_next reads names i name shelf texts text at before read =
 -- the texts of the files of the names up to an index were taken, and then that of the one there
 pub taken_next : {S : Type 0} (reads : Reading S) (names : List (List ℕ)) (i : ℕ) (name : List ℕ) (shelf : S)
     (old new : RingAudit) (text : List ℕ) → slice_get names i ≡ Some name → HasTakenFiles reads (take i names) shelf old
-    → reads shelf name (Ok text) → ((texts : List (List ℕ)) → HasTaken old texts → HasTaken new (texts ++ text ∷ []))
+    → reads.text shelf name (Ok text) → ((texts : List (List ℕ)) → HasTaken old texts → HasTaken new (texts ++ text ∷ []))
     → HasTakenFiles reads (take (i + 1) names) shelf new
 taken_next reads names i name shelf old new text at before read takes =
     let texts = before.0 in
@@ -98,7 +98,7 @@ of_next reads names i name shelf texts f at before fault =
 
 -- the fault of one file
 pub of_one : {S : Type 0} (reads : Reading S) (name : FileName) (why : ShelfFault) (shelf : S) (f : ProgramFault)
-    → reads shelf (file_name name) (Err why) → f ≡ read_fault name why
+    → reads.text shelf (file_name name) (Err why) → f ≡ read_fault name why
     → IsFilesFault reads (file_name name ∷ []) shelf f
 of_one reads name why shelf f failed is =
     inl (record {
@@ -116,7 +116,7 @@ of_one reads name why shelf f failed is =
 
 -- a file of a question, if one is named
 pub reads_one : {S : Type 0} (reads : Reading S) (name : List ℕ) (shelf : S) (r : Result (List ℕ) ProgramFault)
-    → IfOk r (λ text. reads shelf name (Ok text)) → IfErr r (IsFilesFault reads (name ∷ []) shelf)
+    → IfOk r (λ text. reads.text shelf name (Ok text)) → IfErr r (IsFilesFault reads (name ∷ []) shelf)
     → MatchResult r (λ text. ReadsFiles reads (name ∷ []) shelf (text ∷ [])) (IsFilesFault reads (name ∷ []) shelf)
 reads_one reads name shelf (Ok text) read fault = (read, tt)
 reads_one reads name shelf (Err f) read fault = fault

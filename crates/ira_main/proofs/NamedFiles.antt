@@ -14,7 +14,7 @@ use Rattle.ira_main.specs.declared.named_file.NamedFile.{NamedFile}
 -- the files of the names up to an index were read, and then the one there
 pub read_next : {A S : Type 0} (reads : Reading S) (names : List (List ℕ)) (i : ℕ) (name : List ℕ) (shelf : S)
     (files all : List (NamedFile A)) (file : NamedFile A) → slice_get names i ≡ Some name
-    → AreRead reads (take i names) shelf files → string_bytes file.name ≡ name → reads shelf name (Ok file.text.items)
+    → AreRead reads (take i names) shelf files → string_bytes file.name ≡ name → reads.text shelf name (Ok file.text.items)
     → all ≡ files ++ file ∷ [] → AreRead reads (take (i + 1) names) shelf all
 read_next {A} reads names i name shelf files all file at before named read is =
     let f : NamedFile A → List ℕ = λ file. string_bytes file.name in

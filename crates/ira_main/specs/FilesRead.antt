@@ -16,7 +16,7 @@ names_of names = map file_name names
 
 -- the files of these names were read and gave these texts, each name's file the text at its place
 abbrev pub ReadsFiles : {S : Type 0} → Reading S → List (List ℕ) → S → List (List ℕ) → Type 0
-ReadsFiles reads names shelf texts = AllZip (λ name text. reads shelf name (Ok text)) names texts
+ReadsFiles reads names shelf texts = AllZip (λ name text. reads.text shelf name (Ok text)) names texts
 
 -- the files before one were read, and that one gave a fault, of which the program's fault tells. Files after it may
 -- have been read too, which changes nothing
@@ -29,7 +29,7 @@ pub record StopsReading {S : Type 0} (reads : Reading S) (names : List (List ℕ
   pub texts : List (List ℕ)
   pub given : ReadsFiles reads front shelf texts
   pub why : ShelfFault
-  pub unread : reads shelf (file_name name) (Err why)
+  pub unread : reads.text shelf (file_name name) (Err why)
   pub told : f ≡ read_fault name why
 
 -- why the texts in the files of these names aren't judged: a file of theirs wasn't read, or memory ran out

@@ -33,7 +33,7 @@ read_names question certificate names = named question ++ named certificate ++ n
 pub record AreFirst {S : Type 0} (reads : Reading S) (made question certificate : Option (Bor (List ℕ))) (source : LogSource)
     (shelf : S) (names : List FileName) (asked certified : List ℕ) : Type 0 where
   pub names_are : HasNames reads shelf source names
-  pub kept : KeepsFiles made (input_names question names)
+  pub kept : KeepsFiles reads shelf made (input_names question names)
   pub read : ReadsFiles reads (named question ++ named certificate) shelf
       (named_text question asked ++ named_text certificate certified)
 
@@ -44,7 +44,7 @@ abbrev pub IsUnread : {S : Type 0} → Reading S → Option (Bor (List ℕ)) →
 IsUnread reads made question certificate source shelf f =
     IsNamesFault reads shelf source f
     ⊎ ((names : List FileName) × HasNames reads shelf source names
-    × (IsReplacing made (input_names question names) f
+    × (IsReplacing reads shelf made (input_names question names) f
     ⊎ IsFilesFault reads (read_names question certificate names) shelf f))
 
 -- all was read, and this reply comes of the names of the logs' files, of the texts of a question and of a certificate, and of

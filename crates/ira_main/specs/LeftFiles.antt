@@ -1,5 +1,5 @@
 -- What a crash left of the files of a ring's logs.
-use Rattle.std.specs.Prelude.{◌≡◌, ◌<◌, ◌⊎◌, ℕ, List, [], ◌∷◌, Ok, Err, map}
+use Rattle.std.specs.Prelude.{◌≡◌, ◌<◌, ◌⊎◌, ℕ, List, [], ◌∷◌, Result, Ok, Err, map}
 use Rattle.std.specs.List.{range_with_len}
 use Rattle.ira_event.specs.Limits.{MAX_NODES}
 use Rattle.ira_event.specs.Log.{Log}
@@ -11,6 +11,7 @@ use Rattle.ira_main_files.specs.FileName.{log_name}
 use Rattle.ira_main_files.specs.Shelf.{Reading}
 use Rattle.ira_main_files.specs.declared.file_name.FileName.{FileName}
 use Rattle.ira_main_files.specs.declared.file_name.FileName.TheVariants.{Given, Log as InFolder}
+use Rattle.ira_main_files.specs.declared.shelf_fault.ShelfFault.{ShelfFault}
 use Rattle.ira_main_files.specs.declared.shelf_fault.ShelfFault.TheVariants.{NotFound}
 use Rattle.ira_main.specs.FilesRead.{IsFilesFault, ReadsFiles}
 use Rattle.ira_main.specs.SourceNames.{SaysLogs}
@@ -18,15 +19,20 @@ use Rattle.ira_main.specs.declared.program_fault.ProgramFault.{ProgramFault}
 use Rattle.ira_main.specs.declared.program_fault.ProgramFault.TheVariants.{OutOfMemory}
 
 -- what the file of a name left: its text, or no bytes where there is no such file
+abbrev pub left_text : {S : Type 0} → Reading S → S → List ℕ → Result (List ℕ) ShelfFault → Type 0
+left_text reads shelf name (Ok text) =
+    reads.text shelf name (Ok text) ⊎ (reads.text shelf name (Err NotFound) × (text ≡ []))
+left_text reads shelf name (Err NotFound) = ⊥
+left_text reads shelf name (Err why) = reads.text shelf name (Err why)
+
+-- the same of each name
 abbrev pub left_by : {S : Type 0} → Reading S → Reading S
-left_by reads shelf name (Ok text) = reads shelf name (Ok text) ⊎ (reads shelf name (Err NotFound) × (text ≡ []))
-left_by reads shelf name (Err NotFound) = ⊥
-left_by reads shelf name (Err why) = reads shelf name (Err why)
+left_by reads = record { text = left_text reads; entry = reads.entry }
 
 -- the file of the log at this place in a folder left a text which says that there are so many logs
 abbrev pub LeavesNumber : {S : Type 0} → Reading S → S → List ℕ → ℕ → ℕ → Type 0
 LeavesNumber reads shelf folder place number =
-    (text : List ℕ) × left_by reads shelf (log_name folder place) (Ok text) × SaysLogs text number
+    (text : List ℕ) × (left_by reads).text shelf (log_name folder place) (Ok text) × SaysLogs text number
 
 -- how many logs were in a folder: as many as the first text says of which a whole head is left, or one
 pub data SaysLeft {S : Type 0} (reads : Reading S) (shelf : S) (folder : List ℕ) (number : ℕ) : Type 0 where

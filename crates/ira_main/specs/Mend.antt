@@ -16,19 +16,19 @@ use Rattle.ira_main.specs.declared.program_fault.ProgramFault.TheVariants.{Would
 pub record MendsLogs {S : Type 0} (reads : Reading S) (mend : MendRequest) (shelf : S) (reply : Reply) : Type 0 where
   pub names : List FileName
   pub names_are : HasLeftNames reads shelf mend.logs names
-  pub kept : KeepsInput mend.folder.now (names_of names)
+  pub kept : KeepsInput reads shelf mend.folder.now (names_of names)
   pub texts : List (List ℕ)
   pub left : ReadsFiles (left_by reads) (names_of names) shelf texts
   pub reply_is : MendsTexts mend.is_initiator texts reply
 
 -- a log would be written over this file of the input
-abbrev pub IsOverwriting : MendRequest → List FileName → ProgramFault → Type 0
-IsOverwriting mend names f =
-    (name : FileName) × Overwrites mend.folder.now (names_of names) (file_name name) × (f ≡ WouldOverwrite name)
+abbrev pub IsOverwriting : {S : Type 0} → Reading S → MendRequest → S → List FileName → ProgramFault → Type 0
+IsOverwriting reads mend shelf names f =
+    (name : FileName) × Overwrites reads shelf mend.folder.now (names_of names) (file_name name) × (f ≡ WouldOverwrite name)
 
 -- why nothing comes of them: there are no names; or a log would be written over a file of the input; or no texts were had
 abbrev pub IsUnmended : {S : Type 0} → Reading S → MendRequest → S → ProgramFault → Type 0
 IsUnmended reads mend shelf f =
     IsLeftNamesFault reads shelf mend.logs f
     ⊎ ((names : List FileName) × HasLeftNames reads shelf mend.logs names
-    × (IsOverwriting mend names f ⊎ IsLeftFault reads (names_of names) shelf f))
+    × (IsOverwriting reads mend shelf names f ⊎ IsLeftFault reads (names_of names) shelf f))

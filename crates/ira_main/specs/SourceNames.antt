@@ -26,7 +26,7 @@ pub data SaysLogs (text : List ℕ) (number : ℕ) : Type 0 where
 abbrev pub HasNames : {S : Type 0} → Reading S → S → LogSource → List FileName → Type 0
 HasNames reads shelf (Files words) names = names ≡ map (λ word. Given word) words.items
 HasNames reads shelf (Folder folder) names =
-    (text : List ℕ) × reads shelf (log_name folder.now 0) (Ok text)
+    (text : List ℕ) × reads.text shelf (log_name folder.now 0) (Ok text)
     × (number : ℕ) × SaysLogs text number × (names ≡ map (λ place. Log folder place) (range_with_len 0 number))
 
 -- why there are none: the first log of a folder wasn't read, or memory ran out

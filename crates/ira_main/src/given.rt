@@ -77,7 +77,7 @@ fn read_first<'a, A: Allocator + Clone, F: TextSource>(
         shelf.now) }
 {
     let names = source_names(alloc, inputs.logs, shelf)?;
-    keep_inputs(alloc, inputs.made, inputs.question, &names)?;
+    keep_inputs(alloc, inputs.made, inputs.question, &names, shelf)?;
     let question = read_one(alloc, inputs.question, shelf)?;
     let certificate = read_one(alloc, inputs.certificate, shelf)?;
     Ok(First {

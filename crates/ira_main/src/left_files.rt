@@ -20,7 +20,7 @@ fn find_into<'a, A: Allocator + Clone, F: TextSource>(
     text: &mut TextBuffer<A>,
     shelf: &F,
 ) -> Result<(), ProgramFault<'a>>
-    ensures found { IfOk result (λ _. left_by F.reads shelf.now (file_name name.entry) (Ok text.new)) }
+    ensures found { IfOk result (λ _. (left_by F.reads).text shelf.now (file_name name.entry) (Ok text.new)) }
     ensures fault { IfErr result (IsFilesFault (left_by F.reads) (file_name name.entry ∷ []) shelf.now) }
 {
     let path = name.path(alloc)?;

@@ -18,7 +18,7 @@ pub(crate) fn mend_files<'a, A: Allocator + Clone, F: Shelf>(
     ensures { MatchResult result (MendsLogs F.reads request.now shelf.now) (IsUnmended F.reads request.now shelf.now) }
 {
     let names = left_names(alloc, &request.logs, shelf)?;
-    if let Some(name) = overwritten(alloc, request.folder, &names)? {
+    if let Some(name) = overwritten(alloc, request.folder, &names, shelf)? {
         return Err(ProgramFault::WouldOverwrite(name));
     }
     let recorded = read_left(alloc, &names, shelf)?;

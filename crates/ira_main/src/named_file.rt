@@ -28,7 +28,7 @@ impl<A: Allocator> NamedFile<A> {
     where
         A: Clone,
         ensures named { IfOk result (λ file. string_bytes file.name ≡ file_name name.entry) }
-        ensures read { IfOk result (λ file. F.reads shelf.now (file_name name.entry) (Ok file.text.items)) }
+        ensures read { IfOk result (λ file. F.reads.text shelf.now (file_name name.entry) (Ok file.text.items)) }
         ensures fault { IfErr result (IsFilesFault F.reads (file_name name.entry ∷ []) shelf.now) }
     {
         let mut buffer = TextBuffer::new(alloc.clone()?);
@@ -45,7 +45,7 @@ impl<A: Allocator> NamedFile<A> {
     where
         A: Clone,
         ensures named { IfOk result (λ file. string_bytes file.name ≡ file_name name.entry) }
-        ensures read { IfOk result (λ file. F.reads shelf.now (file_name name.entry) (Ok file.text.items)) }
+        ensures read { IfOk result (λ file. F.reads.text shelf.now (file_name name.entry) (Ok file.text.items)) }
         ensures fault { IfErr result (IsFilesFault F.reads (file_name name.entry ∷ []) shelf.now) }
     {
         read_into(alloc, name, buffer, shelf)?;

@@ -17,7 +17,7 @@ pub(crate) fn read_into<'a, A: Allocator + Clone, F: TextSource>(
     text: &mut TextBuffer<A>,
     shelf: &F,
 ) -> Result<(), ProgramFault<'a>>
-    ensures read { IfOk result (λ _. F.reads shelf.now (file_name name.entry) (Ok text.new)) }
+    ensures read { IfOk result (λ _. F.reads.text shelf.now (file_name name.entry) (Ok text.new)) }
     ensures fault { IfErr result (IsFilesFault F.reads (file_name name.entry ∷ []) shelf.now) }
 {
     let path = name.path(alloc)?;
@@ -33,7 +33,7 @@ pub(crate) fn read_file<'a, A: Allocator + Clone, F: TextSource>(
     name: FileName<'a>,
     shelf: &F,
 ) -> Result<TextBuffer<A>, ProgramFault<'a>>
-    ensures read { IfOk result (λ text. F.reads shelf.now (file_name name.entry) (Ok text)) }
+    ensures read { IfOk result (λ text. F.reads.text shelf.now (file_name name.entry) (Ok text)) }
     ensures fault { IfErr result (IsFilesFault F.reads (file_name name.entry ∷ []) shelf.now) }
 {
     let mut text = TextBuffer::new(alloc.clone()?);

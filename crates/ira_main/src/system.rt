@@ -3,10 +3,10 @@ ghost use Rattle.std.specs.Process.{exit_status};
 
 use crate::program::serve;
 use crate::program_fault::{ProgramFault, report_outcome};
-use ira_event::{Sink, ToWriter};
-use ira_main_files::{CountingReader, FileShelf};
+use ira_event::{Sink, ToWriter, write_bytes};
+use ira_main_files::{CountingReader, FileShelf, PipedWriter};
 use std::alloc::{AllocError, Global};
-use std::io::{ErrorKind, Read, Write};
+use std::io::{ErrorKind, IsTerminal, Read, Write};
 use std::process::ExitCode;
 use std::rt::{Env, Files};
 use std::sync::Wait;
@@ -22,6 +22,10 @@ fn words_given<R: AllocGlobal + Env>(rt: &R) -> Result<Vec<String>, ProgramFault
     }
 }
 
+/// What is said where someone may wait for an answer.
+const WAITS: &[u8] =
+    b"ira: reads the log of one node, which you type or paste here; `ira help` has the commands\n";
+
 fn borrowed(alloc: Global, words: &[String]) -> Result<Vec<&str>, AllocError> {
     words.iter().map(|word| word.as_str()).collect(alloc)
 }
@@ -36,7 +40,7 @@ where
     R: AllocGlobal + Env + Files + Threads + Wait + Clock + Sync,
     R::File: Send + Sync,
     R::Dir: Send + Sync,
-    I: Read + Drop,
+    I: Read + IsTerminal + Drop,
     W: Write + Drop,
     V: Sink,
     ensures { IfOk result (λ status. status ≤ 3) }
@@ -44,24 +48,28 @@ where
     let alloc = rt.alloc();
     let given = words_given(rt)?;
     let words = borrowed(alloc, &given)?;
+    if words.is_empty() && input.is_terminal() {
+        let _ = write_bytes(WAITS, err);
+    }
     Ok(serve(
         rt,
         alloc,
         &words,
         &mut CountingReader::new(input),
         &mut FileShelf::new(rt, alloc),
-        &mut ToWriter::new(out),
+        &mut ToWriter::new(PipedWriter::new(out)),
         err,
     ))
 }
 
-/// Serves the words and the files of the system, over these streams. The status is 0 to 3.
+/// Serves the words and the files of the system, over these streams. The status is 0 to 3, that of the answer also where
+/// the reader of `out` has gone away.
 pub fn start<R, I, W, V>(rt: &R, input: I, out: W, err: V) -> ExitCode
 where
     R: AllocGlobal + Env + Files + Threads + Wait + Clock + Sync,
     R::File: Send + Sync,
     R::Dir: Send + Sync,
-    I: Read + Drop,
+    I: Read + IsTerminal + Drop,
     W: Write + Drop,
     V: Write + Drop,
     ensures { exit_status result ≤ 3 }

@@ -124,7 +124,7 @@ const NODES_HELP: &str = "How many nodes the ring has, 2 to 255";
 
 const SEED_HELP: &str = "The number that all draws come from";
 
-const OUT_HELP: &str = "The folder, which exists, for the logs 0.log, 1.log and so on";
+const OUT_HELP: &str = "The folder for the logs 0.log, 1.log and so on, made if there is none";
 
 const INITIATORS_HELP: &str = "How many nodes begin, from node 0 on; all if not given";
 

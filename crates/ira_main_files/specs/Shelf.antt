@@ -1,6 +1,7 @@
 -- Files, and how a text comes to one.
 use Rattle.std.specs.Prelude.{◌≡◌, ℕ, List, [], ◌∷◌, Result, Ok, Err}
 use Rattle.ira_event.specs.Sink.{SinkState, Takes, StopsIn}
+use Rattle.ira_main_files.specs.declared.file_entry.FileEntry.{FileEntry}
 use Rattle.ira_main_files.specs.declared.shelf_fault.ShelfFault.{ShelfFault}
 use Rattle.ira_main_files.specs.declared.shelf_fault.ShelfFault.TheVariants.{Device}
 
@@ -9,9 +10,11 @@ pub record File : Type 0 where
   pub name : List ℕ
   pub bytes : List ℕ
 
--- what comes of reading the file of a name on a shelf: its text, or a fault
-abbrev pub Reading : Type 0 → Type 1
-Reading S = S → List ℕ → Result (List ℕ) ShelfFault → Type 0
+-- what comes of a name on a shelf. `text`: its file is read, and this is its text, or a fault comes of it. `entry`: it is
+-- looked up, and leads to this
+pub record Reading (S : Type 0) : Type 1 where
+  pub text : S → List ℕ → Result (List ℕ) ShelfFault → Type 0
+  pub entry : S → List ℕ → FileEntry → Type 0
 
 -- what writing files does to a shelf. `file`: a text is written whole to a new file of a name, which isn't under its name
 -- yet, or a fault comes of it. `keep`: such a file gets its name, or a fault comes of it

@@ -2,6 +2,7 @@ ghost use Rattle.std.specs.Prelude.{◌≡◌};
 
 use crate::counting_reader::CountingReader;
 use crate::draft::Draft;
+use crate::file_entry::{FileEntry, FileId};
 use crate::new_file::NewFile;
 use crate::retrying_reader::RetryingReader;
 use crate::shelf::Shelf;
@@ -11,13 +12,14 @@ use crate::text_source::TextSource;
 use std::alloc::Allocator;
 use std::fs::{self, Files, Metadata, OpenFile, OpenOptions};
 use std::io::{self, BufWriter, ErrorKind};
+use std::os::unix::fs::MetadataExt;
 
 /// The files of the system. They are written through a buffer. A read that a signal interrupted is made once more, and
 /// so the buffer does with a write. No clause says what they hold, nor what a read of one gives, since others may
 /// change them at any time.
 ///
-/// A new file is written as `.ira-N` in the folder of the one whose name it gets, N a number that no file there has. Where
-/// the name is a link to a file, that file is replaced. Devices and pipes, and all below `/dev` and `/proc`, are written as
+/// A new file is written as `.ira-N` in the folder of the one whose name it gets, N a number that no file there has; the
+/// folder is made if there is none. Where the name is a link to a file, that file is replaced. Devices and pipes, and all below `/dev` and `/proc`, are written as
 /// they are.
 #[derive(Drop)]
 pub struct FileShelf<'a, R: Files, A: Allocator> {
@@ -72,6 +74,9 @@ impl<'a, R: Files, A: Allocator + Clone> FileShelf<'a, R, A> {
             }
             Ok(_) => String::from_str(self.alloc.clone()?, name)?,
             Err(error) if error.kind() == ErrorKind::NotFound => {
+                if let Some((folder, _)) = name.rsplit_once('/') {
+                    fs::create_dir_all(self.rt, folder)?;
+                }
                 return Ok(Place::Beside(String::from_str(self.alloc.clone()?, name)?, None));
             }
             Err(error) => return Err(error),
@@ -121,11 +126,23 @@ impl<'a, R: Files, A: Allocator + Clone> FileShelf<'a, R, A> {
 impl<R: Files, A: Allocator> TextSource for FileShelf<'_, R, A> {
     ghost use Rattle.std.specs.Prelude.{⊤};
 
-    ghost reads = { λ _ _ _. ⊤ };
+    ghost reads = { record { text = λ _ _ _. ⊤; entry = λ _ _ _. ⊤ } };
 
     fn read<B: Allocator>(&self, name: &str, text: &mut TextBuffer<B>) -> Result<(), ShelfFault> {
         let file = fs::open(self.rt, name)?;
         text.fill(&mut CountingReader::new(RetryingReader::new(file)))
+    }
+
+    fn look_up(&self, name: &str) -> FileEntry {
+        match fs::metadata(self.rt, name) {
+            Ok(found) if found.is_file() => FileEntry::File(FileId {
+                device: found.dev(),
+                inode: found.ino(),
+            }),
+            Ok(found) if found.is_dir() => FileEntry::Folder,
+            Err(error) if error.kind() == ErrorKind::NotFound => FileEntry::Missing,
+            _ => FileEntry::Other,
+        }
     }
 }
 

@@ -3,9 +3,11 @@
 
 mod counting_reader;
 mod draft;
+mod file_entry;
 mod file_name;
 mod file_shelf;
 mod new_file;
+mod piped_writer;
 mod read_text;
 mod retrying_reader;
 mod shelf;
@@ -15,9 +17,11 @@ mod text_source;
 
 pub use counting_reader::CountingReader;
 pub use draft::Draft;
+pub use file_entry::{FileEntry, FileId};
 pub use file_name::{FileName, slash_after};
 pub use file_shelf::FileShelf;
 pub use new_file::NewFile;
+pub use piped_writer::PipedWriter;
 pub use read_text::read_after;
 pub use retrying_reader::RetryingReader;
 pub use shelf::Shelf;

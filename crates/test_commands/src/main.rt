@@ -124,7 +124,7 @@ where
         rt,
         input,
         out,
-        "draw --out=elected/0.log elected/0.log elected/1.log",
+        "draw --out=elected/../ring.svg --question=ring.svg elected/0.log elected/1.log",
     )?;
     ira(rt, input, out, "explain --json elected/1.log elected/0.log")?;
     ira(rt, input, out, "run --nodes=5 --seed=7 --out=.")?;
@@ -139,7 +139,7 @@ where
     ira(rt, input, out, "run --nodes=2 --seed=7 --draws=0 --out=.")?;
     ira(rt, input, out, "logs 0.log 1.log")?;
     ira(rt, input, out, "logs 0.log 5.log")?;
-    ira(rt, input, out, "run --nodes=2 --seed=7 --out=nowhere")?;
+    ira(rt, input, out, "run --nodes=2 --seed=7 --out=elected/0.log")?;
     ira(
         rt,
         input,

@@ -4,7 +4,9 @@ ghost use Rattle.test_main.specs.MemoryFiles.{HasFirst};
 
 use ira_event::{Sink, SinkFault};
 use ira_main::serve;
-use ira_main_files::{CountingReader, Shelf, ShelfFault, TextBuffer, TextSource};
+use ira_main_files::{
+    CountingReader, FileEntry, FileId, Shelf, ShelfFault, TextBuffer, TextSource,
+};
 use std::alloc::{Allocator, Global};
 use std::io;
 use std::io::{ErrorKind, Read};
@@ -15,11 +17,16 @@ use std::thread::Threads;
 use std::time::Clock;
 use test_refusing::{FailingSink, Refusing};
 
+/// The most bytes that a file takes at a time.
+const PIECE: usize = 1000;
+
 /// A file that is being written.
 #[derive(Drop)]
 pub(crate) struct NewFile {
     name: String,
     bytes: Vec<u8>,
+    /// How many steps are made before one is refused.
+    left: u64,
     failures: u64,
 }
 
@@ -29,21 +36,27 @@ impl Sink for NewFile {
     ghost state = { λ s. record { taken = Some s.bytes.items; failures = s.failures } };
 
     fn push(&mut self, bytes: &[u8]) -> Result<usize, SinkFault> {
-        if self.bytes.extend_from_slice(bytes).is_err() {
+        let taken = bytes.len().min(PIECE);
+        if self.left == 0 || self.bytes.extend_from_slice(&bytes[..taken]).is_err() {
             self.failures = self.failures.saturating_add(1);
             return Err(SinkFault);
         }
-        Ok(bytes.len())
+        self.left -= 1;
+        Ok(taken)
     }
 }
 
 /// Texts under their names, and the files that were written, each when it got its name. A file that was written
-/// is read back.
+/// is read back. One of the steps by which files are written may be refused: to make one, to take a part of its text, to
+/// close it, to give it its name.
 #[derive(Drop)]
 pub(crate) struct MemoryShelf<'a> {
     alloc: Global,
     files: &'a [(&'a str, &'a [u8])],
     written: Vec<NewFile>,
+    /// How many steps are made before one is refused.
+    left: u64,
+    is_keep_refused: bool,
 }
 
 impl<'a> Model for MemoryShelf<'a> {
@@ -60,11 +73,38 @@ impl<'a> Model for MemoryShelf<'a> {
 
 impl<'a> MemoryShelf<'a> {
     pub(crate) fn new(alloc: Global, files: &'a [(&'a str, &'a [u8])]) -> MemoryShelf<'a> {
+        MemoryShelf::refusing(alloc, files, u64::MAX)
+    }
+
+    /// A shelf that refuses the step after so many.
+    pub(crate) fn refusing(
+        alloc: Global,
+        files: &'a [(&'a str, &'a [u8])],
+        steps: u64,
+    ) -> MemoryShelf<'a> {
         MemoryShelf {
             alloc,
             files,
             written: Vec::new(alloc),
+            left: steps,
+            is_keep_refused: false,
         }
+    }
+
+    /// Counts a step.
+    fn step(&mut self) -> Result<(), ShelfFault>
+        ensures { self.new ≡ self.old }
+    {
+        if self.left == 0 {
+            return Err(ShelfFault::Device);
+        }
+        self.left -= 1;
+        Ok(())
+    }
+
+    /// Whether each name has the file that it had, but where a file after the first didn't get its name.
+    pub(crate) fn has_kept_files(&self) -> bool {
+        self.written.is_empty() || self.is_keep_refused
     }
 
     /// The bytes of the first file of this name that was written.
@@ -130,14 +170,27 @@ impl TextSource for MemoryShelf<'_> {
     ghost use Rattle.test_main.specs.MemoryFiles.{HasFirst};
 
     // a text is that of the first file of the name, as far as it is read
-    ghost reads = { λ s name result. MatchResult result
-        (λ text. (bytes : List ℕ) × (text ≡ take (MAX_TEXT + 1) bytes) × HasFirst (s.written ++ s.given) name bytes)
-        (λ _. ⊤) };
+    ghost reads = { record {
+      text = λ s name result. MatchResult result
+          (λ text. (bytes : List ℕ) × (text ≡ take (MAX_TEXT + 1) bytes) × HasFirst (s.written ++ s.given) name bytes)
+          (λ _. ⊤);
+      entry = λ _ _ _. ⊤;
+    } };
 
     fn read<A: Allocator>(&self, name: &str, text: &mut TextBuffer<A>) -> Result<(), ShelfFault> {
         match self.bytes_of(name) {
             Some(bytes) => text.fill(&mut CountingReader::new(bytes)),
             None => Err(ShelfFault::NotFound),
+        }
+    }
+
+    fn look_up(&self, name: &str) -> FileEntry {
+        match self.files.iter().position(|(given, _)| *given == name) {
+            Some(place) => FileEntry::File(FileId {
+                device: 0,
+                inode: place as u64,
+            }),
+            None => FileEntry::Missing,
         }
     }
 }
@@ -147,7 +200,7 @@ impl Shelf for MemoryShelf<'_> {
 
     type Written = NewFile;
 
-    ghost use Rattle.std.specs.Prelude.{◌≡◌, ◌++◌, [], ◌∷◌, Some, IfOk, MatchResult, Ok, string_bytes};
+    ghost use Rattle.std.specs.Prelude.{◌≡◌, ◌++◌, [], ◌∷◌, Some, IfOk, MatchResult, string_bytes};
 
     // those that were written, and those that are given with their text
     ghost files = { λ s. Some (s.written ++ s.given) };
@@ -155,7 +208,7 @@ impl Shelf for MemoryShelf<'_> {
     ghost creates = { λ old name result new. (new ≡ old)
         × IfOk result (λ file. (string_bytes file.name ≡ name) × (file.bytes.items ≡ [])) };
 
-    ghost closes = { λ old file result new. (new ≡ old) × (result ≡ Ok file) };
+    ghost closes = { λ old file result new. (new ≡ old) × IfOk result (λ whole. whole ≡ file) };
 
     ghost keeps = { λ old file result new. (new.given ≡ old.given)
         × MatchResult result
@@ -163,18 +216,26 @@ impl Shelf for MemoryShelf<'_> {
         (λ _. new.written ≡ old.written) };
 
     fn create(&mut self, name: &str) -> Result<NewFile, ShelfFault> {
+        self.step()?;
         Ok(NewFile {
             name: String::from_str(self.alloc, name)?,
             bytes: Vec::new(self.alloc),
+            left: self.left,
             failures: 0,
         })
     }
 
     fn close(&mut self, file: NewFile) -> Result<NewFile, ShelfFault> {
+        self.left = file.left;
+        self.step()?;
         Ok(file)
     }
 
     fn keep(&mut self, file: NewFile) -> Result<(), ShelfFault> {
+        if let Err(refused) = self.step() {
+            self.is_keep_refused = true;
+            return Err(refused);
+        }
         match self.written.push(file) {
             Ok(()) => Ok(()),
             Err(_) => Err(ShelfFault::OutOfMemory),

@@ -79,12 +79,11 @@ fn begin_over(
     Ok(())
 }
 
-/// Where a new file is let go before it has its name, the old one is there, and nothing beside it.
+/// Where a new file is let go before it has its name, the old one is there, and nothing beside it. The folder is made.
 #[test]
 fn file_that_does_not_get_its_name(rt: HostRuntime) {
     let old: &[u8] = b"irlog 1\nnodes 2\n";
     let name = "not_named/0.log";
-    assert!(rt; fs::create_dir(&rt, "not_named").is_ok());
     let mut shelf = FileShelf::new(&rt, rt.alloc());
     let mut found = TextBuffer::new(rt.alloc());
     for is_closed in [false, true] {
@@ -102,7 +101,8 @@ fn files_that_cannot_be_used(rt: HostRuntime) {
     let mut found = TextBuffer::new(rt.alloc());
     assert!(rt; shelf.read(".", &mut found) == Err(ShelfFault::Device));
     for (name, fault) in [
-        ("nowhere/0.log", ShelfFault::NotFound),
+        ("", ShelfFault::NotFound),
+        ("/dev/null/0.log", ShelfFault::Device),
         (".", ShelfFault::Device),
         ("/dev/full", ShelfFault::Device),
     ] {

@@ -16,4 +16,6 @@ mod recorded;
 #[cfg(test)]
 mod refusals;
 #[cfg(test)]
+mod refused_writes;
+#[cfg(test)]
 mod requests;

@@ -65,7 +65,7 @@ show_taken-requires-clause-taken g c =
       given.1,
       given.2,
       rw c.deref-2.ensures.value (sym (length-map names file_name)
-          ∙ sym (zipped_length (λ name text. g.F.TextSource.reads c.args.shelf.now name (Ok text)) (names_of names) given.1
+          ∙ sym (zipped_length (λ name text. g.F.TextSource.reads.text c.args.shelf.now name (Ok text)) (names_of names) given.1
           given.3)),
     ) in
     search rules

@@ -9,7 +9,7 @@ use Rattle.ira_main.proofs.left_files.find_into.Goals as goal
 
 -- a fault of a file that is there is one of what it left
 left_fault : {S : Type 0} (reads : Reading S) (shelf : S) (name : List ℕ) (why : ShelfFault) → why ≢ NotFound
-    → reads shelf name (Err why) → left_by reads shelf name (Err why)
+    → reads.text shelf name (Err why) → (left_by reads).text shelf name (Err why)
 left_fault reads shelf name NotFound other is = absurd (other refl)
 left_fault reads shelf name Device other is = is
 left_fault reads shelf name OutOfMemory other is = is

@@ -6,4 +6,4 @@ pub returns-in-None : goal.returns-in-None
 returns-in-None g c = λ file is.
     let none = rw c.in-None.is at c.in_ok-name.ensures in
     let same : c.in-Some.written ≡ file = cc in
-    subst (λ f. ReplacesNone f.now (input_names c.args.question c.args.logs.now)) same none
+    subst (λ f. ReplacesNone g.F.TextSource.reads c.args.shelf.now f.now (input_names c.args.question c.args.logs.now)) same none
