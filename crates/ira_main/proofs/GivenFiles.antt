@@ -22,7 +22,7 @@ use Rattle.ira_main.specs.declared.program_fault.ProgramFault.TheVariants.{OutOf
 -- memory may run out
 pub no_memory : {S : Type 0} (reads : Reading S) (made question certificate : Option (Bor (List ℕ))) (source : LogSource)
     (shelf : S) (f : ProgramFault) → f ≡ OutOfMemory → IsUnread reads made question certificate source shelf f
-no_memory reads made question certificate (Files words) shelf f is = inl is
+no_memory reads made question certificate (Files words) shelf f is = inl (inr is)
 no_memory reads made question certificate (Folder folder) shelf f is = inl (inr is)
 
 -- why the input isn't judged
@@ -40,5 +40,5 @@ left_no_memory reads mend shelf f is = inl (names_no_memory reads mend.logs shel
   where
     names_no_memory : {S : Type 0} (reads : Reading S) (source : LogSource) (shelf : S) (f : ProgramFault) → f ≡ OutOfMemory
         → IsLeftNamesFault reads shelf source f
-    names_no_memory reads (Files words) shelf f is = is
+    names_no_memory reads (Files words) shelf f is = inr is
     names_no_memory reads (Folder folder) shelf f is = inr is

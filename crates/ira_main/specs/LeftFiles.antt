@@ -1,5 +1,6 @@
 -- What a crash left of the files of a ring's logs.
 use Rattle.std.specs.Prelude.{◌≡◌, ◌<◌, ◌⊎◌, ℕ, List, [], ◌∷◌, Result, Ok, Err, map}
+use Rattle.std.specs.Borrow.{Bor}
 use Rattle.std.specs.List.{range_with_len}
 use Rattle.ira_event.specs.Limits.{MAX_NODES}
 use Rattle.ira_event.specs.Log.{Log}
@@ -14,7 +15,7 @@ use Rattle.ira_main_files.specs.declared.file_name.FileName.TheVariants.{Given, 
 use Rattle.ira_main_files.specs.declared.shelf_fault.ShelfFault.{ShelfFault}
 use Rattle.ira_main_files.specs.declared.shelf_fault.ShelfFault.TheVariants.{NotFound}
 use Rattle.ira_main.specs.FilesRead.{IsFilesFault, ReadsFiles}
-use Rattle.ira_main.specs.SourceNames.{SaysLogs}
+use Rattle.ira_main.specs.SourceNames.{AreFileNames, IsLoneFolder, SaysLogs}
 use Rattle.ira_main.specs.declared.program_fault.ProgramFault.{ProgramFault}
 use Rattle.ira_main.specs.declared.program_fault.ProgramFault.TheVariants.{OutOfMemory}
 
@@ -41,19 +42,31 @@ pub data SaysLeft {S : Type 0} (reads : Reading S) (shelf : S) (folder : List �
   none : number ≡ 1 → ((i : ℕ) → i < MAX_NODES → LeavesNumber reads shelf folder i 1)
       → SaysLeft reads shelf folder number
 
--- the names of the files of the logs: those that are given, or of a folder those of as many logs as were in it
-abbrev pub HasLeftNames : {S : Type 0} → Reading S → S → LogSource → List FileName → Type 0
-HasLeftNames reads shelf (source.Files words) names = names ≡ map (λ word. Given word) words.items
-HasLeftNames reads shelf (source.Folder folder) names =
+-- the names of the files of as many logs as were in a folder
+abbrev pub HasLeftInFolder : {S : Type 0} → Reading S → S → Bor (List ℕ) → List FileName → Type 0
+HasLeftInFolder reads shelf folder names =
     (number : ℕ) × SaysLeft reads shelf folder.now number
     × (names ≡ map (λ place. InFolder folder place) (range_with_len 0 number))
 
--- why there are none: a file of the folder is there and wasn't read, or memory ran out
-abbrev pub IsLeftNamesFault : {S : Type 0} → Reading S → S → LogSource → ProgramFault → Type 0
-IsLeftNamesFault reads shelf (source.Files words) f = f ≡ OutOfMemory
-IsLeftNamesFault reads shelf (source.Folder folder) f =
-    ((place : ℕ) × (place < MAX_NODES) × IsFilesFault (left_by reads) (log_name folder.now place ∷ []) shelf f)
+-- the names of the files of the logs: those that are given, or those in a folder
+abbrev pub HasLeftNames : {S : Type 0} → Reading S → S → LogSource → List FileName → Type 0
+HasLeftNames reads shelf (source.Files words) names =
+    (AreFileNames reads shelf words.items × (names ≡ map (λ word. Given word) words.items))
+    ⊎ ((folder : Bor (List ℕ)) × IsLoneFolder reads shelf words.items folder × HasLeftInFolder reads shelf folder names)
+HasLeftNames reads shelf (source.Folder folder) names = HasLeftInFolder reads shelf folder names
+
+-- why there are none of a folder: a file of it is there and wasn't read, or memory ran out
+abbrev pub IsLeftFolderFault : {S : Type 0} → Reading S → S → List ℕ → ProgramFault → Type 0
+IsLeftFolderFault reads shelf folder f =
+    ((place : ℕ) × (place < MAX_NODES) × IsFilesFault (left_by reads) (log_name folder place ∷ []) shelf f)
     ⊎ (f ≡ OutOfMemory)
+
+-- why there are none
+abbrev pub IsLeftNamesFault : {S : Type 0} → Reading S → S → LogSource → ProgramFault → Type 0
+IsLeftNamesFault reads shelf (source.Files words) f =
+    ((folder : Bor (List ℕ)) × IsLoneFolder reads shelf words.items folder × IsLeftFolderFault reads shelf folder.now f)
+    ⊎ (f ≡ OutOfMemory)
+IsLeftNamesFault reads shelf (source.Folder folder) f = IsLeftFolderFault reads shelf folder.now f
 
 -- what is left of the files of these names was taken
 abbrev pub HasLeftFiles : {A : Type 0} {S : Type 0} → Reading S → List (List ℕ) → S → List (RecordedLog A) → Type 0

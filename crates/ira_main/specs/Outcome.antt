@@ -1,5 +1,5 @@
 -- What the program ends with: a status, or a fault, which is written to standard error.
-use Rattle.std.specs.Prelude.{◌≡◌, ◌⊎◌, ℕ, List, Result, Ok, Err}
+use Rattle.std.specs.Prelude.{◌≡◌, ◌⊎◌, ◌++◌, ℕ, List, Result, Ok, Err}
 use Rattle.ira_event.specs.Sink.{SinkState, Takes, StopsIn}
 use Rattle.ira_main.specs.ProgramFault.{program_fault_status, program_fault_text}
 use Rattle.ira_view.specs.Status.{status_number}
@@ -16,10 +16,11 @@ abbrev pub outcome_number : Outcome → ℕ
 outcome_number (Ok status) = status_number status
 outcome_number (Err f) = status_number (program_fault_status f)
 
--- nothing is written of a status; the text of a fault is written whole, or the write of it failed
-abbrev pub ReportsOutcome : Outcome → SinkState → SinkState → Type 0
-ReportsOutcome (Ok status) old new = new ≡ old
-ReportsOutcome (Err f) old new = Takes (program_fault_text f) old new ⊎ StopsIn (program_fault_text f) old new
+-- nothing is written of a status; the text of a fault, and what is told after it, are written whole, or to where that fails
+abbrev pub ReportsOutcome : Outcome → List ℕ → SinkState → SinkState → Type 0
+ReportsOutcome (Ok status) more old new = new ≡ old
+ReportsOutcome (Err f) more old new =
+    Takes (program_fault_text f ++ more) old new ⊎ StopsIn (program_fault_text f ++ more) old new
 
 -- the text was printed whole, and the outcome is this status; or the output stopped within it, and the outcome says so
 abbrev pub Prints : List ℕ → Status → SinkState → SinkState → Outcome → Type 0

@@ -16,7 +16,7 @@ use Rattle.ira_main_files.specs.declared.shelf_fault.ShelfFault.{ShelfFault}
 use Rattle.ira_main_files.specs.declared.shelf_fault.ShelfFault.TheVariants as shelf
 use Rattle.ira_main.specs.declared.program_fault.ProgramFault.{ProgramFault}
 use Rattle.ira_main.specs.declared.program_fault.ProgramFault.TheVariants.{CannotRead, CannotReadSome, CannotWrite, CannotWriteAnswer}
-use Rattle.ira_main.specs.declared.program_fault.ProgramFault.TheVariants.{CannotWriteLog, OutOfMemory, Refused, WordIsNoText}
+use Rattle.ira_main.specs.declared.program_fault.ProgramFault.TheVariants.{CannotWriteLog, OtherEnding, OutOfMemory, Refused, WordIsNoText}
 use Rattle.ira_main.specs.declared.program_fault.ProgramFault.TheVariants.{Words, WouldOverwrite}
 
 -- the status of a fault
@@ -62,6 +62,7 @@ program_fault_text (CannotReadSome names) = flat_map unread_text names.items
 program_fault_text (Refused fault) = command_fault_text fault
 program_fault_text (CannotWriteLog folder place) =
     codes "ira: cannot write " ++ printed_name (Log folder place) ++ codes "\n"
+program_fault_text (OtherEnding name) = codes "ira: --out ends in neither .svg nor .html: " ++ shown name.now ++ codes "\n"
 program_fault_text (WouldOverwrite name) = codes "ira: would overwrite " ++ printed_name name ++ codes "\n"
 program_fault_text (CannotWrite name) = codes "ira: cannot write " ++ shown name.now ++ codes "\n"
 program_fault_text CannotWriteAnswer = codes "ira: cannot write the answer\n"

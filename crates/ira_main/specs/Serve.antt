@@ -34,7 +34,7 @@ use Rattle.ira_main_files.specs.Shelf.{Reading, Writing}
 use Rattle.ira_main_files.specs.declared.file_name.FileName.{FileName}
 use Rattle.ira_main.specs.AskedRun.{run_of}
 use Rattle.ira_main.specs.Delivery.{Tells, TellsAndKeeps, TellsAndRecords}
-use Rattle.ira_main.specs.Draw.{DrawsLogs}
+use Rattle.ira_main.specs.Draw.{DrawsLogs, IsUndrawn}
 use Rattle.ira_main.specs.Each.{JudgesEach}
 use Rattle.ira_main.specs.Explain.{ExplainsCheckIn, ExplainsFindingsOf, ExplainsInput, ExplainsLogsOf}
 use Rattle.ira_main.specs.Given.{IsNoMemory, IsUnread, OfFiles}
@@ -118,8 +118,7 @@ pub data CommandOutcome (A : Type 0) {S : Type 0} (reads : Reading S) (writes : 
   drawn : (draw : DrawRequest) → IsDrawLine words draw
       → TellsAndKeeps writes (Some draw.picture)
       (OfFiles reads (Some draw.picture) (question_of draw.moment) None draw.logs shelf (DrawsLogs A draw))
-      (IsUnread reads (Some draw.picture) (question_of draw.moment) None draw.logs shelf)
-      shelf shelf' out out' outcome
+      (IsUndrawn reads draw shelf) shelf shelf' out out' outcome
       → CommandOutcome A reads writes words shelf shelf' out out' outcome
   certified : (check : CheckRequest) → IsCheckLine words check → shelf' ≡ shelf
       → TellsOfCertificate reads check.question check.certificate check.logs shelf out out' outcome

@@ -1,5 +1,6 @@
 -- The names of the files that logs come from.
-use Rattle.std.specs.Prelude.{◌≡◌, ◌<◌, ◌≤◌, ◌⊎◌, ℕ, List, [], ◌∷◌, Ok, length, map}
+use Rattle.std.specs.Prelude.{◌≡◌, ◌≢◌, ◌<◌, ◌≤◌, ◌⊎◌, ℕ, List, [], ◌∷◌, Ok, length, map}
+use Rattle.std.specs.Borrow.{Bor}
 use Rattle.std.specs.List.{range_with_len}
 use Rattle.ira_event.specs.Limits.{MAX_TEXT}
 use Rattle.ira_event.specs.LogTextFault.{BeginsWithHead, BeginsWithNoHead}
@@ -8,6 +9,8 @@ use Rattle.ira_main_cli.specs.declared.log_source.LogSource.{LogSource}
 use Rattle.ira_main_cli.specs.declared.log_source.LogSource.TheVariants.{Files, Folder}
 use Rattle.ira_main_files.specs.FileName.{log_name}
 use Rattle.ira_main_files.specs.Shelf.{Reading}
+use Rattle.ira_main_files.specs.declared.file_entry.FileEntry.{FileEntry}
+use Rattle.ira_main_files.specs.declared.file_entry.FileEntry.TheVariants as entry
 use Rattle.ira_main_files.specs.declared.file_name.FileName.{FileName}
 use Rattle.ira_main_files.specs.declared.file_name.FileName.TheVariants.{Given, Log}
 use Rattle.ira_main.specs.FilesRead.{IsFilesFault}
@@ -21,15 +24,32 @@ pub data SaysLogs (text : List ℕ) (number : ℕ) : Type 0 where
       → number ≡ head.nodes → SaysLogs text number
   alone : (MAX_TEXT < length text) ⊎ BeginsWithNoHead text → number ≡ 1 → SaysLogs text number
 
--- the names of the logs of a source: those that are given; of a folder those of the first logs in it, as many as the
--- text that was read of its first one says
-abbrev pub HasNames : {S : Type 0} → Reading S → S → LogSource → List FileName → Type 0
-HasNames reads shelf (Files words) names = names ≡ map (λ word. Given word) words.items
-HasNames reads shelf (Folder folder) names =
+-- of the names that are given there is one alone, and it leads to a folder
+abbrev pub IsLoneFolder : {S : Type 0} → Reading S → S → List (Bor (List ℕ)) → Bor (List ℕ) → Type 0
+IsLoneFolder reads shelf words folder = (words ≡ folder ∷ []) × reads.entry shelf folder.now entry.Folder
+
+-- or else these are taken as those of files
+abbrev pub AreFileNames : {S : Type 0} → Reading S → S → List (Bor (List ℕ)) → Type 0
+AreFileNames reads shelf words = (word : Bor (List ℕ)) → words ≡ word ∷ []
+    → (found : FileEntry) × reads.entry shelf word.now found × (found ≢ entry.Folder)
+
+-- the names of the first logs in a folder, as many as the text that was read of its first one says
+abbrev pub HasFolderNames : {S : Type 0} → Reading S → S → Bor (List ℕ) → List FileName → Type 0
+HasFolderNames reads shelf folder names =
     (text : List ℕ) × reads.text shelf (log_name folder.now 0) (Ok text)
     × (number : ℕ) × SaysLogs text number × (names ≡ map (λ place. Log folder place) (range_with_len 0 number))
 
+-- the names of the logs of a source: those that are given, or those in a folder
+abbrev pub HasNames : {S : Type 0} → Reading S → S → LogSource → List FileName → Type 0
+HasNames reads shelf (Files words) names =
+    (AreFileNames reads shelf words.items × (names ≡ map (λ word. Given word) words.items))
+    ⊎ ((folder : Bor (List ℕ)) × IsLoneFolder reads shelf words.items folder × HasFolderNames reads shelf folder names)
+HasNames reads shelf (Folder folder) names = HasFolderNames reads shelf folder names
+
 -- why there are none: the first log of a folder wasn't read, or memory ran out
 abbrev pub IsNamesFault : {S : Type 0} → Reading S → S → LogSource → ProgramFault → Type 0
-IsNamesFault reads shelf (Files words) f = f ≡ OutOfMemory
+IsNamesFault reads shelf (Files words) f =
+    ((folder : Bor (List ℕ)) × IsLoneFolder reads shelf words.items folder
+    × IsFilesFault reads (log_name folder.now 0 ∷ []) shelf f)
+    ⊎ (f ≡ OutOfMemory)
 IsNamesFault reads shelf (Folder folder) f = IsFilesFault reads (log_name folder.now 0 ∷ []) shelf f

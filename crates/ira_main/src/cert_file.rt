@@ -1,4 +1,4 @@
-ghost use Rattle.std.specs.Prelude.{◌≡◌};
+ghost use Rattle.std.specs.Prelude.{◌≡◌, []};
 ghost use Rattle.ira_cert_text.specs.Certificate as certificate;
 ghost use Rattle.ira_cert_text.specs.CertText.{cert_text};
 ghost use Rattle.ira_main_files.specs.Shelf.{MakesFile, writing_by};
@@ -58,8 +58,8 @@ pub fn keep_cert<A: Allocator, F: Shelf, V: Sink>(
     ensures { (outcome : Outcome)
         × KeepsCertificate (writing_by F.creates F.closes F.keeps F.Out.state) certificate.now name.entry
         shelf.old shelf.new outcome
-        × (result ≡ outcome_number outcome) × ReportsOutcome outcome (V.state err.old) (V.state err.new) }
+        × (result ≡ outcome_number outcome) × ReportsOutcome outcome [] (V.state err.old) (V.state err.new) }
 {
     let outcome = keep(certificate, name, shelf);
-    report_outcome(outcome, err)
+    report_outcome(outcome, b"", err)
 }

@@ -1,7 +1,7 @@
-ghost use Rattle.std.specs.Prelude.{◌≡◌, IfOk, MatchResult, None, Some, length};
+ghost use Rattle.std.specs.Prelude.{◌≡◌, IfOk, MatchOption, MatchResult, None, Some, length};
 ghost use Rattle.ira_commands.specs.declared.ring_form.RingForm.TheVariants.{Html};
-ghost use Rattle.ira_main.specs.Draw.{DrawsLogs, columns_of, names_page};
-ghost use Rattle.ira_main.specs.Given.{IsUnread, OfFiles};
+ghost use Rattle.ira_main.specs.Draw.{DrawsLogs, HasOtherEnding, IsDrawnForm, IsUndrawn, columns_of};
+ghost use Rattle.ira_main.specs.Given.{OfFiles};
 ghost use Rattle.ira_main.specs.Moment.{question_of};
 ghost use Rattle.ira_main.specs.NamedFile.{names_in, texts_in};
 ghost use Rattle.ira_main.specs.Show.{ShowsLogsAt};
@@ -19,14 +19,8 @@ use ira_main_files::{FileName, Shelf};
 use ira_view::judge_texts;
 use ira_view_picture::ColumnRange;
 use std::alloc::Allocator;
+use std::path::Path;
 use std::thread::Threads;
-
-/// Whether a name is that of a page.
-fn is_page(name: &str) -> bool
-    ensures { result ≡ names_page name.now }
-{
-    name.as_bytes().ends_with(b".html")
-}
 
 /// The columns that are asked for.
 fn columns_of(draw: &DrawRequest<'_>) -> ColumnRange
@@ -35,6 +29,17 @@ fn columns_of(draw: &DrawRequest<'_>) -> ColumnRange
     ColumnRange {
         from: draw.from,
         to: draw.to,
+    }
+}
+
+/// The form of what is drawn into a file of this name, by its ending; none where that is neither `.svg` nor `.html`.
+fn form_of(name: &str, columns: ColumnRange) -> Option<RingForm<'static>>
+    ensures { MatchOption result (HasOtherEnding name.now) (IsDrawnForm name.now columns) }
+{
+    match Path::new(name).extension() {
+        Some(ending) if ending.eq_ignore_ascii_case("html") => Some(RingForm::Html(columns)),
+        Some(ending) if !ending.eq_ignore_ascii_case("svg") => None,
+        _ => Some(RingForm::Picture(columns)),
     }
 }
 
@@ -67,8 +72,8 @@ fn draw_read<R: Threads, A: Allocator + Clone + Sync>(
     )
 }
 
-/// Draws the logs of a source: a picture, or a page to move in one, where the name of the file that is made is that of a page.
-/// For a page the texts are kept, since it tells of a no with their lines.
+/// Draws the logs of a source: a picture, or a page to move in one. For a page the texts are kept, since it tells of a no
+/// with their lines.
 pub(crate) fn draw_files<'a, R, A, F>(
     rt: &R,
     alloc: A,
@@ -82,20 +87,22 @@ where
     ensures { MatchResult result
         (OfFiles F.reads (Some draw.now.picture) (question_of draw.now.moment) None draw.now.logs shelf.now
         (DrawsLogs A draw.now))
-        (IsUnread F.reads (Some draw.now.picture) (question_of draw.now.moment) None draw.now.logs shelf.now) }
+        (IsUndrawn F.reads draw.now shelf.now) }
 {
+    let Some(form) = form_of(draw.picture, columns_of(draw)) else {
+        return Err(ProgramFault::OtherEnding(draw.picture));
+    };
     let inputs = Inputs {
         question: question_of(&draw.moment),
         certificate: None,
         logs: &draw.logs,
         made: Some(draw.picture),
     };
-    if is_page(draw.picture) {
+    if let RingForm::Html(_) = form {
         let GivenTexts { first, logs } = read_given_texts(&alloc, inputs, shelf)?;
         return Ok(draw_read(rt, alloc, draw, first.question.bytes(), &first.names, &logs)?);
     }
     let Given { first, audit } = read_given(rt, &alloc, inputs, shelf)?;
-    let form = RingForm::Picture(columns_of(draw));
     let question = first.question.bytes();
     Ok(show_taken(rt, alloc, form, &draw.moment, question, &first.names, audit)?)
 }

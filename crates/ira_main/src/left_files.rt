@@ -1,12 +1,12 @@
 ghost use Rattle.std.specs.Prelude.{◌∷◌, [], IfErr, IfOk, MatchResult, Ok};
 ghost use Rattle.ira_main_files.specs.FileName.{file_name};
-ghost use Rattle.ira_main_cli.specs.declared.log_source.LogSource.TheVariants.{Folder};
 ghost use Rattle.ira_main.specs.FilesRead.{IsFilesFault, names_of};
-ghost use Rattle.ira_main.specs.LeftFiles.{HasLeftFiles, HasLeftNames, IsLeftFault, IsLeftNamesFault, SaysLeft, left_by};
+ghost use Rattle.ira_main.specs.LeftFiles.{HasLeftFiles, HasLeftInFolder, HasLeftNames, IsLeftFault, IsLeftFolderFault};
+ghost use Rattle.ira_main.specs.LeftFiles.{IsLeftNamesFault, SaysLeft, left_by};
 
 use crate::program_fault::ProgramFault;
 use crate::read_files::read_in_turn;
-use crate::source_names::{given_names, names_in_folder, number_of_logs};
+use crate::source_names::{given_names, lone_folder, names_in_folder, number_of_logs};
 use ira_event::MAX_NODES;
 use ira_main_cli::LogSource;
 use ira_main_files::{FileName, ShelfFault, TextBuffer, TextSource};
@@ -41,7 +41,7 @@ fn number_left<'a, A: Allocator + Clone, F: TextSource>(
     shelf: &F,
 ) -> Result<u8, ProgramFault<'a>>
     ensures { MatchResult result (SaysLeft F.reads shelf.now folder.now)
-        (IsLeftNamesFault F.reads shelf.now (Folder folder.entry)) }
+        (IsLeftFolderFault F.reads shelf.now folder.now) }
 {
     let mut text = TextBuffer::new(alloc.clone()?);
     for place in 0..MAX_NODES as u8 {
@@ -54,6 +54,19 @@ fn number_left<'a, A: Allocator + Clone, F: TextSource>(
     Ok(1)
 }
 
+/// The names of the files of as many logs as a folder has.
+fn names_left<'a, A: Allocator + Clone, F: TextSource>(
+    alloc: &A,
+    folder: &'a str,
+    shelf: &F,
+) -> Result<Vec<FileName<'a>, A>, ProgramFault<'a>>
+    ensures { MatchResult result (λ names. HasLeftInFolder F.reads shelf.now folder.entry names.items)
+        (IsLeftFolderFault F.reads shelf.now folder.now) }
+{
+    let number = number_left(alloc, folder, shelf)?;
+    Ok(names_in_folder(alloc.clone()?, folder, number)?)
+}
+
 /// The names of the files of which the logs to mend are what is left.
 pub(crate) fn left_names<'a, A: Allocator + Clone, F: TextSource>(
     alloc: &A,
@@ -64,11 +77,11 @@ pub(crate) fn left_names<'a, A: Allocator + Clone, F: TextSource>(
         (IsLeftNamesFault F.reads shelf.now source.now) }
 {
     match source {
-        LogSource::Files(words) => Ok(given_names(alloc.clone()?, words)?),
-        LogSource::Folder(folder) => {
-            let number = number_left(alloc, folder, shelf)?;
-            Ok(names_in_folder(alloc.clone()?, folder, number)?)
-        }
+        LogSource::Files(words) => match lone_folder(words, shelf) {
+            Some(folder) => names_left(alloc, folder, shelf),
+            None => Ok(given_names(alloc.clone()?, words)?),
+        },
+        LogSource::Folder(folder) => names_left(alloc, folder, shelf),
     }
 }
 

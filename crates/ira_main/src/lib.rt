@@ -27,6 +27,7 @@ mod shown_name;
 mod source_names;
 mod system;
 mod tell_unread;
+mod tell_why;
 mod text_file;
 mod upgrade_files;
 mod version;

@@ -1,11 +1,11 @@
-ghost use Rattle.std.specs.Prelude.{◌≡◌, ◌≤◌, ◌+◌, MatchResult, map};
+ghost use Rattle.std.specs.Prelude.{◌≡◌, ◌≤◌, ◌+◌, ℕ, List, MatchResult, map};
 ghost use Rattle.ira_event.specs.Sink.{SinkState};
 ghost use Rattle.ira_commands.specs.Pairs.{AsksPairs};
 ghost use Rattle.ira_main_files.specs.Shelf.{writing_by};
 ghost use Rattle.ira_main.specs.Given.{IsNoMemory};
 ghost use Rattle.ira_main.specs.Outcome.{Outcome, ReportsOutcome, outcome_number};
 ghost use Rattle.ira_main.specs.Progress.{ServesOrLeaves};
-ghost use Rattle.ira_main.specs.Unread.{TellsUnread, wants_json};
+ghost use Rattle.ira_main.specs.Unread.{IsWhy, TellsUnread, wants_json};
 ghost use Rattle.ira_main.specs.Serve.{Serves};
 
 use crate::asked_run::{record_run_alone, record_run_on_threads};
@@ -22,6 +22,7 @@ use crate::program_fault::{ProgramFault, report_outcome};
 use crate::progress::Progress;
 use crate::show_files::show_files;
 use crate::tell_unread::tell_unread;
+use crate::tell_why::why_unread;
 use crate::upgrade_files::upgrade_files;
 use crate::version::print_version;
 use ira_commands::{Reply, ask_pairs};
@@ -229,9 +230,12 @@ where
         (map (λ word. word.now) words.now) input.old input.new shelf.old shelf.new
         (W.state out.old) told outcome
         × TellsUnread (wants_json (map (λ word. word.now) words.now)) outcome told (W.state out.new)
-        × (result ≡ outcome_number outcome) × ReportsOutcome outcome (V.state err.old) (V.state err.new) }
+        × (result ≡ outcome_number outcome)
+        × (why : List ℕ) × IsWhy F.reads shelf.new outcome why
+        × ReportsOutcome outcome why (V.state err.old) (V.state err.new) }
 {
     let outcome = execute(rt, &alloc, words, input, shelf, out);
+    let why = why_unread(&alloc, &outcome, shelf);
     tell_unread(alloc, words, &outcome, out);
-    report_outcome(outcome, err)
+    report_outcome(outcome, why, err)
 }

@@ -30,6 +30,8 @@ pub enum ProgramFault<'a> {
     Refused(CommandFault),
     /// The log of the node at this place can't be written to its file in this folder.
     CannotWriteLog(&'a str, u8),
+    /// A picture or a page was to be drawn into the file of this name, which ends as neither does.
+    OtherEnding(&'a str),
     /// A new file would be written over the one of this name, which is one of the input.
     WouldOverwrite(FileName<'a>),
     /// A certificate or a picture can't be written to the file of this name.
@@ -98,6 +100,12 @@ impl<'a> ProgramFault<'a> {
             ProgramFault::CannotWriteLog(folder, place) => {
                 write_file_named(b"ira: cannot write ", FileName::Log(folder, *place), err)
             }
+            ProgramFault::OtherEnding(name) => write_named(
+                b"ira: --out ends in neither .svg nor .html: ",
+                name,
+                &line_feed(),
+                err,
+            ),
             ProgramFault::WouldOverwrite(name) => {
                 write_file_named(b"ira: would overwrite ", *name, err)
             }
@@ -107,6 +115,15 @@ impl<'a> ProgramFault<'a> {
             ProgramFault::CannotWriteAnswer => write_bytes(b"ira: cannot write the answer\n", err),
             ProgramFault::OutOfMemory => write_bytes(b"ira: out of memory\n", err),
         }
+    }
+
+    /// Writes its line to `err`, and this after it.
+    #[tactic(auto, using(ira_event::proofs::Writing::writes))]
+    fn write_with<V: Sink>(&self, more: &[u8], err: &mut V) -> Result<(), WriteFault>
+        ensures { Wrote result (program_fault_text self.now ++ more.now) (V.state err.old) (V.state err.new) }
+    {
+        self.write(err)?;
+        write_bytes(more, err)
     }
 }
 
@@ -170,17 +187,21 @@ fn write_named<V: Sink>(
     rest.write(err)
 }
 
-/// The number of the status that the program ends with. A fault is written to `err`; where `err` fails the
-/// status stays.
+/// The number of the status that the program ends with. A fault is written to `err`, and what is told after it; where
+/// `err` fails the status stays.
 #[tactic(auto, using(crate::proofs::Reporting::reported))]
-pub(crate) fn report_outcome<V: Sink>(outcome: Result<Status, ProgramFault<'_>>, err: &mut V) -> u8
+pub(crate) fn report_outcome<V: Sink>(
+    outcome: Result<Status, ProgramFault<'_>>,
+    more: &[u8],
+    err: &mut V,
+) -> u8
     ensures number { result ≡ outcome_number outcome.entry }
-    ensures reported { ReportsOutcome outcome.entry (V.state err.old) (V.state err.new) }
+    ensures reported { ReportsOutcome outcome.entry more.now (V.state err.old) (V.state err.new) }
 {
     match outcome {
         Ok(status) => status.number(),
         Err(fault) => {
-            let _ = fault.write(err);
+            let _ = fault.write_with(more, err);
             fault.status().number()
         }
     }

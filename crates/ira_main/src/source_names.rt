@@ -1,13 +1,15 @@
-ghost use Rattle.std.specs.Prelude.{◌≡◌, IfOk, MatchResult, length, map};
+ghost use Rattle.std.specs.Prelude.{◌≡◌, [], ◌∷◌, IfOk, MatchOption, MatchResult, length, map};
 ghost use Rattle.std.specs.List.{range_with_len};
 ghost use Rattle.ira_main_files.specs.declared.file_name.FileName.TheVariants.{Given, Log};
-ghost use Rattle.ira_main.specs.SourceNames.{HasNames, IsNamesFault, SaysLogs};
+ghost use Rattle.ira_main_files.specs.FileName.{log_name};
+ghost use Rattle.ira_main.specs.FilesRead.{IsFilesFault};
+ghost use Rattle.ira_main.specs.SourceNames.{AreFileNames, HasFolderNames, HasNames, IsLoneFolder, IsNamesFault, SaysLogs};
 
 use crate::program_fault::ProgramFault;
 use crate::read_files::read_file;
 use ira_event::open_log;
 use ira_main_cli::LogSource;
-use ira_main_files::{FileName, TextSource};
+use ira_main_files::{FileEntry, FileName, TextSource};
 use std::alloc::{AllocError, Allocator};
 
 /// How many logs there are, by the text of one; one where it has no head.
@@ -61,8 +63,33 @@ pub(crate) fn paths<A: Allocator + Clone>(
     Ok(paths)
 }
 
-/// The names of the files that logs come from. Of a folder the first log is read, which says how many there are; it is read
-/// again with the others.
+/// The folder that is named alone where names of files are due.
+pub(crate) fn lone_folder<'a, F: TextSource>(words: &[&'a str], shelf: &F) -> Option<&'a str>
+    ensures { MatchOption result
+        (AreFileNames F.reads shelf.now words.now)
+        (IsLoneFolder F.reads shelf.now words.now) }
+{
+    match words {
+        [word] if matches!(shelf.look_up(word), FileEntry::Folder) => Some(word),
+        _ => None,
+    }
+}
+
+/// The names of the logs in a folder. The first is read, which says how many there are; it is read again with the others.
+fn folder_names<'a, A: Allocator + Clone, F: TextSource>(
+    alloc: &A,
+    folder: &'a str,
+    shelf: &F,
+) -> Result<Vec<FileName<'a>, A>, ProgramFault<'a>>
+    ensures { MatchResult result (λ names. HasFolderNames F.reads shelf.now folder.entry names.items)
+        (IsFilesFault F.reads (log_name folder.now 0 ∷ []) shelf.now) }
+{
+    let first = read_file(alloc, FileName::Log(folder, 0), shelf)?;
+    let number = number_of_logs(first.bytes());
+    Ok(names_in_folder(alloc.clone()?, folder, number)?)
+}
+
+/// The names of the files that logs come from.
 pub(crate) fn source_names<'a, A: Allocator + Clone, F: TextSource>(
     alloc: &A,
     source: &LogSource<'a>,
@@ -72,11 +99,10 @@ pub(crate) fn source_names<'a, A: Allocator + Clone, F: TextSource>(
         (IsNamesFault F.reads shelf.now source.now) }
 {
     match source {
-        LogSource::Files(words) => Ok(given_names(alloc.clone()?, words)?),
-        LogSource::Folder(folder) => {
-            let first = read_file(alloc, FileName::Log(folder, 0), shelf)?;
-            let number = number_of_logs(first.bytes());
-            Ok(names_in_folder(alloc.clone()?, folder, number)?)
-        }
+        LogSource::Files(words) => match lone_folder(words, shelf) {
+            Some(folder) => folder_names(alloc, folder, shelf),
+            None => Ok(given_names(alloc.clone()?, words)?),
+        },
+        LogSource::Folder(folder) => folder_names(alloc, folder, shelf),
     }
 }

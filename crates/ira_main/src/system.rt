@@ -77,6 +77,6 @@ where
     let mut err = ToWriter::new(err);
     match serve_system(rt, input, out, &mut err) {
         Ok(status) => ExitCode::from(status),
-        Err(fault) => ExitCode::from(report_outcome(Err(fault), &mut err)),
+        Err(fault) => ExitCode::from(report_outcome(Err(fault), b"", &mut err)),
     }
 }

@@ -10,7 +10,7 @@ returns-in-CannotWriteLog g c =
 
 pub returns-in-CannotWrite : goal.returns-in-CannotWrite
 returns-in-CannotWrite g c =
-    rw c.in-CannotWrite.is (rw c.line_feed.ensures at c.write_named.ensures)
+    rw c.in-CannotWrite.is (rw c.line_feed-in-CannotWrite.ensures at c.write_named-in-CannotWrite.ensures)
 
 pub returns-in-WouldOverwrite : goal.returns-in-WouldOverwrite
 returns-in-WouldOverwrite g c =
