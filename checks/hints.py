@@ -145,7 +145,7 @@ def verdict(case, hints):
         return 'none'
     found = []
     for hint in hints:
-        blamed = re.findall(r'(?:^|: )node (\d+) records', hint)
+        blamed = re.findall(r'(?:^|: |perhaps )node (\d+) records', hint)
         if re.search(case.right, hint) and all(int(node) == case.node for node in blamed):
             found.append('right')
         elif 'perhaps' in hint:

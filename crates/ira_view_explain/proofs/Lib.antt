@@ -1,7 +1,10 @@
 mod Findings
 mod HeadNumbers
+mod LinkHints
 mod LogFiles
+mod Places
 mod Reading
 mod Reorderings
+mod RingHints
 mod StopHints
 mod Told

@@ -1,6 +1,9 @@
-ghost use Rattle.std.specs.Prelude.{◌<◌, IfOk, length};
+ghost use Rattle.std.specs.Prelude.{◌≡◌, ◌<◌, IfOk, length};
 ghost use Rattle.ira_order.specs.MatchFault.{IsMatchFault};
+ghost use Rattle.ira_order.specs.Matching.{got, sent};
+ghost use Rattle.ira_order.specs.Ring.{log_of, next};
 ghost use Rattle.ira_view_evidence.specs.LinkEvidence.{IsLinkEvidence};
+ghost use Rattle.ira_view_explain.specs.RingHint.{Fits};
 
 use crate::link_hint::LinkHint;
 use crate::ring_files::RingFiles;
@@ -32,12 +35,17 @@ pub(crate) struct FaultyLink<'a, 'l, A: Allocator> {
     pub(crate) causes: Vec<LinkHint<'a, &'l A>, &'l A>,
     ghost writer_is_there: { link < length logs.now },
     ghost reader_is_there: { reader < length logs.now },
+    ghost reader_is_next: { reader ≡ next (length logs.now) link },
+    ghost is_faulty: { ¬ (Fits logs.now link) },
+    ghost sent_is: { sides.sent.items ≡ sent (log_of logs.now link) },
+    ghost received_is: { sides.received.items ≡ got (log_of logs.now reader) },
 }
 
 /// The link and the receipt that a fault names.
 fn receipt_of<A: Allocator>(logs: &Logs<A>, fault: MatchFault) -> (u8, u32)
     requires { IsMatchFault logs.now fault }
-    ensures { result.0 < length logs.now }
+    ensures place { result.0 < length logs.now }
+    ensures fault { ¬ (Fits logs.now result.0) }
 {
     match fault {
         MatchFault::NoSending { link, k } | MatchFault::Differs { link, k } => (link, k),

@@ -1,4 +1,5 @@
-ghost use Rattle.std.specs.Prelude.{◌≤◌, IfOk};
+ghost use Rattle.std.specs.Prelude.{◌≤◌, ◌<◌, ℕ, All, IfOk, IfSome, MatchOption};
+ghost use Rattle.ira_view_explain.specs.HeadsHint.{HasNoPlace, IsOfPlace, IsSo};
 ghost use Rattle.ira_view_explain.specs.HeadsTold.{AreHeads, AreHeadsTold, AreLogFiles};
 ghost use Rattle.ira_view_page.specs.Printable.{IsPrintable};
 
@@ -83,16 +84,26 @@ fn read_heads<A: Allocator>(
     Ok(heads)
 }
 
-/// Whether a log of this place is there.
-fn has_place(heads: &[LogHead], place: u8) -> bool {
-    heads.iter().any(|head| head.place == place)
+/// The number of the first head of this place, from one on.
+fn head_of(heads: &[LogHead], from: usize, place: u8) -> Option<usize>
+    ensures { MatchOption result ((i : ℕ) → from ≤ i → ¬ (IsOfPlace heads.now i place))
+        (λ i. (from ≤ i) × IsOfPlace heads.now i place) }
+{
+    for i in from..heads.len() {
+        if heads[i].place == place {
+            return Some(i);
+        }
+    }
+    None
 }
 
 /// The place of the first log whose place another one has too.
-fn repeated_place(heads: &[LogHead]) -> Option<u8> {
+fn repeated_place(heads: &[LogHead]) -> Option<u8>
+    ensures { IfSome result (λ place. (i j : ℕ) × (i < j) × IsOfPlace heads.now i place × IsOfPlace heads.now j place) }
+{
     for i in 0..heads.len() {
         let place = heads[i].place;
-        if has_place(&heads[i + 1..], place) {
+        if head_of(heads, i + 1, place).is_some() {
             return Some(place);
         }
     }
@@ -104,10 +115,12 @@ fn missing_places<A: Allocator>(
     alloc: A,
     heads: &[LogHead],
     nodes: u8,
-) -> Result<Vec<u8, A>, OutOfMemory> {
+) -> Result<Vec<u8, A>, OutOfMemory>
+    ensures { IfOk result (λ places. All (HasNoPlace heads.now) places.items) }
+{
     let mut places = Vec::new(alloc);
     for place in 0..nodes {
-        if !has_place(heads, place) {
+        if head_of(heads, 0, place).is_none() {
             places.push(place)?;
         }
     }
@@ -119,7 +132,9 @@ fn hint_of<A: Allocator>(
     alloc: A,
     heads: &[LogHead],
     fault: HeadFault,
-) -> Result<Option<HeadsHint<A>>, OutOfMemory> {
+) -> Result<Option<HeadsHint<A>>, OutOfMemory>
+    ensures { IfOk result (λ found. IfSome found (IsSo heads.now)) }
+{
     let Some(first) = heads.first() else {
         return Ok(None);
     };

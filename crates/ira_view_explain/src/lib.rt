@@ -21,6 +21,8 @@ mod link_search;
 mod load_differences;
 mod missing_search;
 mod numbered;
+mod numbering;
+mod other_faults;
 mod place_list;
 mod refused_finding;
 mod reordering;

@@ -1,5 +1,6 @@
 ghost use Rattle.ira_view_page.specs.Printable.{IsPrintable};
 
+use crate::other_faults::OtherFaults;
 use crate::ring_hint::RingHint;
 use crate::rows_hint::RowsHint;
 use ira_event::Load;
@@ -19,7 +20,7 @@ pub(crate) enum LinkHint<'a, A: Allocator> {
         file: &'a str,
         line: usize,
     },
-    /// Each sending without a receipt is one that the reader drops, this one first.
+    /// Each sending without a receipt is one that the reader drops, this one first, in this state.
     Dropped {
         reader: u8,
         state: NodeState,
@@ -40,7 +41,7 @@ pub(crate) enum LinkHint<'a, A: Allocator> {
     },
     /// So many sendings have no receipt, not one after the other.
     SeveralLost {
-        count: u32,
+        count: usize,
     },
     /// This receipt is of the load before it.
     CameTwice {
@@ -49,7 +50,7 @@ pub(crate) enum LinkHint<'a, A: Allocator> {
     },
     /// So many receipts are of the loads before them.
     SeveralTwice {
-        count: u32,
+        count: usize,
         writer: u8,
     },
     /// From this sending on, so many aren't recorded.
@@ -91,15 +92,17 @@ fn add_numbers<A: Allocator>(text: &mut Page<A>, one: &str, several: &str, first
 }
 
 impl<A: Allocator> LinkHint<'_, A> {
-    /// Whether a cause of the ring is likelier, where so many other links don't match: that a node is missing on this one,
+    /// Whether a cause of the ring is likelier, where these other links don't match: that a node is missing on this one,
     /// or that there are logs of two runs.
-    pub(crate) fn is_doubtful(&self, others: u32) -> bool {
+    pub(crate) fn is_doubtful(&self, others: OtherFaults) -> bool {
         match self {
             LinkHint::NoReceipt { count, .. } | LinkHint::NoSending { count, .. } => {
-                others == 0 && *count > 1
+                others == OtherFaults::None && *count > 1
             }
-            LinkHint::Rows(RowsHint::HopOfOneSide) => others == 0,
-            LinkHint::Rows(RowsHint::Each(LoadDifference::OneField(LoadField::Id))) => others == 1,
+            LinkHint::Rows(RowsHint::HopOfOneSide) => others == OtherFaults::None,
+            LinkHint::Rows(RowsHint::Each(LoadDifference::OneField(LoadField::Id))) => {
+                matches!(others, OtherFaults::One(_))
+            }
             _ => false,
         }
     }

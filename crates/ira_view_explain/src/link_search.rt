@@ -1,9 +1,11 @@
-ghost use Rattle.std.specs.Prelude.{◌↔◌, IfOk, IfSome, IsTrue};
+ghost use Rattle.std.specs.Prelude.{◌↔◌, All, IfOk, IfSome, IsTrue};
 ghost use Rattle.ira_view_evidence.specs.LinkCause.{Explains};
 ghost use Rattle.ira_view_explain.specs.LinkHint.{IsSo};
+ghost use Rattle.ira_view_explain.specs.RingHint.{AreOtherFaults};
 
 use crate::faulty_link::FaultyLink;
 use crate::link_hint::LinkHint;
+use crate::other_faults::OtherFaults;
 use crate::reordering::{are_reordered, place_of};
 use ira_event::OutOfMemory;
 use ira_view_evidence::LinkCause;
@@ -27,7 +29,7 @@ impl<'a, 'l, A: Allocator + Clone> FaultyLink<'a, 'l, A> {
 
     /// Where receipts are the sendings of their numbers in another order, and the others are their sendings.
     fn reordered(&self) -> Result<Option<LinkHint<'a, &'l A>>, OutOfMemory>
-        ensures { IfOk result (λ found. IfSome found (IsSo self.now.sides.sent.items self.now.sides.received.items)) }
+        ensures { IfOk result (λ found. IfSome found (IsSo self.now)) }
     {
         let (first, last) = (self.k, self.last_difference());
         let (from, to) = ((first as usize).saturating_sub(1), last as usize);
@@ -54,20 +56,21 @@ impl<'a, 'l, A: Allocator + Clone> FaultyLink<'a, 'l, A> {
 
     /// The sending before the named receipt's, where that is the same and was received once.
     fn sent_twice(&self) -> Option<LinkHint<'a, &'l A>>
-        ensures { IfSome result (IsSo self.now.sides.sent.items self.now.sides.received.items) }
+        ensures { IfSome result (IsSo self.now) }
     {
-        let sent = &self.sides.sent;
-        let before = sent.get((self.k as usize).checked_sub(2)?)?;
-        let again = sent.get((self.k as usize).checked_sub(1)?)?;
-        if before == again && self.is_explained_by(LinkCause::NoReceipt(1)) {
-            return Some(LinkHint::SentTwice { sending: self.k });
+        let (sent, again) = (self.sides.sent.as_slice(), self.k as usize);
+        if again < 2 || again > sent.len() || sent[again - 2] != sent[again - 1] {
+            return None;
         }
-        None
+        if !self.is_explained_by(LinkCause::NoReceipt(1)) {
+            return None;
+        }
+        Some(LinkHint::SentTwice { sending: self.k })
     }
 
     /// Where sendings have no receipt, or receipts no sending, one after the other.
     fn missing_run(&self) -> Option<LinkHint<'a, &'l A>>
-        ensures { IfSome result (IsSo self.now.sides.sent.items self.now.sides.received.items) }
+        ensures { IfSome result (IsSo self.now) }
     {
         let (first, writer) = (self.k, self.link);
         let from = (first as usize).saturating_sub(1);
@@ -98,7 +101,9 @@ impl<'a, 'l, A: Allocator + Clone> FaultyLink<'a, 'l, A> {
     }
 
     /// What is missing on one side, where nothing is dropped or something.
-    fn missing(&self, has_dropped: bool) -> Option<LinkHint<'a, &'l A>> {
+    fn missing(&self, has_dropped: bool) -> Option<LinkHint<'a, &'l A>>
+        ensures { IfSome result (IsSo self.now) }
+    {
         let run = self.missing_run();
         if let Some(
             LinkHint::NoReceipt { count: 1, .. }
@@ -120,7 +125,9 @@ impl<'a, 'l, A: Allocator + Clone> FaultyLink<'a, 'l, A> {
     }
 
     /// The cause that explains all that was recorded of the link, where nothing that is missing does so.
-    fn whole_cause(&self) -> Result<Option<LinkHint<'a, &'l A>>, OutOfMemory> {
+    fn whole_cause(&self) -> Result<Option<LinkHint<'a, &'l A>>, OutOfMemory>
+        ensures { IfOk result (λ found. IfSome found (IsSo self.now)) }
+    {
         if let Some(hint) = self.owed_at_end() {
             return Ok(Some(hint));
         }
@@ -137,17 +144,17 @@ impl<'a, 'l, A: Allocator + Clone> FaultyLink<'a, 'l, A> {
     fn last_cause(
         &self,
         likely: Option<LinkHint<'a, &'l A>>,
-        others: (u32, u8),
-    ) -> Result<Option<LinkHint<'a, &'l A>>, OutOfMemory> {
-        let is_doubtful = match &likely {
-            Some(hint) => hint.is_doubtful(others.0),
-            None => true,
-        };
-        if is_doubtful {
-            let far = if others.0 == 0 {
-                self.node_between()?
-            } else {
-                self.two_runs(others)?
+        others: OtherFaults,
+    ) -> Result<Option<LinkHint<'a, &'l A>>, OutOfMemory>
+        requires others { AreOtherFaults self.now.logs.now self.now.link others }
+        requires likely { IfSome likely (IsSo self.now) }
+        ensures { IfOk result (λ found. IfSome found (IsSo self.now)) }
+    {
+        if likely.as_ref().is_none_or(|hint| hint.is_doubtful(others)) {
+            let far = match others {
+                OtherFaults::None => self.node_between()?,
+                OtherFaults::One(other) => self.two_runs(other),
+                OtherFaults::Several => None,
             };
             if let Some(hint) = far {
                 return Ok(Some(LinkHint::Ring(hint)));
@@ -160,9 +167,11 @@ impl<'a, 'l, A: Allocator + Clone> FaultyLink<'a, 'l, A> {
     }
 
     /// The causes that explain the ring or the link, where they are found.
-    pub(crate) fn find_causes(&self) -> Result<Vec<LinkHint<'a, &'l A>, &'l A>, OutOfMemory> {
+    pub(crate) fn find_causes(&self) -> Result<Vec<LinkHint<'a, &'l A>, &'l A>, OutOfMemory>
+        ensures { IfOk result (λ causes. All (IsSo self.now) causes.items) }
+    {
         let mut hints = Vec::new(self.alloc);
-        let others = self.other_faults();
+        let others = OtherFaults::find(self.logs, self.link);
         if let Some(hint) = self.ring_cause(others)? {
             hints.push(LinkHint::Ring(hint))?;
             return Ok(hints);

@@ -1,4 +1,5 @@
 use crate::load_differences::{exchanged, field_of, noun_of};
+use crate::numbering::Numbering;
 use crate::place_list::add_places;
 use ira_event::Load;
 use ira_view_evidence::{LoadDifference, LoadField};
@@ -8,10 +9,8 @@ use std::alloc::Allocator;
 /// A usual cause why a link doesn't match that speaks of the ring: it explains all links.
 #[derive(Drop)]
 pub(crate) enum RingHint<A: Allocator> {
-    /// Numbered the other way round all links match.
-    Backwards,
-    /// With these two nodes in each other's place all links match.
-    Exchanged(u8, u8),
+    /// Numbered so all links match.
+    Numbered(Numbering),
     /// In this order of the places all links match.
     OtherOrder(Vec<u8, A>),
     /// The logs from one place to another fit one another, and so do the others, and each is that of a node.
@@ -57,78 +56,14 @@ pub(crate) enum RingHint<A: Allocator> {
 /// At most so many places of an order are shown.
 const MOST_PLACES: usize = 16;
 
-/// The node at this place where two nodes have each other's place.
-fn node_at(place: u8, a: u8, b: u8) -> u8 {
-    if place == a {
-        b
-    } else if place == b {
-        a
-    } else {
-        place
-    }
-}
-
-/// Whether an order is that of the places with these two exchanged.
-fn has_exchanged(order: &[u8], a: u8, b: u8) -> bool {
-    let mut place = node_at(0, a, b);
-    for node in order {
-        if *node != node_at(place, a, b) {
-            return false;
-        }
-        place = place.saturating_add(1);
-        if usize::from(place) >= order.len() {
-            place = 0;
-        }
-    }
-    true
-}
-
-/// The two nodes that have each other's place in an order, where that is all.
-fn exchange_of(order: &[u8]) -> Option<(u8, u8)> {
-    for a in 0u8..255 {
-        for b in a..255 {
-            if usize::from(b) >= order.len() {
-                break;
-            }
-            if a < b && has_exchanged(order, a, b) {
-                return Some((a, b));
-            }
-        }
-    }
-    None
-}
-
-/// Whether each place but the first follows the greater one.
-fn is_backwards(order: &[u8]) -> bool {
-    let mut last = order.len();
-    for place in order.iter().skip(1) {
-        if usize::from(*place) + 1 != last {
-            return false;
-        }
-        last = last.saturating_sub(1);
-    }
-    true
-}
-
 impl<A: Allocator> RingHint<A> {
-    /// Of an order from place 0 on in which all links match.
-    pub(crate) fn of_order(order: Vec<u8, A>) -> RingHint<A> {
-        if is_backwards(&order) {
-            return RingHint::Backwards;
-        }
-        match exchange_of(&order) {
-            Some((a, b)) => RingHint::Exchanged(a, b),
-            None => RingHint::OtherOrder(order),
-        }
-    }
-
     /// Adds its sentence.
     pub(crate) fn print<P: Allocator>(&self, text: &mut Page<P>) {
         match self {
-            RingHint::Backwards => text.words(
+            RingHint::Numbered(Numbering::Backwards) => text.words(
                 "numbered the other way round, all links match: your node I sends to node I-1.",
             ),
-            RingHint::Exchanged(a, b) => {
+            RingHint::Numbered(Numbering::Exchanged(a, b)) => {
                 text.numbered("with nodes ", u32::from(*a));
                 text.numbered(" and ", u32::from(*b));
                 text.words(

@@ -1,25 +1,42 @@
-ghost use Rattle.std.specs.Prelude.{◌<◌, length};
+ghost use Rattle.std.specs.Prelude.{◌≡◌, ◌≢◌, ◌≤◌, ◌<◌, ℕ, IfOk, IfSome, IsTrue, length, take};
+ghost use Rattle.ira_order.specs.Ring.{log_of, next, prev};
+ghost use Rattle.ira_view_evidence.specs.LinkCause.{BeginsWith};
+ghost use Rattle.ira_view_evidence.specs.LoadDifference.{DifferAlike};
+ghost use Rattle.ira_view_explain.specs.RingHint.{AreOtherFaults, CanStand, IsOdd, IsPassedOn, IsSo, IsUnreceived, IsUnsent};
+ghost use Rattle.ira_view_explain.specs.RingHint.{OthersFit, RunsAt};
+ghost use Rattle.ira_view_explain.specs.declared.other_faults.OtherFaults.TheVariants as OtherFaults;
 
 use crate::faulty_link::FaultyLink;
 use crate::load_differences::DIFFERENCES;
+use crate::numbering::Numbering;
+use crate::other_faults::OtherFaults;
 use crate::ring_hint::RingHint;
 use ira_event::{Load, Logs, NodeLog, OutOfMemory, RingSize};
 use ira_order::{predecessor, successor};
 use ira_replay::replay;
-use ira_view_evidence::{LinkCause, LinkSides, find_log_between, find_ring_order, takes_from};
+use ira_view_evidence::{LinkSides, LoadDifference, find_log_between, find_ring_order};
 use std::alloc::Allocator;
 
 /// So many receipts at least have to speak for a log that is missing.
 const LEAST_RECEIPTS: usize = 3;
 
 /// Whether two logs have the same events.
-fn has_same_events<A: Allocator>(log: &NodeLog<A>, other: &NodeLog<A>) -> bool {
-    log.len() == other.len() && log.events().zip(other.events()).all(|(a, b)| a == b)
+fn has_same_events<A: Allocator>(log: &NodeLog<A>, other: &NodeLog<A>) -> bool
+    ensures { IsTrue result → log.now.events ≡ other.now.events }
+{
+    let mut others = other.events();
+    for event in log.events() {
+        if others.next() != Some(event) {
+            return false;
+        }
+    }
+    others.next().is_none()
 }
 
 /// The place of another log with the events of this one.
 fn copy_of<A: Allocator>(logs: &Logs<A>, place: u8) -> Option<u8>
     requires { place < length logs.now }
+    ensures { IfSome result (λ other. (place ≢ other) × (log_of logs.now place ≡ log_of logs.now other)) }
 {
     for other in 0..logs.size().get() {
         if other != place && has_same_events(logs.log(place), logs.log(other)) {
@@ -29,8 +46,10 @@ fn copy_of<A: Allocator>(logs: &Logs<A>, place: u8) -> Option<u8>
     None
 }
 
-/// Whether a node passes the one message or reset on as the other.
-pub(crate) fn is_passed_on(load: Load, passed: Load) -> bool {
+/// Whether a node may pass the one message or reset on as the other.
+pub(crate) fn is_passed_on(load: Load, passed: Load) -> bool
+    ensures { IsTrue result → IsPassedOn load passed }
+{
     match (load, passed) {
         (Load::Msg(a), Load::Msg(b)) => {
             (a.round, a.id) == (b.round, b.id) && a.hop.checked_add(1) == Some(b.hop)
@@ -40,74 +59,134 @@ pub(crate) fn is_passed_on(load: Load, passed: Load) -> bool {
     }
 }
 
-/// Where the receipts of a link first aren't its sendings, counted from 0.
-fn first_difference<A: Allocator>(sides: &LinkSides<A>) -> usize {
-    let mut row = 0usize;
-    for (sending, receipt) in sides.sent.iter().zip(sides.received.iter()) {
-        if sending != receipt {
-            break;
+/// Where two lists first differ, or one of them ends.
+fn first_difference(loads: &[Load], others: &[Load]) -> usize
+    ensures within { (result ≤ length loads.now) × (result ≤ length others.now) }
+    ensures alike { take result loads.now ≡ take result others.now }
+{
+    let least = loads.len().min(others.len());
+    for i in 0..least {
+        if loads[i] != others[i] {
+            return i;
         }
-        row = row.saturating_add(1);
     }
-    row
+    least
 }
 
-/// What a node received and passed on, on these links, where its records of both are missing.
-fn hole<A: Allocator>(taken: &LinkSides<A>, given: &LinkSides<A>) -> Option<(Load, Load)> {
-    let (row, further) = (first_difference(taken), first_difference(given));
-    let (load, passed) = (*taken.sent.get(row)?, *given.received.get(further)?);
-    let is_last = given.received.len() == further.saturating_add(1);
-    if is_passed_on(load, passed)
-        && LinkCause::NoReceipt(1).explains(&taken.sent, &taken.received, row.saturating_add(1))
-        && (is_last
-            || LinkCause::NoSending(1).explains(
-                &given.sent,
-                &given.received,
-                further.saturating_add(1),
-            ))
-    {
-        return Some((load, passed));
+/// Whether loads begin with others.
+fn begins_with(loads: &[Load], front: &[Load]) -> bool
+    ensures { IsTrue result → BeginsWith loads.now front.now }
+{
+    first_difference(loads, front) == front.len()
+}
+
+/// What was sent and wasn't received, where all else was.
+fn unreceived(sent: &[Load], received: &[Load]) -> Option<Load>
+    ensures { IfSome result (λ load. IsUnreceived load sent.now received.now) }
+{
+    let at = first_difference(sent, received);
+    if at < sent.len() && begins_with(&sent[at + 1..], &received[at..]) {
+        Some(sent[at])
+    } else {
+        None
+    }
+}
+
+/// What was received and wasn't sent, where all else was.
+fn unsent(sent: &[Load], received: &[Load]) -> Option<Load>
+    ensures { IfSome result (λ load. IsUnsent load sent.now received.now) }
+{
+    let at = first_difference(sent, received);
+    if at < received.len() && begins_with(&sent[at..], &received[at + 1..]) {
+        Some(received[at])
+    } else {
+        None
+    }
+}
+
+/// How alone all receipts of these links differ that aren't their sendings.
+fn one_difference<A: Allocator>(
+    taken: &LinkSides<A>,
+    given: &LinkSides<A>,
+) -> Option<LoadDifference>
+    ensures { IfSome result (λ how. DifferAlike how taken.now.sent.items taken.now.received.items
+        × DifferAlike how given.now.sent.items given.now.received.items) }
+{
+    for how in &DIFFERENCES {
+        if how.is_between_all(&taken.sent, &taken.received)
+            && how.is_between_all(&given.sent, &given.received)
+        {
+            return Some(*how);
+        }
     }
     None
 }
 
+/// What a node received and passed on, on these links, where its records of both are missing.
+fn hole<A: Allocator>(taken: &LinkSides<A>, given: &LinkSides<A>) -> Option<(Load, Load)>
+    ensures { IfSome result (λ both. IsPassedOn both.0 both.1
+        × IsUnreceived both.0 taken.now.sent.items taken.now.received.items
+        × IsUnsent both.1 given.now.sent.items given.now.received.items) }
+{
+    let load = unreceived(&taken.sent, &taken.received)?;
+    let passed = unsent(&given.sent, &given.received)?;
+    if is_passed_on(load, passed) {
+        Some((load, passed))
+    } else {
+        None
+    }
+}
+
+/// Whether each log is that of a node.
+fn are_local_runs<A: Allocator>(logs: &Logs<A>) -> bool
+    ensures { IsTrue result → (i : ℕ) → i < length logs.now → RunsAt logs.now i }
+{
+    for place in 0..logs.size().get() {
+        let Ok(_) = replay(logs.log(place)) else {
+            return false;
+        };
+    }
+    true
+}
+
 impl<'a, 'l, A: Allocator + Clone> FaultyLink<'a, 'l, A> {
-    /// How many other links don't match, and the last of them.
-    pub(crate) fn other_faults(&self) -> (u32, u8) {
-        let nodes = self.logs.size().get();
-        let (mut count, mut last) = (0u32, self.link);
-        for link in 0..nodes {
-            let (writer, reader) = (self.logs.log(link), self.logs.log(successor(nodes, link)));
-            if link != self.link && !takes_from(reader, writer) {
-                count = count.saturating_add(1);
-                last = link;
-            }
-        }
-        (count, last)
+    /// Whether the log of a place is that of a node, and another one would fit there.
+    fn is_another_run(&self, before: u8, place: u8, after: u8) -> Result<bool, OutOfMemory>
+        requires before { before < length self.now.logs.now }
+        requires place { place < length self.now.logs.now }
+        requires after { after < length self.now.logs.now }
+        ensures { IfOk result (λ is. IsTrue is → RunsAt self.now.logs.now place
+            × CanStand self.now.logs.now (length self.now.logs.now) before after) }
+    {
+        let (logs, size) = (self.logs, self.logs.size());
+        let Ok(_) = replay(logs.log(place)) else {
+            return Ok(false);
+        };
+        let found = find_log_between(self.alloc, size, logs.log(before), logs.log(after))?;
+        Ok(found.is_some())
     }
 
     /// The cause why the log of a place fits neither neighbour, where all others fit one another.
-    fn odd_log(&self, place: u8) -> Result<Option<RingHint<&'l A>>, OutOfMemory>
-        requires { place < length self.now.logs.now }
+    fn odd_log(&self, before: u8, place: u8) -> Result<Option<RingHint<&'l A>>, OutOfMemory>
+        requires place { place < length self.now.logs.now }
+        requires before { before < length self.now.logs.now }
+        requires odd { IsOdd self.now.logs.now place before (next (length self.now.logs.now) place) }
+        ensures { IfOk result (λ found. IfSome found (IsSo self.now.logs.now)) }
     {
-        let (logs, size) = (self.logs, self.logs.size());
-        let (before, after) = (predecessor(size.get(), place), successor(size.get(), place));
+        let logs = self.logs;
+        let after = successor(logs.size().get(), place);
         if let Some(other) = copy_of(logs, place) {
             return Ok(Some(RingHint::SameRecords { place, other }));
         }
         let taken = LinkSides::of_link(self.alloc, logs, before)?;
         let given = LinkSides::of_link(self.alloc, logs, place)?;
-        for how in &DIFFERENCES {
-            if how.is_between_all(&taken.sent, &taken.received)
-                && how.is_between_all(&given.sent, &given.received)
-            {
-                return Ok(Some(RingHint::OneRecorder {
-                    place,
-                    before,
-                    after,
-                    how: *how,
-                }));
-            }
+        if let Some(how) = one_difference(&taken, &given) {
+            return Ok(Some(RingHint::OneRecorder {
+                place,
+                before,
+                after,
+                how,
+            }));
         }
         if let Some((load, passed)) = hole(&taken, &given) {
             return Ok(Some(RingHint::Hole {
@@ -117,10 +196,7 @@ impl<'a, 'l, A: Allocator + Clone> FaultyLink<'a, 'l, A> {
                 passed,
             }));
         }
-        let (writer, reader) = (logs.log(before), logs.log(after));
-        if replay(logs.log(place)).is_err()
-            || find_log_between(self.alloc, size, writer, reader)?.is_none()
-        {
+        if !self.is_another_run(before, place, after)? {
             return Ok(None);
         }
         Ok(Some(RingHint::AnotherRun {
@@ -130,43 +206,30 @@ impl<'a, 'l, A: Allocator + Clone> FaultyLink<'a, 'l, A> {
         }))
     }
 
-    /// Whether each node's log is that of a node.
-    fn are_local_runs(&self) -> bool {
-        for place in 0..self.logs.size().get() {
-            if replay(self.logs.log(place)).is_err() {
-                return false;
-            }
-        }
-        true
-    }
-
-    /// Where this link and another one part the ring, each log is that of a node, and no side changes all messages alike.
-    pub(crate) fn two_runs(
-        &self,
-        others: (u32, u8),
-    ) -> Result<Option<RingHint<&'l A>>, OutOfMemory> {
-        let (1, other) = others else {
-            return Ok(None);
-        };
+    /// Logs of two runs, which this link and another one part.
+    pub(crate) fn two_runs(&self, other: u8) -> Option<RingHint<&'l A>>
+        requires { AreOtherFaults self.now.logs.now self.now.link (OtherFaults.One other) }
+        ensures { IfSome result (IsSo self.now.logs.now) }
+    {
         let nodes = self.logs.size().get();
-        if other >= nodes {
-            return Ok(None);
-        }
         let is_near = other == self.reader || other == predecessor(nodes, self.link);
-        if !self.are_local_runs() || (nodes > 2 && is_near) {
-            return Ok(None);
+        if (nodes > 2 && is_near) || !are_local_runs(self.logs) {
+            return None;
         }
-        Ok(Some(RingHint::TwoRuns {
+        Some(RingHint::TwoRuns {
             first: self.reader,
             last: other,
             others_first: successor(nodes, other),
             others_last: self.link,
-        }))
+        })
     }
 
     /// Whether a node may be missing on this link, where all others match.
-    pub(crate) fn node_between(&self) -> Result<Option<RingHint<&'l A>>, OutOfMemory> {
-        let nodes = u32::from(self.logs.size().get()).saturating_add(1);
+    pub(crate) fn node_between(&self) -> Result<Option<RingHint<&'l A>>, OutOfMemory>
+        requires { AreOtherFaults self.now.logs.now self.now.link OtherFaults.None }
+        ensures { IfOk result (λ found. IfSome found (IsSo self.now.logs.now)) }
+    {
+        let nodes = u32::from(self.logs.size().get()) + 1;
         let Some(size) = RingSize::of_number(nodes) else {
             return Ok(None);
         };
@@ -184,19 +247,37 @@ impl<'a, 'l, A: Allocator + Clone> FaultyLink<'a, 'l, A> {
         }))
     }
 
-    /// The cause of the ring, where one explains all links, of which so many others don't match, this one last.
+    /// An order of the ring, or a numbering, in which all links match.
+    fn other_order(&self) -> Result<Option<RingHint<&'l A>>, OutOfMemory>
+        ensures { IfOk result (λ found. IfSome found (IsSo self.now.logs.now)) }
+    {
+        let Some(order) = find_ring_order(self.alloc, self.logs)? else {
+            return Ok(None);
+        };
+        Ok(Some(match Numbering::of_order(self.logs.size().get(), &order) {
+            Some(numbering) => RingHint::Numbered(numbering),
+            None => RingHint::OtherOrder(order),
+        }))
+    }
+
+    /// The cause of the ring, where one explains all links, of which these others don't match.
     pub(crate) fn ring_cause(
         &self,
-        others: (u32, u8),
-    ) -> Result<Option<RingHint<&'l A>>, OutOfMemory> {
-        if let Some(order) = find_ring_order(self.alloc, self.logs)? {
-            return Ok(Some(RingHint::of_order(order)));
+        others: OtherFaults,
+    ) -> Result<Option<RingHint<&'l A>>, OutOfMemory>
+        requires { AreOtherFaults self.now.logs.now self.now.link others }
+        ensures { IfOk result (λ found. IfSome found (IsSo self.now.logs.now)) }
+    {
+        if let Some(hint) = self.other_order()? {
+            return Ok(Some(hint));
         }
         let nodes = self.logs.size().get();
         match others {
-            (1, other) if nodes > 2 && other == self.reader => self.odd_log(self.reader),
-            (1, other) if nodes > 2 && other == predecessor(nodes, self.link) => {
-                self.odd_log(self.link)
+            OtherFaults::One(other) if nodes > 2 && other == self.reader => {
+                self.odd_log(self.link, self.reader)
+            }
+            OtherFaults::One(other) if nodes > 2 && other == predecessor(nodes, self.link) => {
+                self.odd_log(other, self.link)
             }
             _ => Ok(None),
         }

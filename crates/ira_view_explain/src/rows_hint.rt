@@ -3,6 +3,9 @@ use ira_view_evidence::{LoadDifference, LoadField};
 use ira_view_page::Page;
 use std::alloc::Allocator;
 
+/// How hops differ that are raised by one on the way.
+const RAISED: &str = "each receipt that differs has the hop of its sending raised by one: perhaps ";
+
 /// How receipts of a link differ from their sendings, all those that do.
 #[derive(Clone, Copy)]
 pub(crate) enum RowsHint {
@@ -35,17 +38,17 @@ impl RowsHint {
                 );
             }
             RowsHint::RaisedByReader { reader } => {
-                text.words("each receipt that differs has the hop of its sending raised by one: ");
+                text.words(RAISED);
                 text.numbered("node ", u32::from(reader));
                 text.words(
                     " records a message as it passes it on. Record it as it was taken off the link.",
                 );
             }
             RowsHint::UnraisedByWriter { writer } => {
+                text.words(RAISED);
                 text.numbered("node ", u32::from(writer));
                 text.words(
-                    " records its sendings before the hop is raised: by its log it sends on with the hop of the \
-                     receipt. Record a message as it was put on the link.",
+                    " records its sendings before the hop is raised. Record a message as it was put on the link.",
                 );
             }
             RowsHint::HopOfOneSide => text.words(

@@ -131,7 +131,7 @@ impl StopHint {
                 text.words("by its log the node never received ");
                 text.load(call);
                 text.words(
-                    ", which the node before it sent next and which calls for this: that receipt is missing.",
+                    ", which the node before it sent next and which calls for this: perhaps that receipt is missing.",
                 );
             }
             StopHint::NoReceipts => text.words(

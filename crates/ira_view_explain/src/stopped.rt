@@ -1,4 +1,4 @@
-ghost use Rattle.std.specs.Prelude.{◌≡◌, ◌+◌, ℕ, IfSome, IsTrue, List, MatchOption, ◌∷◌, [], ◌++◌, Some};
+ghost use Rattle.std.specs.Prelude.{◌≡◌, ◌↔◌, ◌+◌, ℕ, IfSome, IsTrue, List, MatchOption, ◌∷◌, [], ◌++◌, Some};
 ghost use Rattle.ira_event.specs.Log.{Log};
 ghost use Rattle.ira_event.specs.declared.event.Event.TheVariants as Event;
 ghost use Rattle.ira_node.specs.declared.phase.Phase.TheVariants as Phase;
@@ -6,6 +6,7 @@ ghost use Rattle.ira_node.specs.NodeStep.{NodeStep};
 ghost use Rattle.ira_node.specs.declared.node_state.NodeState.{NodeState};
 ghost use Rattle.ira_order.specs.Ring.{numbered};
 ghost use Rattle.ira_view_evidence.specs.NodeEvidence.{IsNodeEvidence};
+ghost use Rattle.ira_view_explain.specs.LinkHint.{IsBegun};
 ghost use Rattle.ira_view_explain.specs.StopHint.{CallsFor, IsCalledNext, IsSentAfter, IsSo, line_number};
 ghost use Rattle.ira_view_explain.specs.declared.stopped.Stopped.{Stopped};
 
@@ -408,7 +409,9 @@ fn is_clean_start(event: Event) -> bool {
 }
 
 /// Whether the node that sends the load begins it.
-pub(crate) fn is_begun(load: Load) -> bool {
+pub(crate) fn is_begun(load: Load) -> bool
+    ensures { IsTrue result ↔ IsBegun load }
+{
     match load {
         Load::Msg(Msg { hop, .. }) | Load::Reset(hop) => hop == 1,
     }

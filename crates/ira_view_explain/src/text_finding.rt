@@ -1,7 +1,8 @@
-ghost use Rattle.std.specs.Prelude.{◌≡◌, ◌≢◌, ◌≤◌, IfOk, length};
+ghost use Rattle.std.specs.Prelude.{◌≡◌, ◌≢◌, ◌≤◌, IfOk, IfSome, length};
 ghost use Rattle.ira_event.specs.Limits.{MAX_RECORDS};
 ghost use Rattle.ira_event.specs.LogTextFault.{LogTextFault, OpeningFault};
 ghost use Rattle.ira_event.specs.declared.log_fault.LogFault.{LogFault};
+ghost use Rattle.ira_view_explain.specs.TextHint.{IsSo};
 ghost use Rattle.ira_view_explain.specs.TextTold.{IsAt, IsAtLine, IsCutStop, IsFaultAfter, IsHeadStop, IsLineTold};
 ghost use Rattle.ira_view_explain.specs.TextTold.{IsStopTold, IsTextStop, IsWholeLine};
 ghost use Rattle.ira_view_page.specs.Printable.{IsPrintable};
@@ -11,10 +12,7 @@ use crate::line_remark::LineRemark;
 use crate::line_slip::slip_of_line;
 use crate::line_stop::LineStop;
 use crate::text_hint::TextHint;
-use ira_event::{
-    LogFault, MAX_NODES, MAX_RECORDS, MAX_VERSION_1_NODES, OutOfMemory, open_log, scan_number,
-    skip_word,
-};
+use ira_event::{LogFault, MAX_NODES, MAX_RECORDS, MAX_VERSION_1_NODES, OutOfMemory, open_log};
 use ira_view_page::{
     Evidence, NamedText, Page, PointedLine, Remark, Slip, print_short_head, print_too_long,
     whole_text,
@@ -78,10 +76,19 @@ fn count_records(file: &NamedText<'_>) -> usize
     }
 }
 
-/// The number of an end line.
-fn said_count(line: &[u8]) -> Option<usize> {
-    let (count, _) = scan_number(skip_word(line, b"end ")?)?;
-    Some(count as usize)
+/// A usual cause why an end line says another number than there are records.
+fn count_hint(line: &[u8], records: usize) -> Option<TextHint>
+    requires { records ≤ MAX_RECORDS }
+    ensures { IfSome result (IsSo line.now records) }
+{
+    let said = number_of(line, b"end ")? as usize;
+    if said == records + 4 {
+        Some(TextHint::HeadCounted)
+    } else if said > records && said <= MAX_RECORDS {
+        Some(TextHint::LinesLost(said - records))
+    } else {
+        None
+    }
 }
 
 /// A usual cause why this line isn't the one of the head that is due.
@@ -273,13 +280,7 @@ impl TextFinding {
         let records = count_records(file);
         let number = records + 5;
         let line = file.line(number);
-        let hint = match said_count(line) {
-            Some(said) if said == records + 4 => Some(TextHint::HeadCounted),
-            Some(said) if said > records && said <= MAX_RECORDS => {
-                Some(TextHint::LinesLost(said - records))
-            }
-            _ => None,
-        };
+        let hint = count_hint(line, records);
         TextFinding::at(number, 4, line.len(), LineRemark::End { records }, hint)
     }
 

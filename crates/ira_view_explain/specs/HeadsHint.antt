@@ -1,0 +1,20 @@
+-- What a hint of heads says of them.
+use Rattle.std.specs.Prelude.{◌≡◌, ◌<◌, ⊤, ℕ, List, Some, All, slice_get}
+use Rattle.ira_event.specs.declared.log_head.LogHead.{LogHead}
+use Rattle.ira_view_explain.specs.declared.heads_hint.HeadsHint.{HeadsHint}
+use Rattle.ira_view_explain.specs.declared.heads_hint.HeadsHint.TheVariants.{MissingPlaces, PlaceTwice}
+
+-- the head of this number is of this place
+abbrev pub IsOfPlace : List LogHead → ℕ → ℕ → Type 0
+IsOfPlace heads i place = (head : LogHead) × (slice_get heads i ≡ Some head) × (head.place ≡ place)
+
+-- none of the heads is of this place
+abbrev pub HasNoPlace : List LogHead → ℕ → Type 0
+HasNoPlace heads place = (i : ℕ) → ¬ (IsOfPlace heads i place)
+
+-- it is so of the heads
+abbrev pub IsSo : {A : Type 0} → List LogHead → HeadsHint A → Type 0
+IsSo heads (MissingPlaces places) = All (HasNoPlace heads) places.items
+IsSo heads (PlaceTwice place) = (i j : ℕ) × (i < j) × IsOfPlace heads i place × IsOfPlace heads j place
+-- of the others nothing is said here
+IsSo heads hint = ⊤
