@@ -326,6 +326,11 @@ def check_logs(reader, names, folder):
         alone = json.loads(done.stdout)
         assert done.stderr == '' and alone['status'] == done.returncode and 'nodes' not in alone
         reader.lines += 1
+    asked_status, asked = reader.run('logs', '--over', *names)
+    over_status, (over,) = reader.json('logs', '--over', '--json', *names)
+    assert asked_status == over_status == (0 if explained.get('over') else 1), names
+    assert asked.startswith(plain) and (asked == plain) == (over_status == status), names
+    assert over.get('over') == explained.get('over') and {**over, **answer, 'status': over_status} == over, names
     if status == 0:
         ring = Ring(names)
         check_election(explained, ring)

@@ -6,7 +6,7 @@ _ira_commands='logs explain show draw check decide pairs run upgrade mend versio
 # The options of a command.
 _ira_options() {
     case $1 in
-        logs) echo --each --json --dir --help ;;
+        logs) echo --each --over --json --dir --help ;;
         explain) echo --question --case --cert --json --dir --help ;;
         show) echo --leads --at --question --case --events --json --dir --help ;;
         draw) echo --out --at --question --case --from --to --dir --help ;;

@@ -8,6 +8,7 @@ pub mod JsonLines
 pub mod Judging
 pub mod Mend
 pub mod Output
+pub mod Over
 pub mod Pairs
 pub mod Reply
 pub mod RingForm

@@ -1,5 +1,5 @@
 -- What the program does.
-use Rattle.std.specs.Prelude.{◌≡◌, ◌≢◌, ◌⊎◌, ℕ, ◌+◌, Bool, true, Err, List, [], None, Some, codes}
+use Rattle.std.specs.Prelude.{◌≡◌, ◌≢◌, ◌⊎◌, ℕ, ◌+◌, Bool, false, true, Err, List, [], None, Some, codes}
 use Rattle.std.specs.Borrow.{Bor}
 use Rattle.std.specs.Option.{is_some}
 use Rattle.ira_event.specs.Limits.{MAX_TEXT}
@@ -7,6 +7,7 @@ use Rattle.ira_event.specs.Sink.{SinkState}
 use Rattle.ira_commands.specs.Check.{ChecksTexts}
 use Rattle.ira_commands.specs.Decide.{DecidesTexts, PrintsDecided}
 use Rattle.ira_commands.specs.Judging.{JudgesLog, JudgesLogs}
+use Rattle.ira_commands.specs.Over.{JudgesOver}
 use Rattle.ira_commands.specs.Pairs.{AsksPairs}
 use Rattle.ira_commands.specs.Reply.{Reply, Reports, ReportsAs}
 use Rattle.ira_commands.specs.Run.{RunsRing}
@@ -51,6 +52,11 @@ use Rattle.ira_view.specs.declared.status.Status.TheVariants.{Yes}
 -- the input had this text left, and such a reply comes of it
 abbrev pub OfInput : (List ℕ → Reply → Type 0) → Reads → Reads → Reply → Type 0
 OfInput IsReply old new reply = (text : List ℕ) × IsReadTo (MAX_TEXT + 1) old new text × IsReply text reply
+
+-- the texts of logs are judged, and after a yes, where that is asked, whether their election is over
+abbrev pub JudgesAsked : Bool → Bool → List (List ℕ) → Reply → Type 0
+JudgesAsked false is_json = JudgesLogs (ReportsAs is_json)
+JudgesAsked true is_json = JudgesOver is_json
 
 -- why none comes of it: a read failed, or memory ran out
 abbrev pub IsInputFault : Reads → ProgramFault → Type 0
@@ -104,7 +110,7 @@ pub data CommandOutcome (A : Type 0) {S : Type 0} (reads : Reading S) (writes : 
       → outcome ≡ Err (words_fault fault)
       → CommandOutcome A reads writes words shelf shelf' out out' outcome
   judged : (logs : LogsRequest) → IsLogsLine words logs → shelf' ≡ shelf
-      → TellsOfLogs reads logs.logs shelf out out' outcome (λ _. JudgesLogs (ReportsAs logs.is_json))
+      → TellsOfLogs reads logs.logs shelf out out' outcome (λ _. JudgesAsked logs.asks_over logs.is_json)
       → CommandOutcome A reads writes words shelf shelf' out out' outcome
   each : (asked : EachRequest) → IsEachLine words asked → shelf' ≡ shelf → JudgesEach reads asked shelf out out' outcome
       → CommandOutcome A reads writes words shelf shelf' out out' outcome

@@ -1,16 +1,16 @@
 ghost use Rattle.std.specs.Prelude.{◌≤◌, ◌+◌, ℕ, IfOk, List, MatchResult, None, Some};
 ghost use Rattle.ira_audit.specs.RingAudit.{HasTaken};
 ghost use Rattle.ira_commands.specs.Check.{ChecksTexts};
-ghost use Rattle.ira_commands.specs.Judging.{JudgesLog, JudgesLogs};
+ghost use Rattle.ira_commands.specs.Judging.{JudgesLog};
 ghost use Rattle.ira_commands.specs.Reply.{Reports, ReportsAs};
 ghost use Rattle.ira_main.specs.Given.{IsUnread, OfFiles};
-ghost use Rattle.ira_main.specs.Serve.{IsInputFault, OfInput};
+ghost use Rattle.ira_main.specs.Serve.{IsInputFault, JudgesAsked, OfInput};
 
 use crate::given::{Given, Inputs, read_given};
 use crate::input_audit::audit_input;
 use crate::program_fault::ProgramFault;
 use ira_audit::RingAudit;
-use ira_commands::{Reply, answer_logs};
+use ira_commands::{Reply, answer_logs, answer_over};
 use ira_event::{MAX_TEXT, OutOfMemory};
 use ira_links::OpenGate;
 use ira_main_cli::{CheckRequest, LogsRequest};
@@ -39,15 +39,19 @@ pub(crate) fn judge_input<'a, A: Allocator + Clone, I: Read>(
 fn judge_taken<R: Threads, A: Allocator + Clone + Sync>(
     rt: &R,
     alloc: A,
-    is_json: bool,
+    asked: &LogsRequest<'_>,
     audit: RingAudit<A>,
 ) -> Result<Reply<A>, OutOfMemory>
     requires { (texts : List (List ℕ)) × HasTaken audit texts }
     ensures { (texts : List (List ℕ)) → HasTaken audit texts
-        → IfOk result (JudgesLogs (ReportsAs is_json) texts) }
+        → IfOk result (JudgesAsked asked.now.asks_over asked.now.is_json texts) }
 {
     let judged = audit.judge_on_threads(rt)?;
-    answer_logs(alloc, is_json, &judged)
+    if asked.asks_over {
+        answer_over(alloc, asked.is_json, &judged)
+    } else {
+        answer_logs(alloc, asked.is_json, &judged)
+    }
 }
 
 /// Judges the logs of a source together. Each file is read before an answer is given.
@@ -63,11 +67,11 @@ where
     F: Shelf + Sync,
     ensures { MatchResult result
         (OfFiles F.reads None None None asked.now.logs shelf.now
-        (λ _ _ _ texts. JudgesLogs (ReportsAs asked.now.is_json) texts))
+        (λ _ _ _. JudgesAsked asked.now.asks_over asked.now.is_json))
         (IsUnread F.reads None None None asked.now.logs shelf.now) }
 {
     let Given { audit, .. } = read_given(rt, &alloc, Inputs::logs(&asked.logs), shelf)?;
-    Ok(judge_taken(rt, alloc, asked.is_json, audit)?)
+    Ok(judge_taken(rt, alloc, asked, audit)?)
 }
 
 /// The answer of the logs that an audit has taken, of a question and of a certificate.

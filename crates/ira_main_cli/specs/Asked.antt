@@ -122,9 +122,11 @@ pub record HasAnswerToExplain (rows : List Row) (explain : ExplainRequest) : Typ
 
 -- ---- the other requests
 
--- the logs come from what is named, and JSON is wanted exactly where `--json` is given
+-- the logs come from what is named, and JSON, and whether the election is over, is wanted exactly where `--json` and
+-- `--over` are given
 pub record HasLogsToJudge (rows : List Row) (request : LogsRequest) : Type 0 where
   pub json : request.is_json ≡ is_given (codes "json") rows
+  pub over : request.asks_over ≡ is_given (codes "over") rows
   pub together : is_given (codes "each") rows ≡ false
   pub logs : HasLogs rows request.logs
 
@@ -148,9 +150,10 @@ pub record NamesFolders (rows : List Row) : Type 0 where
   pub given : all_of (codes "LOG") rows ≡ Some names
   pub named : All (λ name. name ≢ []) names
 
--- where each folder is to be judged folders are named, and else logs
+-- where each folder is to be judged folders are named, and nothing more is asked of them, and else logs are
 pub record NamesLogsToJudge (rows : List Row) : Type 0 where
   pub logs : NamesLogs rows
+  pub over : is_given (codes "each") rows ≡ true → is_given (codes "over") rows ≡ false
   pub folders : is_given (codes "each") rows ≡ true → NamesFolders rows
 
 -- who is to lead: some node, where the option says `any`, or else the nodes of its numbers; nothing is asked where it is

@@ -33,6 +33,7 @@ kinds =
     ∷ (codes "cap", number 18446744073709551615)
     ∷ (codes "terms", number 18446744073709551615)
     ∷ (codes "each", flag)
+    ∷ (codes "over", flag)
     ∷ (codes "json", flag)
     ∷ (codes "events", flag)
     ∷ (codes "alone", flag)

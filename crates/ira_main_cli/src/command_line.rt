@@ -43,7 +43,7 @@ use clap::error::ErrorKind;
 use clap::{ArgMatches, Command, Error};
 use std::alloc::{AllocError, Global};
 
-const USAGE: &str = "ira < LOG\n       ira logs [--json] <LOGS>\n       \
+const USAGE: &str = "ira < LOG\n       ira logs [--over] [--json] <LOGS>\n       \
     ira logs --each [--json] <DIR>...\n       \
     ira explain [--json] [<LOGS>]\n       \
     ira explain --question <Q> [--case <K> | --cert <C>] [--json] <LOGS>\n       \
@@ -88,6 +88,9 @@ const WHY_CERT_HELP: &str = "The file with a certificate: the answer of `check` 
 
 const EACH_HELP: &str =
     "The names are those of folders, each with the logs of a ring, and each is judged";
+
+const OVER_HELP: &str =
+    "Ask too whether the election is over: if not, lines say so, and the status is 1";
 
 const START_HELP: &str =
     "initiator or passive: what a node is taken for of whose log not even the head is left";
@@ -154,7 +157,13 @@ const COMMANDS: &[CommandEntry] = &[
     CommandEntry {
         name: "logs",
         about: "Judges the logs of all nodes of a ring together",
-        arguments: &[Argument("each", Flag, Optional, EACH_HELP), JSON, DIR, LOG],
+        arguments: &[
+            Argument("each", Flag, Optional, EACH_HELP),
+            Argument("over", Flag, Optional, OVER_HELP),
+            JSON,
+            DIR,
+            LOG,
+        ],
     },
     CommandEntry {
         name: "explain",
@@ -354,12 +363,19 @@ fn logs<'a>(alloc: Global, matches: &ArgMatches<'a>) -> Result<Request<'a>, Opti
         (λ why. NamesLogsToJudge (rows_of (found_of matches.now)) → why ≡ options.OutOfMemory) }
 {
     let is_json = flag(matches, "json");
+    let asks_over = flag(matches, "over");
     if flag(matches, "each") {
+        if asks_over {
+            return Err(OptionsFault::EachAndOver);
+        }
         let folders = folders(alloc, matches)?;
         return Ok(Request::Each(EachRequest { is_json, folders }));
     }
-    let logs = log_source(alloc, matches)?;
-    Ok(Request::Logs(LogsRequest { is_json, logs }))
+    Ok(Request::Logs(LogsRequest {
+        is_json,
+        asks_over,
+        logs: log_source(alloc, matches)?,
+    }))
 }
 
 /// The answer to explain, and how.

@@ -5,5 +5,7 @@ use crate::log_source::LogSource;
 pub struct LogsRequest<'a> {
     /// Whether the answer is wanted as JSON.
     pub is_json: bool,
+    /// Whether it is asked too if the election is over.
+    pub asks_over: bool,
     pub logs: LogSource<'a>,
 }

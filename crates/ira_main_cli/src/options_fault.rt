@@ -13,6 +13,8 @@ pub enum OptionsFault {
     Folders,
     /// One of the folders to be judged each has an empty name.
     EmptyFolder,
+    /// Folders are to be judged each, and it is asked whether an election is over.
+    EachAndOver,
     /// A case is named, and no question.
     CaseWithoutQuestion,
     /// A certificate is named, and no question.
@@ -38,6 +40,7 @@ impl OptionsFault {
         match self {
             OptionsFault::Sources
             | OptionsFault::Folders
+            | OptionsFault::EachAndOver
             | OptionsFault::CaseAndCertificate
             | OptionsFault::CutAndQuestion => ErrorKind::ArgumentConflict,
             OptionsFault::CaseWithoutQuestion | OptionsFault::CertificateWithoutQuestion => {
@@ -55,6 +58,7 @@ impl OptionsFault {
             OptionsFault::Sources => "the logs are named either by <LOG>... or by --dir <DIR>",
             OptionsFault::Folders => "--each takes the names of folders alone: --each <DIR>...",
             OptionsFault::EmptyFolder => "--each takes names of folders, and none is empty",
+            OptionsFault::EachAndOver => "--each and --over exclude one another",
             OptionsFault::CaseWithoutQuestion => "--case <K> needs --question <Q>",
             OptionsFault::CertificateWithoutQuestion => "--cert <C> needs --question <Q>",
             OptionsFault::CaseAndCertificate => "--case <K> and --cert <C> exclude one another",
