@@ -1,11 +1,14 @@
+pub mod Answers
 pub mod AskedRun
 pub mod Check
 pub mod CommandFault
 pub mod Decide
 pub mod Explain
 pub mod ExplainQuestion
+pub mod Given
 pub mod JsonLines
 pub mod Judging
+pub mod LogsCommand
 pub mod Mend
 pub mod Output
 pub mod Over

@@ -58,7 +58,7 @@ fn certify<A: Allocator + Clone>(
 }
 
 /// The answer of logs, of a question and of a certificate. No thread is started.
-pub fn check_alone<A: Allocator + Clone>(
+pub(crate) fn check_alone<A: Allocator + Clone>(
     alloc: A,
     is_json: bool,
     question: &[u8],

@@ -45,7 +45,7 @@ fn tell_decided<A: Allocator + Clone>(
 
 /// What is found for the question of a text, about logs, and its certificate where that is wanted. The steps of no case are
 /// kept: they are counted, or written into the certificate's text.
-pub fn decide_asked<A: Allocator + Clone>(
+pub(crate) fn decide_asked<A: Allocator + Clone>(
     alloc: A,
     is_json: bool,
     certify: bool,

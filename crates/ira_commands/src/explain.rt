@@ -46,7 +46,7 @@ pub fn explain_one<A: Allocator + Clone>(
 }
 
 /// The answer of the logs of a ring in these files, and why it is so.
-pub fn explain_all<A: Allocator + Clone>(
+pub(crate) fn explain_all<A: Allocator + Clone>(
     alloc: A,
     is_json: bool,
     logs: &[NamedText<'_>],

@@ -40,7 +40,7 @@ fn explain_judged<A: Allocator + Clone>(
 }
 
 /// The answer of logs, of a question and of a certificate, in these files, and why it is so. No thread is started.
-pub fn explain_check_alone<A: Allocator + Clone>(
+pub(crate) fn explain_check_alone<A: Allocator + Clone>(
     alloc: A,
     is_json: bool,
     files: AskedFiles<'_>,

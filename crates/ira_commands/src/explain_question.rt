@@ -29,7 +29,7 @@ fn tell_findings<A: Allocator + Clone>(
 
 /// What is found for a question about logs, in these files, and why it is so: of the case of a number, counted from 0, or of
 /// the first ones.
-pub fn explain_asked<A: Allocator + Clone>(
+pub(crate) fn explain_asked<A: Allocator + Clone>(
     alloc: A,
     is_json: bool,
     case: Option<u64>,

@@ -2,6 +2,7 @@
 //! program and the module for a web page are shells over it.
 #![tactic(auto)]
 
+mod answers;
 mod asked_run;
 mod check;
 mod command_fault;
@@ -10,8 +11,10 @@ mod explain;
 mod explain_check;
 mod explain_question;
 mod files;
+mod given_files;
 mod json_lines;
 mod logs;
+mod logs_command;
 mod mend;
 mod output;
 mod over;
@@ -24,24 +27,20 @@ mod run;
 mod show;
 mod upgrade;
 
+pub use answers::answer;
 pub use asked_run::AskedRun;
-pub use check::check_alone;
 pub use command_fault::CommandFault;
-pub use decide::decide_asked;
-pub use explain::{explain_all, explain_one, tell_view};
-pub use explain_check::explain_check_alone;
-pub use explain_question::explain_asked;
+pub use explain::{explain_one, tell_view};
 pub use files::Files;
+pub use given_files::GivenFiles;
 pub use json_lines::JsonLines;
-pub use logs::answer_logs;
+pub use logs_command::LogsCommand;
 pub use mend::mend_left;
 pub use output::Output;
-pub use over::answer_over;
 pub use pairs::ask_pairs;
 pub use reply::Reply;
 pub use ring_form::{LinesForm, RingForm};
 pub use ring_leaders::RingLeaders;
 pub use ring_moment::RingMoment;
 pub use run::{run_asked, run_asked_on_threads};
-pub use show::{show_ring, told_in_page};
 pub use upgrade::upgrade_taken;

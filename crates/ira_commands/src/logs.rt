@@ -9,7 +9,7 @@ use ira_event::OutOfMemory;
 use std::alloc::Allocator;
 
 /// The answer of the logs of a ring.
-pub fn answer_logs<A: Allocator + Clone>(
+pub(crate) fn answer_logs<A: Allocator + Clone>(
     alloc: A,
     is_json: bool,
     judged: &Judged<A>,

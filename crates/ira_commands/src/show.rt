@@ -1,4 +1,4 @@
-ghost use Rattle.std.specs.Prelude.{◌≡◌, IfOk, List, length, string_bytes, ℕ};
+ghost use Rattle.std.specs.Prelude.{◌≡◌, IfOk, List, length, string_bytes, true, ℕ};
 ghost use Rattle.ira_audit.specs.Report.{IsReportable};
 ghost use Rattle.ira_audit.specs.Judged.{IsJudged};
 ghost use Rattle.ira_audit.specs.declared.judged.Judged.TheVariants.{Refused};
@@ -6,7 +6,7 @@ ghost use Rattle.ira_view.specs.ShownRing.{IsPageOf};
 ghost use Rattle.ira_view.specs.Texts.{AreFiles, texts_of};
 ghost use Rattle.ira_commands.specs.Output.{AreLinesAfter};
 ghost use Rattle.ira_commands.specs.Reply.{Prints};
-ghost use Rattle.ira_commands.specs.RingForm.{leaders_of};
+ghost use Rattle.ira_commands.specs.RingForm.{leaders_of, wants_page};
 ghost use Rattle.ira_commands.specs.RingLeaders.{AreDifferencesOf};
 ghost use Rattle.ira_commands.specs.Show.{IsReportableFault, IsToldOf, PrintsLines, ShowsGood, ShowsLogs, TellsFault};
 ghost use Rattle.ira_commands.specs.Show.{TellsPicture, TellsRefused, TellsRing};
@@ -158,15 +158,15 @@ fn show_good<A: Allocator + Clone>(
 }
 
 /// What a page to move in tells of refused logs in these files, where one is asked for.
-pub fn told_in_page<A: Allocator + Clone>(
+pub(crate) fn told_in_page<A: Allocator + Clone>(
     alloc: A,
     form: RingForm<'_>,
     files: &[NamedText<'_>],
     judged: &Judged<A>,
 ) -> Result<String<A>, OutOfMemory>
-    requires { IsJudged (texts_of files.now) judged.now }
-    ensures { (names : List (List ℕ)) → AreFiles names (texts_of files.now) files.now
-        → IfOk result (λ told. IsToldOf form.entry names (texts_of files.now) judged.now (string_bytes told)) }
+    requires { wants_page form ≡ true → IsJudged (texts_of files.now) judged.now }
+    ensures { (names texts : List (List ℕ)) → (wants_page form.entry ≡ true → AreFiles names texts files.now)
+        → IfOk result (λ told. IsToldOf form.entry names texts judged.now (string_bytes told)) }
 {
     match form {
         RingForm::Html(_) => refused_lines(alloc, files, judged),
@@ -202,7 +202,7 @@ fn tell_refused<A: Allocator + Clone>(
 
 /// The ring of logs, which are in files of these names, in a form, at the moment that is asked for, of a question of this
 /// text where it is the first of one. This is told in a page of refused logs.
-pub fn show_ring<A: Allocator + Clone>(
+pub(crate) fn show_ring<A: Allocator + Clone>(
     alloc: A,
     form: RingForm<'_>,
     moment: &RingMoment<'_>,

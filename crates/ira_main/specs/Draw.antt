@@ -2,14 +2,17 @@
 use Rattle.std.specs.Prelude.{◌≡◌, ◌≢◌, ◌⊎◌, ℕ, List, None, Some, codes, map}
 use Rattle.std.specs.Path.{path_extension}
 use Rattle.std.specs.Char.{to_ascii_lowercase}
+use Rattle.ira_commands.specs.Answers.{Answers}
 use Rattle.ira_commands.specs.Reply.{Reply}
+use Rattle.ira_commands.specs.declared.logs_command.LogsCommand.{LogsCommand}
+use Rattle.ira_commands.specs.declared.logs_command.LogsCommand.TheVariants as command
+use Rattle.ira_commands.specs.declared.ring_moment.RingMoment.{RingMoment}
 use Rattle.ira_commands.specs.declared.ring_form.RingForm.{RingForm}
 use Rattle.ira_commands.specs.declared.ring_form.RingForm.TheVariants.{Html, Lines, Picture}
 use Rattle.ira_main_cli.specs.declared.draw_request.DrawRequest.{DrawRequest}
 use Rattle.ira_main_files.specs.Shelf.{Reading}
-use Rattle.ira_main.specs.Given.{IsUnread}
-use Rattle.ira_main.specs.Moment.{question_of}
-use Rattle.ira_main.specs.Show.{ShowsLogsAt}
+use Rattle.ira_main.specs.Given.{IsUnread, OfFiles}
+use Rattle.ira_main.specs.Moment.{IsMomentOf, question_of}
 use Rattle.ira_main.specs.declared.program_fault.ProgramFault.{ProgramFault}
 use Rattle.ira_main.specs.declared.program_fault.ProgramFault.TheVariants.{OtherEnding}
 use Rattle.ira_view_picture.specs.declared.column_range.ColumnRange.{ColumnRange}
@@ -39,8 +42,12 @@ abbrev pub IsUndrawn : {S : Type 0} → Reading S → DrawRequest → S → Prog
 IsUndrawn reads draw shelf f = (HasOtherEnding draw.picture.now × (f ≡ OtherEnding draw.picture))
     ⊎ IsUnread reads (Some draw.picture) (question_of draw.moment) None draw.logs shelf f
 
--- a ring is drawn
-abbrev pub DrawsLogs : Type 0 → DrawRequest → List (List ℕ) → List ℕ → List ℕ → List (List ℕ) → Reply → Type 0
-DrawsLogs A draw names question certificate texts reply =
-    (form : RingForm) × IsDrawnForm draw.picture.now (columns_of draw) form
-    × ShowsLogsAt A form draw.moment names question texts reply
+-- words ask to draw a ring
+abbrev pub AsksToDraw : DrawRequest → LogsCommand → Type 0
+AsksToDraw draw asked = (form : RingForm) × (moment : RingMoment) × IsDrawnForm draw.picture.now (columns_of draw) form
+    × IsMomentOf draw.moment moment × (asked ≡ command.Show form moment)
+
+-- it is drawn, of the files that they name
+abbrev pub DrawsFiles : Type 0 → {S : Type 0} → Reading S → DrawRequest → S → Reply → Type 0
+DrawsFiles A reads draw shelf reply = (asked : LogsCommand) × AsksToDraw draw asked
+    × OfFiles reads (Some draw.picture) (question_of draw.moment) None draw.logs shelf (Answers A asked) reply

@@ -1,6 +1,7 @@
 -- What a command reads: a question and a certificate, where they are named, and then logs.
 use Rattle.std.specs.Prelude.{◌≡◌, ◌⊎◌, ℕ, List, [], ◌∷◌, ◌++◌, Option, Some, None}
 use Rattle.std.specs.Borrow.{Bor}
+use Rattle.ira_commands.specs.Given.{File, Given}
 use Rattle.ira_commands.specs.Reply.{Reply}
 use Rattle.ira_main_cli.specs.declared.log_source.LogSource.{LogSource}
 use Rattle.ira_main_files.specs.Shelf.{Reading}
@@ -47,14 +48,23 @@ IsUnread reads made question certificate source shelf f =
     × (IsReplacing reads shelf made (input_names question names) f
     ⊎ IsFilesFault reads (read_names question certificate names) shelf f))
 
--- all was read, and this reply comes of the names of the logs' files, of the texts of a question and of a certificate, and of
--- those of the logs
+-- the file that is named, with this text; where none is named it has no name
+abbrev pub named_file : Option (Bor (List ℕ)) → List ℕ → File
+named_file (Some name) text = record { name = name.now; text = text }
+named_file None text = record { name = []; text = text }
+
+-- all was read, and this reply comes of it
 pub record OfFiles {S : Type 0} (reads : Reading S) (made question certificate : Option (Bor (List ℕ))) (source : LogSource)
-    (shelf : S) (IsReply : List (List ℕ) → List ℕ → List ℕ → List (List ℕ) → Reply → Type 0) (reply : Reply) : Type 0 where
+    (shelf : S) (IsReply : Given → Reply → Type 0) (reply : Reply) : Type 0 where
   pub names : List FileName
   pub asked : List ℕ
   pub certified : List ℕ
   pub texts : List (List ℕ)
   pub first : AreFirst reads made question certificate source shelf names asked certified
   pub given : ReadsFiles reads (names_of names) shelf texts
-  pub reply_is : IsReply (names_of names) asked certified texts reply
+  pub reply_is : IsReply (record {
+    question = named_file question asked;
+    certificate = named_file certificate certified;
+    names = names_of names;
+    texts = texts;
+  }) reply

@@ -23,8 +23,8 @@ ReportsOutcome (Err f) more old new =
     Takes (program_fault_text f ++ more) old new ⊎ StopsIn (program_fault_text f ++ more) old new
 
 -- the text was printed whole, and the outcome is this status; or the output stopped within it, and the outcome says so
-abbrev pub Prints : List ℕ → Status → SinkState → SinkState → Outcome → Type 0
-Prints text status out out' outcome =
+abbrev pub PrintsLine : List ℕ → Status → SinkState → SinkState → Outcome → Type 0
+PrintsLine text status out out' outcome =
     (Takes text out out' × (outcome ≡ Ok status))
     ⊎ (StopsIn text out out' × (outcome ≡ Err CannotWriteAnswer))
 

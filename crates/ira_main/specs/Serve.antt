@@ -1,17 +1,19 @@
 -- What the program does.
-use Rattle.std.specs.Prelude.{◌≡◌, ◌≢◌, ◌⊎◌, ℕ, ◌+◌, Bool, false, true, Err, List, [], None, Some, codes}
+use Rattle.std.specs.Prelude.{◌≡◌, ◌≢◌, ◌⊎◌, ℕ, ◌+◌, Bool, true, Err, List, [], None, Option, Some, codes}
+use Rattle.std.specs.Prelude.{if◌then◌else◌}
 use Rattle.std.specs.Borrow.{Bor}
 use Rattle.std.specs.Option.{is_some}
 use Rattle.ira_event.specs.Limits.{MAX_TEXT}
 use Rattle.ira_event.specs.Sink.{SinkState}
-use Rattle.ira_commands.specs.Check.{ChecksTexts}
-use Rattle.ira_commands.specs.Decide.{DecidesTexts, PrintsDecided}
-use Rattle.ira_commands.specs.Judging.{JudgesLog, JudgesLogs}
-use Rattle.ira_commands.specs.Over.{JudgesOver}
+use Rattle.ira_commands.specs.Answers.{Answers}
+use Rattle.ira_commands.specs.Judging.{JudgesLog}
 use Rattle.ira_commands.specs.Pairs.{AsksPairs}
-use Rattle.ira_commands.specs.Reply.{Reply, Reports, ReportsAs}
+use Rattle.ira_commands.specs.Reply.{Reply, Reports}
 use Rattle.ira_commands.specs.Run.{RunsRing}
 use Rattle.ira_commands.specs.Upgrade.{UpgradesTexts}
+use Rattle.ira_commands.specs.declared.logs_command.LogsCommand.{LogsCommand}
+use Rattle.ira_commands.specs.declared.logs_command.LogsCommand.TheVariants.{Answer, Check, Decide, Explain, ExplainCheck}
+use Rattle.ira_commands.specs.declared.logs_command.LogsCommand.TheVariants.{ExplainQuestion, Over}
 use Rattle.ira_main_cli.specs.Request.{IsCheckLine, IsDecideLine, IsDrawLine, IsEachLine, IsExplainLine, IsLogsLine, IsMendLine}
 use Rattle.ira_main_cli.specs.Request.{IsPairsLine, IsRunLine, IsShowLine, IsUpgradeLine, IsVersionLine, MayBeRefused}
 use Rattle.ira_main_cli.specs.declared.check_request.CheckRequest.{CheckRequest}
@@ -35,15 +37,15 @@ use Rattle.ira_main_files.specs.Shelf.{Reading, Writing}
 use Rattle.ira_main_files.specs.declared.file_name.FileName.{FileName}
 use Rattle.ira_main.specs.AskedRun.{run_of}
 use Rattle.ira_main.specs.Delivery.{Tells, TellsAndKeeps, TellsAndRecords}
-use Rattle.ira_main.specs.Draw.{DrawsLogs, IsUndrawn}
+use Rattle.ira_main.specs.Draw.{DrawsFiles, IsUndrawn}
 use Rattle.ira_main.specs.Each.{JudgesEach}
-use Rattle.ira_main.specs.Explain.{ExplainsCheckIn, ExplainsFindingsOf, ExplainsInput, ExplainsLogsOf}
+use Rattle.ira_main.specs.Explain.{ExplainsInput}
 use Rattle.ira_main.specs.Given.{IsNoMemory, IsUnread, OfFiles}
 use Rattle.ira_main.specs.Mend.{IsUnmended, MendsLogs}
 use Rattle.ira_main.specs.Moment.{question_of}
-use Rattle.ira_main.specs.Outcome.{Outcome, Prints}
+use Rattle.ira_main.specs.Outcome.{Outcome, PrintsLine}
 use Rattle.ira_main.specs.ProgramFault.{words_fault}
-use Rattle.ira_main.specs.Show.{ShowsRing}
+use Rattle.ira_main.specs.Show.{AsksToShow}
 use Rattle.ira_main.specs.Version.{version_line}
 use Rattle.ira_main.specs.declared.program_fault.ProgramFault.{ProgramFault}
 use Rattle.ira_main.specs.declared.program_fault.ProgramFault.TheVariants.{CannotRead, OutOfMemory}
@@ -53,10 +55,9 @@ use Rattle.ira_view.specs.declared.status.Status.TheVariants.{Yes}
 abbrev pub OfInput : (List ℕ → Reply → Type 0) → Reads → Reads → Reply → Type 0
 OfInput IsReply old new reply = (text : List ℕ) × IsReadTo (MAX_TEXT + 1) old new text × IsReply text reply
 
--- the texts of logs are judged, and after a yes, where that is asked, whether their election is over
-abbrev pub JudgesAsked : Bool → Bool → List (List ℕ) → Reply → Type 0
-JudgesAsked false is_json = JudgesLogs (ReportsAs is_json)
-JudgesAsked true is_json = JudgesOver is_json
+-- what is asked of logs that are to be judged: their answer, and, where that is wanted, whether their election is over
+abbrev pub asked_of_logs : Bool → Bool → LogsCommand
+asked_of_logs is_json asks_over = if asks_over then Over is_json else Answer is_json
 
 -- why none comes of it: a read failed, or memory ran out
 abbrev pub IsInputFault : Reads → ProgramFault → Type 0
@@ -65,36 +66,23 @@ IsInputFault new f =
     × (f ≡ CannotRead name))
     ⊎ (f ≡ OutOfMemory)
 
--- what comes of files that are read is told: of logs alone; of a question and logs; or of these with a certificate
-abbrev pub TellsOfLogs : {S : Type 0} → Reading S → LogSource → S → SinkState → SinkState → Outcome
-    → (List (List ℕ) → List (List ℕ) → Reply → Type 0) → Type 0
-TellsOfLogs reads source shelf out out' outcome IsReply =
-    Tells (OfFiles reads None None None source shelf (λ names _ _. IsReply names))
-    (IsUnread reads None None None source shelf) out out' outcome
-
-abbrev pub TellsOfQuestion : {S : Type 0} → Reading S → Bor (List ℕ) → LogSource → S → SinkState → SinkState → Outcome
-    → (List (List ℕ) → List ℕ → List (List ℕ) → Reply → Type 0) → Type 0
-TellsOfQuestion reads question source shelf out out' outcome IsReply =
-    Tells (OfFiles reads None (Some question) None source shelf (λ names asked _. IsReply names asked))
-    (IsUnread reads None (Some question) None source shelf) out out' outcome
-
-abbrev pub TellsOfCertificate : {S : Type 0} → Reading S → Bor (List ℕ) → Bor (List ℕ) → LogSource → S → SinkState
-    → SinkState → Outcome → (List (List ℕ) → List ℕ → List ℕ → List (List ℕ) → Reply → Type 0) → Type 0
-TellsOfCertificate reads question certificate source shelf out out' outcome IsReply =
-    Tells (OfFiles reads None (Some question) (Some certificate) source shelf IsReply)
-    (IsUnread reads None (Some question) (Some certificate) source shelf) out out' outcome
+-- what comes of a command on files that are read is told
+abbrev pub TellsOfLogs : Type 0 → {S : Type 0} → Reading S → Option (Bor (List ℕ)) → Option (Bor (List ℕ)) → LogSource → S
+    → SinkState → SinkState → Outcome → LogsCommand → Type 0
+TellsOfLogs A reads question certificate source shelf out out' outcome command =
+    Tells (OfFiles reads None question certificate source shelf (Answers A command))
+    (IsUnread reads None question certificate source shelf) out out' outcome
 
 -- the answer that is asked for was explained; that of one log is none of these, since it comes of the input
 abbrev pub ExplainsAnswer : Type 0 → Bool → {S : Type 0} → Reading S → ExplainedAnswer → S → SinkState → SinkState
     → Outcome → Type 0
 ExplainsAnswer A is_json reads OneLog shelf out out' outcome = ⊥
 ExplainsAnswer A is_json reads (Logs source) shelf out out' outcome =
-    TellsOfLogs reads source shelf out out' outcome (ExplainsLogsOf A is_json)
+    TellsOfLogs A reads None None source shelf out out' outcome (Explain is_json)
 ExplainsAnswer A is_json reads (Findings asked source) shelf out out' outcome =
-    TellsOfQuestion reads asked.question source shelf out out' outcome (ExplainsFindingsOf A is_json asked)
+    TellsOfLogs A reads (Some asked.question) None source shelf out out' outcome (ExplainQuestion is_json asked.case)
 ExplainsAnswer A is_json reads (Certificate question certificate source) shelf out out' outcome =
-    TellsOfCertificate reads question certificate source shelf out out' outcome
-    (ExplainsCheckIn A is_json question.now certificate.now)
+    TellsOfLogs A reads (Some question) (Some certificate) source shelf out out' outcome (ExplainCheck is_json)
 
 -- what is done for words: they are refused; or they ask for logs, or for the evidence of an answer, and their texts
 -- are judged together, or those of each of some folders; or to show logs, and what happened by them is printed; or to draw
@@ -110,30 +98,30 @@ pub data CommandOutcome (A : Type 0) {S : Type 0} (reads : Reading S) (writes : 
       → outcome ≡ Err (words_fault fault)
       → CommandOutcome A reads writes words shelf shelf' out out' outcome
   judged : (logs : LogsRequest) → IsLogsLine words logs → shelf' ≡ shelf
-      → TellsOfLogs reads logs.logs shelf out out' outcome (λ _. JudgesAsked logs.asks_over logs.is_json)
+      → TellsOfLogs A reads None None logs.logs shelf out out' outcome
+      (asked_of_logs logs.is_json logs.asks_over)
       → CommandOutcome A reads writes words shelf shelf' out out' outcome
   each : (asked : EachRequest) → IsEachLine words asked → shelf' ≡ shelf → JudgesEach reads asked shelf out out' outcome
       → CommandOutcome A reads writes words shelf shelf' out out' outcome
   explained : (explain : ExplainRequest) → IsExplainLine words explain → shelf' ≡ shelf
       → ExplainsAnswer A explain.is_json reads explain.answer shelf out out' outcome
       → CommandOutcome A reads writes words shelf shelf' out out' outcome
-  shown : (show : ShowRequest) → IsShowLine words show → shelf' ≡ shelf
-      → Tells (OfFiles reads None (question_of show.moment) None show.logs shelf (ShowsRing A show))
-      (IsUnread reads None (question_of show.moment) None show.logs shelf) out out' outcome
+  shown : (show : ShowRequest) → IsShowLine words show → shelf' ≡ shelf → (command : LogsCommand)
+      → AsksToShow show command
+      → TellsOfLogs A reads (question_of show.moment) None show.logs shelf out out' outcome command
       → CommandOutcome A reads writes words shelf shelf' out out' outcome
   drawn : (draw : DrawRequest) → IsDrawLine words draw
-      → TellsAndKeeps writes (Some draw.picture)
-      (OfFiles reads (Some draw.picture) (question_of draw.moment) None draw.logs shelf (DrawsLogs A draw))
-      (IsUndrawn reads draw shelf) shelf shelf' out out' outcome
+      → TellsAndKeeps writes (Some draw.picture) (DrawsFiles A reads draw shelf) (IsUndrawn reads draw shelf)
+      shelf shelf' out out' outcome
       → CommandOutcome A reads writes words shelf shelf' out out' outcome
   certified : (check : CheckRequest) → IsCheckLine words check → shelf' ≡ shelf
-      → TellsOfCertificate reads check.question check.certificate check.logs shelf out out' outcome
-      (λ _. ChecksTexts (ReportsAs check.is_json))
+      → TellsOfLogs A reads (Some check.question) (Some check.certificate) check.logs shelf out out' outcome
+      (Check check.is_json)
       → CommandOutcome A reads writes words shelf shelf' out out' outcome
   decided : (decide : DecideRequest) → IsDecideLine words decide
       → TellsAndKeeps writes decide.certificate
       (OfFiles reads decide.certificate (Some decide.question) None decide.logs shelf
-      (λ _ question _. DecidesTexts {A = A} (PrintsDecided decide.is_json (is_some decide.certificate)) question))
+      (Answers A (Decide decide.is_json (is_some decide.certificate))))
       (IsUnread reads decide.certificate (Some decide.question) None decide.logs shelf)
       shelf shelf' out out' outcome
       → CommandOutcome A reads writes words shelf shelf' out out' outcome
@@ -145,14 +133,14 @@ pub data CommandOutcome (A : Type 0) {S : Type 0} (reads : Reading S) (writes : 
       → CommandOutcome A reads writes words shelf shelf' out out' outcome
   upgraded : (upgrade : RewriteRequest) → IsUpgradeLine words upgrade
       → TellsAndRecords writes upgrade.folder
-      (OfFiles reads None None None upgrade.logs shelf (λ _ _ _. UpgradesTexts))
+      (OfFiles reads None None None upgrade.logs shelf (λ given. UpgradesTexts given.texts))
       (IsUnread reads None None None upgrade.logs shelf) shelf shelf' out out' outcome
       → CommandOutcome A reads writes words shelf shelf' out out' outcome
   mended : (mend : MendRequest) → IsMendLine words mend
       → TellsAndRecords writes mend.folder (MendsLogs reads mend shelf) (IsUnmended reads mend shelf)
       shelf shelf' out out' outcome
       → CommandOutcome A reads writes words shelf shelf' out out' outcome
-  versioned : IsVersionLine words → shelf' ≡ shelf → Prints version_line Yes out out' outcome
+  versioned : IsVersionLine words → shelf' ≡ shelf → PrintsLine version_line Yes out out' outcome
       → CommandOutcome A reads writes words shelf shelf' out out' outcome
 
 -- without words the input is judged, and the shelf is as it was, and so it is where they ask for the evidence of one

@@ -1,5 +1,8 @@
-ghost use Rattle.std.specs.Prelude.{◌≡◌, ◌≤◌, ◌+◌, IfOk, MatchResult, None, Some};
-ghost use Rattle.ira_main.specs.Explain.{ExplainsCheckIn, ExplainsCheckOf, ExplainsFindingsOf, ExplainsInput, ExplainsLogsOf};
+ghost use Rattle.std.specs.Prelude.{◌≤◌, ◌+◌, IfOk, MatchResult, None, Some};
+ghost use Rattle.ira_commands.specs.Answers.{Answers};
+ghost use Rattle.ira_commands.specs.Given.{given_of};
+ghost use Rattle.ira_commands.specs.declared.logs_command.LogsCommand.TheVariants.{ExplainCheck};
+ghost use Rattle.ira_main.specs.Explain.{ExplainsInput};
 ghost use Rattle.ira_main.specs.Given.{IsUnread, OfFiles};
 ghost use Rattle.ira_main.specs.NamedFile.{names_in, texts_in};
 ghost use Rattle.ira_main.specs.Serve.{IsInputFault, OfInput};
@@ -7,9 +10,9 @@ ghost use Rattle.ira_main.specs.Serve.{IsInputFault, OfInput};
 use crate::given::{GivenTexts, Inputs, read_given_texts};
 use crate::named_file::{NamedFile, named_texts};
 use crate::program_fault::ProgramFault;
-use ira_commands::{Reply, explain_all, explain_asked, explain_one, tell_view};
+use ira_commands::{Reply, explain_one, tell_view};
 use ira_event::{MAX_TEXT, OutOfMemory};
-use ira_main_cli::{CaseSelection, LogSource};
+use ira_main_cli::LogSource;
 use ira_main_files::{CountingReader, FileName, TextBuffer, TextSource};
 use ira_view::{AskedFiles, explain_certified, judge_texts};
 use ira_view_page::NamedText;
@@ -40,94 +43,6 @@ pub(crate) fn explain_input<'a, A: Allocator + Clone, I: Read>(
     Ok(explain_one(alloc, is_json, &log)?)
 }
 
-/// The answer of logs in files that were read, and why it is so.
-fn explain_read<R: Threads, A: Allocator + Clone + Sync>(
-    rt: &R,
-    alloc: A,
-    is_json: bool,
-    logs: &[NamedFile<A>],
-) -> Result<Reply<A>, OutOfMemory>
-    ensures { IfOk result (ExplainsLogsOf A is_json (names_in logs.now) (texts_in logs.now)) }
-{
-    let logs = named_texts(alloc.clone()?, logs)?;
-    let judged = judge_texts(rt, alloc.clone()?, &logs)?;
-    explain_all(alloc, is_json, &logs, &judged)
-}
-
-/// Judges the logs of a source together, and says why the answer is as it is.
-pub(crate) fn explain_files<'a, R, A, F>(
-    rt: &R,
-    alloc: A,
-    is_json: bool,
-    source: &LogSource<'a>,
-    shelf: &F,
-) -> Result<Reply<A>, ProgramFault<'a>>
-where
-    R: Threads,
-    A: Allocator + Clone + Sync,
-    F: TextSource,
-    ensures { MatchResult result
-        (OfFiles F.reads None None None source.now shelf.now (λ names _ _. ExplainsLogsOf A is_json names))
-        (IsUnread F.reads None None None source.now shelf.now) }
-{
-    let GivenTexts { logs, .. } = read_given_texts(&alloc, Inputs::logs(source), shelf)?;
-    Ok(explain_read(rt, alloc, is_json, &logs)?)
-}
-
-/// What is found for a question about logs in files that were read, and why it is so.
-fn explain_question_read<R: Threads, A: Allocator + Clone + Sync>(
-    rt: &R,
-    alloc: A,
-    is_json: bool,
-    asked: CaseSelection<'_>,
-    question: &[u8],
-    logs: &[NamedFile<A>],
-) -> Result<Reply<A>, OutOfMemory>
-    ensures { IfOk result
-        (ExplainsFindingsOf A is_json asked.entry (names_in logs.now) question.now (texts_in logs.now)) }
-{
-    let logs = named_texts(alloc.clone()?, logs)?;
-    let judged = judge_texts(rt, alloc.clone()?, &logs)?;
-    let question = NamedText {
-        name: asked.question,
-        text: question,
-    };
-    let files = AskedFiles {
-        logs: &logs,
-        question: &question,
-    };
-    explain_asked(alloc, is_json, asked.case, files, &judged)
-}
-
-/// Decides a question of the logs of a source, and says why what is found is so.
-pub(crate) fn explain_question_files<'a, R, A, F>(
-    rt: &R,
-    alloc: A,
-    is_json: bool,
-    asked: CaseSelection<'a>,
-    source: &LogSource<'a>,
-    shelf: &F,
-) -> Result<Reply<A>, ProgramFault<'a>>
-where
-    R: Threads,
-    A: Allocator + Clone + Sync,
-    F: TextSource,
-    ensures { MatchResult result
-        (OfFiles F.reads None (Some asked.entry.question) None source.now shelf.now
-        (λ names question _. ExplainsFindingsOf A is_json asked.entry names question))
-        (IsUnread F.reads None (Some asked.entry.question) None source.now shelf.now) }
-{
-    let inputs = Inputs {
-        question: Some(asked.question),
-        certificate: None,
-        logs: source,
-        made: None,
-    };
-    let GivenTexts { first, logs } = read_given_texts(&alloc, inputs, shelf)?;
-    let question = first.question.bytes();
-    Ok(explain_question_read(rt, alloc, is_json, asked, question, &logs)?)
-}
-
 /// The answer of logs in files that were read, of a question and of a certificate, and why it is so.
 fn explain_check_read<R, A>(
     rt: &R,
@@ -140,8 +55,8 @@ fn explain_check_read<R, A>(
 where
     R: Threads + Wait + Clock + Sync,
     A: Allocator + Clone + Send + Sync,
-    ensures { IfOk result
-        (ExplainsCheckOf A is_json question.now certificate.now (names_in logs.now) (texts_in logs.now)) }
+    ensures { IfOk result (Answers A (ExplainCheck is_json)
+        (given_of question.now certificate.now (names_in logs.now) (texts_in logs.now))) }
 {
     let logs = named_texts(alloc.clone()?, logs)?;
     let judged = judge_texts(rt, alloc.clone()?, &logs)?;
@@ -169,7 +84,7 @@ where
     F: TextSource,
     ensures { MatchResult result
         (OfFiles F.reads None (Some question.entry) (Some certificate.entry) source.now shelf.now
-        (ExplainsCheckIn A is_json question.now certificate.now))
+        (Answers A (ExplainCheck is_json)))
         (IsUnread F.reads None (Some question.entry) (Some certificate.entry) source.now shelf.now) }
 {
     let inputs = Inputs {

@@ -25,15 +25,24 @@ pub(crate) struct Inputs<'t, 'a> {
 }
 
 impl<'t, 'a> Inputs<'t, 'a> {
-    /// Logs alone.
-    pub(crate) fn logs(logs: &'t LogSource<'a>) -> Inputs<'t, 'a>
-        ensures { result ≡ record { question = None; certificate = None; logs = logs.entry; made = None } }
+    /// Logs, and a question where one is named; and what is made of these.
+    pub(crate) fn asked(
+        question: Option<&'a str>,
+        logs: &'t LogSource<'a>,
+        made: Option<&'a str>,
+    ) -> Inputs<'t, 'a>
+        ensures { result ≡ record {
+          question = question.entry;
+          certificate = None;
+          logs = logs.entry;
+          made = made.entry;
+        } }
     {
         Inputs {
-            question: None,
+            question,
             certificate: None,
             logs,
-            made: None,
+            made,
         }
     }
 }

@@ -1,19 +1,21 @@
-ghost use Rattle.std.specs.Prelude.{◌≤◌, ◌+◌, ℕ, IfOk, List, MatchResult, None, Some};
+ghost use Rattle.std.specs.Prelude.{◌≡◌, ◌≤◌, ◌+◌, ℕ, IfOk, List, MatchResult, None, Some};
 ghost use Rattle.ira_audit.specs.RingAudit.{HasTaken};
+ghost use Rattle.ira_commands.specs.Answers.{Answers};
 ghost use Rattle.ira_commands.specs.Check.{ChecksTexts};
 ghost use Rattle.ira_commands.specs.Judging.{JudgesLog};
 ghost use Rattle.ira_commands.specs.Reply.{Reports, ReportsAs};
+ghost use Rattle.ira_commands.specs.declared.logs_command.LogsCommand.TheVariants.{Check};
 ghost use Rattle.ira_main.specs.Given.{IsUnread, OfFiles};
-ghost use Rattle.ira_main.specs.Serve.{IsInputFault, JudgesAsked, OfInput};
+ghost use Rattle.ira_main.specs.Serve.{IsInputFault, OfInput, asked_of_logs};
 
 use crate::given::{Given, Inputs, read_given};
 use crate::input_audit::audit_input;
 use crate::program_fault::ProgramFault;
 use ira_audit::RingAudit;
-use ira_commands::{Reply, answer_logs, answer_over};
+use ira_commands::{LogsCommand, Reply};
 use ira_event::{MAX_TEXT, OutOfMemory};
 use ira_links::OpenGate;
-use ira_main_cli::{CheckRequest, LogsRequest};
+use ira_main_cli::CheckRequest;
 use ira_main_files::{CountingReader, FileName, Shelf};
 use std::alloc::Allocator;
 use std::io::Read;
@@ -35,43 +37,15 @@ pub(crate) fn judge_input<'a, A: Allocator + Clone, I: Read>(
     }
 }
 
-/// The answer of the logs that an audit has taken.
-fn judge_taken<R: Threads, A: Allocator + Clone + Sync>(
-    rt: &R,
-    alloc: A,
-    asked: &LogsRequest<'_>,
-    audit: RingAudit<A>,
-) -> Result<Reply<A>, OutOfMemory>
-    requires { (texts : List (List ℕ)) × HasTaken audit texts }
-    ensures { (texts : List (List ℕ)) → HasTaken audit texts
-        → IfOk result (JudgesAsked asked.now.asks_over asked.now.is_json texts) }
+/// What is asked of logs that are to be judged.
+pub(crate) fn judge_command<'v>(is_json: bool, asks_over: bool) -> LogsCommand<'v>
+    ensures { result ≡ asked_of_logs is_json asks_over }
 {
-    let judged = audit.judge_on_threads(rt)?;
-    if asked.asks_over {
-        answer_over(alloc, asked.is_json, &judged)
+    if asks_over {
+        LogsCommand::Over { is_json }
     } else {
-        answer_logs(alloc, asked.is_json, &judged)
+        LogsCommand::Answer { is_json }
     }
-}
-
-/// Judges the logs of a source together. Each file is read before an answer is given.
-pub(crate) fn judge_files<'a, R, A, F>(
-    rt: &R,
-    alloc: A,
-    asked: &LogsRequest<'a>,
-    shelf: &F,
-) -> Result<Reply<A>, ProgramFault<'a>>
-where
-    R: Threads + Sync,
-    A: Allocator + Clone + Send + Sync,
-    F: Shelf + Sync,
-    ensures { MatchResult result
-        (OfFiles F.reads None None None asked.now.logs shelf.now
-        (λ _ _ _. JudgesAsked asked.now.asks_over asked.now.is_json))
-        (IsUnread F.reads None None None asked.now.logs shelf.now) }
-{
-    let Given { audit, .. } = read_given(rt, &alloc, Inputs::logs(&asked.logs), shelf)?;
-    Ok(judge_taken(rt, alloc, asked, audit)?)
 }
 
 /// The answer of the logs that an audit has taken, of a question and of a certificate.
@@ -110,7 +84,7 @@ where
     requires depth { check.now.depth ≤ 4 }
     ensures { MatchResult result
         (OfFiles F.reads None (Some check.now.question) (Some check.now.certificate) check.now.logs shelf.now
-        (λ _ question certificate texts. ChecksTexts (ReportsAs check.now.is_json) question certificate texts))
+        (Answers A (Check check.now.is_json)))
         (IsUnread F.reads None (Some check.now.question) (Some check.now.certificate) check.now.logs shelf.now) }
 {
     let inputs = Inputs {

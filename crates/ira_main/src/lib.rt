@@ -1,9 +1,9 @@
 //! The program `ira` as a function of its words, its input, its files and its two output streams.
 #![tactic(auto)]
 
+mod answer_files;
 mod asked_run;
 mod cert_file;
-mod decide_files;
 mod delivery;
 mod draw_files;
 mod explain_files;
@@ -15,14 +15,13 @@ mod judge_files;
 mod left_files;
 mod log_files;
 mod mend_files;
-mod moment;
 mod named_file;
 mod overwriting;
 mod program;
 mod program_fault;
 mod progress;
 mod read_files;
-mod show_files;
+mod show_command;
 mod shown_name;
 mod source_names;
 mod system;

@@ -8,26 +8,27 @@ ghost use Rattle.ira_main.specs.Progress.{ServesOrLeaves};
 ghost use Rattle.ira_main.specs.Unread.{IsWhy, TellsUnread, wants_json};
 ghost use Rattle.ira_main.specs.Serve.{Serves};
 
+use crate::answer_files::answer_files;
 use crate::asked_run::{record_run_alone, record_run_on_threads};
-use crate::decide_files::decide_files;
 use crate::delivery::{deliver, deliver_and_keep, record_and_deliver};
 use crate::draw_files::draw_files;
-use crate::explain_files::{
-    explain_check_files, explain_files, explain_input, explain_question_files,
-};
+use crate::explain_files::{explain_check_files, explain_input};
+use crate::given::Inputs;
 use crate::judge_each::judge_each;
-use crate::judge_files::{check_files, judge_files, judge_input};
+use crate::judge_files::{check_files, judge_command, judge_input};
 use crate::mend_files::mend_files;
 use crate::program_fault::{ProgramFault, report_outcome};
 use crate::progress::Progress;
-use crate::show_files::show_files;
+use crate::show_command::{question_of, show_command};
 use crate::tell_unread::tell_unread;
 use crate::tell_why::why_unread;
 use crate::upgrade_files::upgrade_files;
 use crate::version::print_version;
-use ira_commands::{Reply, ask_pairs};
+use ira_commands::{LogsCommand, Reply, ask_pairs};
 use ira_event::{MAX_TEXT, Sink};
-use ira_main_cli::{ExplainRequest, ExplainedAnswer, Request, read_words};
+use ira_main_cli::{
+    CaseSelection, ExplainRequest, ExplainedAnswer, LogsRequest, Request, read_words,
+};
 use ira_main_files::{CountingReader, Shelf};
 use ira_view::Status;
 use std::alloc::Allocator;
@@ -70,8 +71,14 @@ where
     };
     match request {
         Request::OneLog => Progress::Ended(deliver(judge_input(alloc, input), out)),
-        Request::Logs(logs) => {
-            Progress::Ended(deliver(judge_files(rt, alloc, &logs, shelf), out))
+        Request::Logs(LogsRequest {
+            is_json,
+            asks_over,
+            logs,
+        }) => {
+            let command = judge_command(is_json, asks_over);
+            let inputs = Inputs::asked(None, &logs, None);
+            Progress::Ended(deliver(answer_files(rt, alloc, command, inputs, shelf), out))
         }
         Request::Each(each) => Progress::Ended(judge_each(rt, alloc, &each, shelf, out)),
         Request::Explain(ExplainRequest { answer, is_json }) => match answer {
@@ -79,11 +86,15 @@ where
                 Progress::Ended(deliver(explain_input(alloc, is_json, input), out))
             }
             ExplainedAnswer::Logs(logs) => {
-                Progress::Ended(deliver(explain_files(rt, alloc, is_json, &logs, shelf), out))
+                let command = LogsCommand::Explain { is_json };
+                let inputs = Inputs::asked(None, &logs, None);
+                Progress::Ended(deliver(answer_files(rt, alloc, command, inputs, shelf), out))
             }
             ExplainedAnswer::Findings { asked, logs } => {
-                let reply = explain_question_files(rt, alloc, is_json, asked, &logs, shelf);
-                Progress::Ended(deliver(reply, out))
+                let CaseSelection { question, case } = asked;
+                let command = LogsCommand::ExplainQuestion { is_json, case };
+                let inputs = Inputs::asked(Some(question), &logs, None);
+                Progress::Ended(deliver(answer_files(rt, alloc, command, inputs, shelf), out))
             }
             ExplainedAnswer::Certificate {
                 question,
@@ -97,7 +108,9 @@ where
             },
         },
         Request::Show(show) => {
-            Progress::Ended(deliver(show_files(rt, alloc, &show, shelf), out))
+            let inputs = Inputs::asked(question_of(&show.moment), &show.logs, None);
+            let reply = answer_files(rt, alloc, show_command(&show), inputs, shelf);
+            Progress::Ended(deliver(reply, out))
         }
         Request::Draw(draw) => {
             let reply = draw_files(rt, alloc, &draw, shelf);
@@ -105,7 +118,13 @@ where
         }
         Request::Check(check) => Progress::Check(check),
         Request::Decide(decide) => {
-            let reply = decide_files(rt, alloc, &decide, shelf);
+            let command = LogsCommand::Decide {
+                is_json: decide.is_json,
+                certify: decide.certificate.is_some(),
+            };
+            let question = Some(decide.question);
+            let inputs = Inputs::asked(question, &decide.logs, decide.certificate);
+            let reply = answer_files(rt, alloc, command, inputs, shelf);
             Progress::Ended(deliver_and_keep(reply, decide.certificate, shelf, out))
         }
         Request::Pairs(nodes) => Progress::Ended(deliver(pairs(alloc, nodes), out)),

@@ -23,9 +23,14 @@ where
     A: Allocator + Clone + Send + Sync,
     F: Shelf + Sync,
     ensures { MatchResult result
-        (OfFiles F.reads None None None upgrade.now.logs shelf.now (λ _ _ _. UpgradesTexts))
+        (OfFiles F.reads None None None upgrade.now.logs shelf.now (λ given. UpgradesTexts given.texts))
         (IsUnread F.reads None None None upgrade.now.logs shelf.now) }
 {
-    let Given { audit, .. } = read_given(rt, alloc, Inputs::logs(&upgrade.logs), shelf)?;
+    let Given { audit, .. } = read_given(
+        rt,
+        alloc,
+        Inputs::asked(None, &upgrade.logs, None),
+        shelf,
+    )?;
     Ok(upgrade_taken(alloc.clone()?, audit)?)
 }

@@ -1,4 +1,4 @@
-ghost use Rattle.ira_main.specs.Outcome.{Prints};
+ghost use Rattle.ira_main.specs.Outcome.{PrintsLine};
 ghost use Rattle.ira_main.specs.Version.{version_line};
 ghost use Rattle.ira_view.specs.declared.status.Status.TheVariants.{Yes};
 
@@ -11,7 +11,7 @@ const VERSION: &[u8] = b"ira 0.2.0 (proved by rattle, logic dac8208d650f15bf)\n"
 
 /// Prints which version this is.
 pub(crate) fn print_version<'a, W: Sink>(out: &mut W) -> Result<Status, ProgramFault<'a>>
-    ensures { Prints version_line Yes (W.state out.old) (W.state out.new) result }
+    ensures { PrintsLine version_line Yes (W.state out.old) (W.state out.new) result }
 {
     match write_bytes(VERSION, out) {
         Ok(()) => Ok(Status::Yes),

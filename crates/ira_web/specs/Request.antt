@@ -1,13 +1,14 @@
 -- How requests are spelled.
 use Rattle.std.specs.Prelude.{◌≡◌, ℕ, Bool, List, [], ◌++◌, ◌∷◌, Some, false, true}
+use Rattle.ira_commands.specs.declared.logs_command.LogsCommand.{LogsCommand}
+use Rattle.ira_commands.specs.declared.logs_command.LogsCommand.TheVariants.{Answer, Check, Decide, Explain, ExplainCheck}
+use Rattle.ira_commands.specs.declared.logs_command.LogsCommand.TheVariants.{ExplainQuestion, Show}
 use Rattle.ira_commands.specs.declared.ring_form.RingForm.{RingForm}
 use Rattle.ira_commands.specs.declared.ring_form.RingForm.TheVariants.{Html, Lines, Picture}
 use Rattle.ira_view_picture.specs.declared.column_range.ColumnRange.{ColumnRange}
 use Rattle.ira_web.specs.Spelling.{case_values, leaders_values, moment_values, run_values}
 use Rattle.ira_web.specs.declared.request.Request.{Request}
-use Rattle.ira_web.specs.declared.request.Request.TheVariants.{Check, Decide, Explain, ExplainCertificate, ExplainLog}
-use Rattle.ira_web.specs.declared.request.Request.TheVariants.{ExplainQuestion, Logs, Mend, OneLog, Pairs, Run, Show}
-use Rattle.ira_web.specs.declared.request.Request.TheVariants.{Upgrade}
+use Rattle.ira_web.specs.declared.request.Request.TheVariants.{ExplainLog, Mend, OfLogs, OneLog, Pairs, Run, Upgrade}
 
 -- the number that says that lines of JSON are wanted, where they are
 abbrev pub json_values : Bool → List ℕ
@@ -32,18 +33,22 @@ HasFormValues (Picture columns) values =
 HasFormValues (Html columns) values =
     (from : ℕ) × (to : ℕ) × AreColumns columns from to × (values ≡ 15 ∷ from ∷ to ∷ [])
 
--- the number of the command, and its values
+-- the number of a command on the logs of a ring, and its values; what is decided is certified
+abbrev pub HasCommandValues : LogsCommand → List ℕ → Type 0
+HasCommandValues (Answer is_json) values = values ≡ json_values is_json ++ 1 ∷ []
+HasCommandValues (Explain is_json) values = values ≡ json_values is_json ++ 3 ∷ []
+HasCommandValues (ExplainQuestion is_json case) values = values ≡ json_values is_json ++ 4 ∷ case_values case
+HasCommandValues (ExplainCheck is_json) values = values ≡ json_values is_json ++ 5 ∷ []
+HasCommandValues (Show form moment) values =
+    (front : List ℕ) × HasFormValues form front × (values ≡ front ++ moment_values moment)
+HasCommandValues (Decide is_json certify) values = (certify ≡ true) × (values ≡ json_values is_json ++ 9 ∷ [])
+HasCommandValues (Check is_json) values = values ≡ json_values is_json ++ 10 ∷ []
+
+-- the number of the request, and its values
 abbrev pub HasValues : Request → List ℕ → Type 0
 HasValues OneLog values = values ≡ 0 ∷ []
-HasValues (Logs is_json) values = values ≡ json_values is_json ++ 1 ∷ []
 HasValues (ExplainLog is_json) values = values ≡ json_values is_json ++ 2 ∷ []
-HasValues (Explain is_json) values = values ≡ json_values is_json ++ 3 ∷ []
-HasValues (ExplainQuestion is_json case) values = values ≡ json_values is_json ++ 4 ∷ case_values case
-HasValues (ExplainCertificate is_json) values = values ≡ json_values is_json ++ 5 ∷ []
-HasValues (Show form moment) values =
-    (front : List ℕ) × HasFormValues form front × (values ≡ front ++ moment_values moment)
-HasValues (Decide is_json) values = values ≡ json_values is_json ++ 9 ∷ []
-HasValues (Check is_json) values = values ≡ json_values is_json ++ 10 ∷ []
+HasValues (OfLogs command) values = HasCommandValues command values
 HasValues (Pairs nodes) values = values ≡ 11 ∷ nodes ∷ []
 HasValues Upgrade values = values ≡ 12 ∷ []
 HasValues (Mend false) values = values ≡ 13 ∷ 0 ∷ []

@@ -1,6 +1,5 @@
 -- How moments and runs are spelled.
-use Rattle.std.specs.Prelude.{◌≡◌, ℕ, List, [], ◌∷◌, Option, None, Some, length}
-use Rattle.ira_view_page.specs.declared.named_text.NamedText.{NamedText}
+use Rattle.std.specs.Prelude.{ℕ, List, [], ◌∷◌, Option, None, Some, length}
 use Rattle.ira_commands.specs.declared.ring_moment.RingMoment.{RingMoment}
 use Rattle.ira_commands.specs.declared.ring_moment.RingMoment.TheVariants.{AtCut, AtEnd, OfQuestion}
 use Rattle.ira_commands.specs.declared.asked_run.AskedRun.{AskedRun}
@@ -27,10 +26,3 @@ leaders_values (Places places) = 17 ∷ length places.now ∷ places.now
 -- a run
 abbrev pub run_values : AskedRun → List ℕ
 run_values asked = asked.nodes ∷ asked.initiators ∷ asked.seed ∷ asked.draws ∷ asked.cap ∷ asked.terms ∷ []
-
--- the files are those of the logs, after that of the question, with this text, whose first moment is asked for, where one is
-abbrev pub AreMomentFiles : RingMoment → List ℕ → List NamedText → List NamedText → Type 0
-AreMomentFiles (OfQuestion case) question files logs =
-    (file : NamedText) × (file.text.now ≡ question) × (files ≡ file ∷ logs)
-AreMomentFiles AtEnd question files logs = files ≡ logs
-AreMomentFiles (AtCut events) question files logs = files ≡ logs

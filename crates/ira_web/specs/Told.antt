@@ -11,8 +11,8 @@ pub record Told : Type 0 where
   pub parts : List (List ℕ)
 
 -- that of a reply
-abbrev pub Tells : Reply → Told → Type 0
-Tells reply told = (told.status ≡ reply.status) × (out : List ℕ) × IsPrinted reply.out out
+abbrev pub TellsReply : Reply → Told → Type 0
+TellsReply reply told = (told.status ≡ reply.status) × (out : List ℕ) × IsPrinted reply.out out
     × (told.parts ≡ out ∷ fault_text reply.fault ∷ file_texts reply.files)
 
 -- a list begins with these

@@ -5,7 +5,6 @@
 mod commands;
 mod export;
 mod files;
-mod judged;
 mod request;
 mod serve;
 mod told;

@@ -1,9 +1,8 @@
 ghost use Rattle.std.specs.Prelude.{◌≡◌, ◌++◌, ◌∷◌, IfSome, length};
 ghost use Rattle.ira_web.specs.Request.{AreColumns, HasValues, json_values, lines_values};
-ghost use Rattle.ira_web.specs.Spelling.{AreMomentFiles, leaders_values, moment_values, run_values};
+ghost use Rattle.ira_web.specs.Spelling.{leaders_values, moment_values, run_values};
 
-use ira_commands::{AskedRun, LinesForm, RingForm, RingLeaders, RingMoment};
-use ira_view_page::NamedText;
+use ira_commands::{AskedRun, LinesForm, LogsCommand, RingForm, RingLeaders, RingMoment};
 use ira_view_picture::ColumnRange;
 
 // The numbers of requests. The page, the library for other languages and its check name them in this order too.
@@ -99,45 +98,15 @@ fn columns(from: u64, to: u64) -> ColumnRange
     }
 }
 
-/// The text of the question whose first moment is asked for, no bytes where none is, and the files of the logs; nothing where
-/// there is no file of the question.
-pub(crate) fn split_moment<'f, 't>(
-    moment: &RingMoment<'_>,
-    files: &'f [NamedText<'t>],
-) -> Option<(&'t [u8], &'f [NamedText<'t>])>
-    ensures { IfSome result (λ parts. AreMomentFiles moment.now parts.0.now files.now parts.1.now) }
-{
-    match moment {
-        RingMoment::OfQuestion(_) => {
-            let (question, logs) = files.split_first()?;
-            Some((question.text, logs))
-        }
-        RingMoment::AtEnd | RingMoment::AtCut(_) => Some((b"", files)),
-    }
-}
-
 /// What a page asks for.
 #[derive(Clone, Copy)]
 pub(crate) enum Request<'v> {
     /// The answer of one log alone.
     OneLog,
-    /// The answer of the logs of a ring.
-    Logs { is_json: bool },
     /// The answer of one log alone, and why it is so.
     ExplainLog { is_json: bool },
-    /// The answer of the logs of a ring, and why it is so.
-    Explain { is_json: bool },
-    /// What is found for a question about logs, and why it is so: of the case of a number, counted from 0, or of the first
-    /// ones.
-    ExplainQuestion { is_json: bool, case: Option<u64> },
-    /// The answer of logs, of a question and of a certificate, and why it is so.
-    ExplainCertificate { is_json: bool },
-    /// A ring at a moment.
-    Show(RingForm<'v>, RingMoment<'v>),
-    /// What is found for a question about logs, and its certificate.
-    Decide { is_json: bool },
-    /// The answer of logs, of a question and of a certificate.
-    Check { is_json: bool },
+    /// A command on the logs of a ring.
+    OfLogs(LogsCommand<'v>),
     /// The question whether two nodes of a ring of so many ever lead at once.
     Pairs(u64),
     /// The logs of a ring in version 2.
@@ -172,26 +141,34 @@ impl<'v> Request<'v> {
     fn told(is_json: bool, values: &'v [u64]) -> Option<Request<'v>>
         ensures { IfSome result (λ request. HasValues request (json_values is_json ++ values.now)) }
     {
-        match values {
-            [LOGS] => Some(Request::Logs { is_json }),
-            [EXPLAIN_LOG] => Some(Request::ExplainLog { is_json }),
-            [EXPLAIN] => Some(Request::Explain { is_json }),
-            [EXPLAIN_QUESTION] => Some(Request::ExplainQuestion {
+        let command = match values {
+            [LOGS] => LogsCommand::Answer { is_json },
+            [EXPLAIN_LOG] => return Some(Request::ExplainLog { is_json }),
+            [EXPLAIN] => LogsCommand::Explain { is_json },
+            [EXPLAIN_QUESTION] => LogsCommand::ExplainQuestion {
                 is_json,
                 case: None,
-            }),
-            [EXPLAIN_QUESTION, case] => Some(Request::ExplainQuestion {
+            },
+            [EXPLAIN_QUESTION, case] => LogsCommand::ExplainQuestion {
                 is_json,
                 case: Some(*case),
-            }),
-            [EXPLAIN_CERT] => Some(Request::ExplainCertificate { is_json }),
-            [LEADERS, count, led @ ..] => Request::led(is_json, *count, led),
-            [SHOW, moment @ ..] => Request::lines(is_json, RingLeaders::NotAsked, false, moment),
-            [EVENTS, moment @ ..] => Request::lines(is_json, RingLeaders::NotAsked, true, moment),
-            [DECIDE] => Some(Request::Decide { is_json }),
-            [CHECK] => Some(Request::Check { is_json }),
-            _ => None,
-        }
+            },
+            [EXPLAIN_CERT] => LogsCommand::ExplainCheck { is_json },
+            [LEADERS, count, led @ ..] => return Request::led(is_json, *count, led),
+            [SHOW, moment @ ..] => {
+                return Request::lines(is_json, RingLeaders::NotAsked, false, moment);
+            }
+            [EVENTS, moment @ ..] => {
+                return Request::lines(is_json, RingLeaders::NotAsked, true, moment);
+            }
+            [DECIDE] => LogsCommand::Decide {
+                is_json,
+                certify: true,
+            },
+            [CHECK] => LogsCommand::Check { is_json },
+            _ => return None,
+        };
+        Some(Request::OfLogs(command))
     }
 
     /// A ring as lines, where so many nodes are to lead, or any where they are none.
@@ -222,7 +199,8 @@ impl<'v> Request<'v> {
             has_events,
             leaders,
         };
-        Some(Request::Show(RingForm::Lines(form), moment_of(moment)?))
+        let command = LogsCommand::Show(RingForm::Lines(form), moment_of(moment)?);
+        Some(Request::OfLogs(command))
     }
 
     /// A picture from one column to another, at the moment of these values, if they are those of one.
@@ -230,7 +208,7 @@ impl<'v> Request<'v> {
         ensures { IfSome result (λ request. HasValues request (DRAW ∷ from ∷ to ∷ moment.now)) }
     {
         let form = RingForm::Picture(columns(from, to));
-        Some(Request::Show(form, moment_of(moment)?))
+        Some(Request::OfLogs(LogsCommand::Show(form, moment_of(moment)?)))
     }
 
     /// A page to move in such a picture.
@@ -238,6 +216,6 @@ impl<'v> Request<'v> {
         ensures { IfSome result (λ request. HasValues request (PAGE ∷ from ∷ to ∷ moment.now)) }
     {
         let form = RingForm::Html(columns(from, to));
-        Some(Request::Show(form, moment_of(moment)?))
+        Some(Request::OfLogs(LogsCommand::Show(form, moment_of(moment)?)))
     }
 }

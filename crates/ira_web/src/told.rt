@@ -2,7 +2,7 @@ ghost use Rattle.std.specs.Prelude.{◌≡◌, ◌<◌, ◌≤◌, ◌+◌, ◌+
 ghost use Rattle.std.specs.List.{flat_map};
 ghost use Rattle.ira_event.specs.LogText.{log_text};
 ghost use Rattle.ira_commands.specs.Reply.{fault_text, file_texts, made};
-ghost use Rattle.ira_web.specs.Told.{Begins, HasNoRoom, IsTold, Tells};
+ghost use Rattle.ira_web.specs.Told.{Begins, HasNoRoom, IsTold, TellsReply};
 
 use ira_commands::{CommandFault, Files, Reply};
 use ira_event::{Logs, MemorySink, OutOfMemory, WriteFault, write_bytes, write_log};
@@ -136,7 +136,7 @@ impl<A: Allocator> Model for Told<A> {
 impl<A: Allocator + Clone> Told<A> {
     /// The parts of a reply.
     pub(crate) fn of_reply(alloc: A, reply: Reply<A>) -> Result<Told<A>, OutOfMemory>
-        ensures { IfOk result (Tells reply) }
+        ensures { IfOk result (TellsReply reply) }
     {
         let status = reply.status();
         let (out, fault, files) = reply.into_parts();

@@ -27,11 +27,5 @@ returns g c =
       texts = texts_in c.in_ok-first.field-0.logs.items;
       first = given.0;
       given = given.1.given;
-      reply_is = (
-        _,
-        _,
-        (refl, c.bytes.ensures),
-        (refl, c.bytes-2.ensures),
-        rw given.1.named at logs,
-      );
+      reply_is = rw (given.1.named, c.bytes.ensures, c.bytes-2.ensures) at logs;
     }

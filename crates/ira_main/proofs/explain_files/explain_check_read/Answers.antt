@@ -22,8 +22,9 @@ returns g c =
     let view = c.in_ok-view.view in
     if_ok c.tell_view.result (λ reply told. (
       _,
-      are,
-      refl,
+      c.args.certificate.now,
+      (are, (refl, refl)),
+      (refl, refl),
       record {
         answer = view.answer;
         judged = c.in_ok-view.ensures.answer;

@@ -6,7 +6,7 @@ use Rattle.ira_main.proofs.upgrade_files.upgrade_files.Goals as goal
 pub returns-in_err-audit : goal.returns-in_err-audit
 returns-in_err-audit g c =
     let p = err_from_is_err_and c.from_residual.result c.from_residual.ensures.1 in
-    rw (p.1, p.2) (rw c.logs.ensures at c.in_err-audit.ensures)
+    rw (p.1, p.2) (rw c.asked.ensures at c.in_err-audit.ensures)
 
 pub returns-in_err-clone : goal.returns-in_err-clone
 returns-in_err-clone g c =
@@ -25,7 +25,7 @@ upgrade_taken-requires g c = (c.in_ok-audit.ensures.1, c.in_ok-audit.ensures.2)
 
 pub returns : goal.returns
 returns g c =
-    let given = rw c.logs.ensures at c.in_ok-audit.ensures in
+    let given = rw c.asked.ensures at c.in_ok-audit.ensures in
     record {
       names = _;
       asked = _;

@@ -14,6 +14,3 @@ returns-in_ok-ask_pairs-in-Pairs g c =
 pub returns-in_ok-run_asked-in-Run : goal.returns-in_ok-run_asked-in-Run
 returns-in_ok-run_asked-in-Run g c =
     rw c.in-Run.is (none c.args.files.now c.in-empty-files.len_below, c.in_ok-run_asked-in-Run.ensures)
-
-pub returns-in-Show : goal.returns-in-Show
-returns-in-Show g c = rw c.in-Show.is c.show.ensures

@@ -1,0 +1,45 @@
+use Rattle.std.proofs.Common.{refl, sym}
+use Rattle.ira_commands.proofs.Served.{if_ok}
+use Rattle.ira_commands.proofs.answers.answer.Goals as goal
+
+pub returns-in-Answer : goal.returns-in-Answer
+returns-in-Answer g c = λ names texts judged are. rw c.in-Answer.is (c.answer_logs.ensures texts judged)
+
+pub returns-in-Over : goal.returns-in-Over
+returns-in-Over g c = λ names texts judged are. rw c.in-Over.is (c.answer_over.ensures texts judged)
+
+pub explain_all-requires : goal.explain_all-requires
+explain_all-requires g c = c.requires.kept (rw c.in-Explain.is refl)
+
+pub returns-in-Explain : goal.returns-in-Explain
+returns-in-Explain g c = λ names texts judged are. rw c.in-Explain.is (if_ok c.explain_all.result
+    (λ reply told. (c.args.given.logs.now, are (rw c.in-Explain.is refl), told)) c.explain_all.ensures)
+
+pub returns-in-Decide : goal.returns-in-Decide
+returns-in-Decide g c = λ names texts judged are. rw c.in-Decide.is (c.decide_asked.ensures texts judged)
+
+pub explain_asked-requires : goal.explain_asked-requires
+explain_asked-requires g c = c.requires.kept (rw c.in-ExplainQuestion.is refl)
+
+pub returns-in-ExplainQuestion : goal.returns-in-ExplainQuestion
+returns-in-ExplainQuestion g c = λ names texts judged are. rw c.in-ExplainQuestion.is (if_ok c.explain_asked.result
+    (λ reply told. (_, (are (rw c.in-ExplainQuestion.is refl), (refl, refl)), told)) c.explain_asked.ensures)
+
+pub returns-in-Check : goal.returns-in-Check
+returns-in-Check g c = λ names texts judged are. rw c.in-Check.is (c.check_alone.ensures texts judged)
+
+pub explain_check_alone-requires : goal.explain_check_alone-requires
+explain_check_alone-requires g c = c.requires.kept (rw c.in-ExplainCheck.is refl)
+
+pub returns-in-ExplainCheck : goal.returns-in-ExplainCheck
+returns-in-ExplainCheck g c = λ names texts judged are. rw c.in-ExplainCheck.is (if_ok c.explain_check_alone.result
+    (λ reply told. (_, _, (are (rw c.in-ExplainCheck.is refl), (refl, refl)), (refl, refl), told))
+    c.explain_check_alone.ensures)
+
+pub told_in_page-requires : goal.told_in_page-requires
+told_in_page-requires g c = λ page. c.requires.kept (rw c.in-Show.is page)
+
+pub returns-in_ok-told-in-Show : goal.returns-in_ok-told-in-Show
+returns-in_ok-told-in-Show g c = λ names texts judged are.
+    let told = c.in_ok-told-in-Show.ensures names texts (λ page. are (rw c.in-Show.is page)) in
+    rw c.in-Show.is (c.show_ring.ensures names texts judged (rw (sym c.as_bytes.ensures.value) at told))

@@ -1,0 +1,17 @@
+-- What is asked of the logs of a ring.
+use Rattle.std.specs.Prelude.{Bool, false, true}
+use Rattle.ira_commands.specs.RingForm.{wants_page}
+use Rattle.ira_commands.specs.declared.logs_command.LogsCommand.{LogsCommand}
+use Rattle.ira_commands.specs.declared.logs_command.LogsCommand.TheVariants.{Answer, Check, Decide, Explain, ExplainCheck}
+use Rattle.ira_commands.specs.declared.logs_command.LogsCommand.TheVariants.{ExplainQuestion, Over, Show}
+
+-- it tells of the logs with their texts and the names of their files
+abbrev pub needs_texts : LogsCommand → Bool
+needs_texts (Answer is_json) = false
+needs_texts (Over is_json) = false
+needs_texts (Explain is_json) = true
+needs_texts (Decide is_json certify) = false
+needs_texts (ExplainQuestion is_json case) = true
+needs_texts (Check is_json) = false
+needs_texts (ExplainCheck is_json) = true
+needs_texts (Show form moment) = wants_page form

@@ -1,0 +1,80 @@
+ghost use Rattle.std.specs.Prelude.{◌≡◌, IfOk, List, length, true, ℕ};
+ghost use Rattle.ira_audit.specs.Judged.{IsJudged};
+ghost use Rattle.ira_view.specs.Texts.{AreFiles, texts_of};
+ghost use Rattle.ira_commands.specs.Answers.{Answers};
+ghost use Rattle.ira_commands.specs.Given.{given_of};
+ghost use Rattle.ira_commands.specs.LogsCommand.{needs_texts};
+
+use crate::check::check_alone;
+use crate::decide::decide_asked;
+use crate::explain::explain_all;
+use crate::explain_check::explain_check_alone;
+use crate::explain_question::explain_asked;
+use crate::given_files::GivenFiles;
+use crate::logs::answer_logs;
+use crate::logs_command::LogsCommand;
+use crate::over::answer_over;
+use crate::reply::Reply;
+use crate::show::{show_ring, told_in_page};
+use ira_audit::Judged;
+use ira_event::OutOfMemory;
+use ira_view::AskedFiles;
+use std::alloc::Allocator;
+
+/// What comes of a command on logs that were judged. No thread is started.
+pub fn answer<A: Allocator + Clone>(
+    alloc: A,
+    command: LogsCommand<'_>,
+    given: GivenFiles<'_, A>,
+    judged: Judged<A>,
+) -> Result<Reply<A>, OutOfMemory>
+    requires judged { (texts : List (List ℕ)) × IsJudged texts judged × (length given.names.items ≡ length texts) }
+    requires kept { needs_texts command ≡ true → IsJudged (texts_of given.logs.now) judged }
+    ensures { (names texts : List (List ℕ)) → IsJudged texts judged
+        → (needs_texts command.entry ≡ true → AreFiles names texts given.entry.logs.now)
+        → IfOk result (Answers A command.entry (given_of given.entry.question given.entry.certificate names texts)) }
+{
+    let GivenFiles {
+        question,
+        certificate,
+        names,
+        logs,
+    } = given;
+    match command {
+        LogsCommand::Answer { is_json } => answer_logs(alloc, is_json, &judged),
+        LogsCommand::Over { is_json } => answer_over(alloc, is_json, &judged),
+        LogsCommand::Explain { is_json } => explain_all(alloc, is_json, logs, &judged),
+        LogsCommand::Decide { is_json, certify } => {
+            decide_asked(alloc, is_json, certify, question.text, &judged)
+        }
+        LogsCommand::ExplainQuestion { is_json, case } => {
+            let asked = AskedFiles {
+                logs,
+                question: &question,
+            };
+            explain_asked(alloc, is_json, case, asked, &judged)
+        }
+        LogsCommand::Check { is_json } => {
+            check_alone(alloc, is_json, question.text, certificate.text, &judged)
+        }
+        LogsCommand::ExplainCheck { is_json } => {
+            let asked = AskedFiles {
+                logs,
+                question: &question,
+            };
+            explain_check_alone(alloc, is_json, asked, &certificate, &judged)
+        }
+        LogsCommand::Show(form, moment) => {
+            let told = told_in_page(alloc.clone()?, form, logs, &judged)?;
+            show_ring(
+                alloc,
+                form,
+                &moment,
+                question.text,
+                names,
+                told.as_bytes(),
+                judged,
+            )
+        }
+    }
+}

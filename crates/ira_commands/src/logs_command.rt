@@ -1,0 +1,45 @@
+ghost use Rattle.std.specs.Prelude.{◌≡◌};
+ghost use Rattle.ira_commands.specs.LogsCommand.{needs_texts};
+
+use crate::ring_form::RingForm;
+use crate::ring_moment::RingMoment;
+
+/// What is asked of the logs of a ring.
+#[derive(Clone, Copy)]
+pub enum LogsCommand<'v> {
+    /// Their answer.
+    Answer { is_json: bool },
+    /// The same, and after a yes whether their election is over.
+    Over { is_json: bool },
+    /// The same, and why it is so.
+    Explain { is_json: bool },
+    /// What is found for a question about them, and its certificate where that is wanted.
+    Decide { is_json: bool, certify: bool },
+    /// What is found, and why it is so: for the case of a number, counted from 0, or for the first ones.
+    ExplainQuestion { is_json: bool, case: Option<u64> },
+    /// The answer of them, of a question and of a certificate.
+    Check { is_json: bool },
+    /// The same, and why it is so.
+    ExplainCheck { is_json: bool },
+    /// Their ring at a moment.
+    Show(RingForm<'v>, RingMoment<'v>),
+}
+
+impl LogsCommand<'_> {
+    /// Whether it tells of the logs with their texts and the names of their files.
+    pub fn needs_texts(&self) -> bool
+        ensures { result ≡ needs_texts self.now }
+    {
+        match *self {
+            LogsCommand::Explain { .. }
+            | LogsCommand::ExplainQuestion { .. }
+            | LogsCommand::ExplainCheck { .. }
+            | LogsCommand::Show(RingForm::Html(_), _) => true,
+            LogsCommand::Answer { .. }
+            | LogsCommand::Over { .. }
+            | LogsCommand::Decide { .. }
+            | LogsCommand::Check { .. }
+            | LogsCommand::Show(RingForm::Lines(_) | RingForm::Picture(_), _) => false,
+        }
+    }
+}
