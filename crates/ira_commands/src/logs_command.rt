@@ -11,7 +11,7 @@ pub enum LogsCommand<'v> {
     Answer { is_json: bool },
     /// The same, and after a yes whether their election is over.
     Over { is_json: bool },
-    /// The same, and why it is so.
+    /// Their answer, and why it is so.
     Explain { is_json: bool },
     /// What is found for a question about them, and its certificate where that is wanted.
     Decide { is_json: bool, certify: bool },

@@ -54,7 +54,7 @@ fn tell_over<A: Allocator + Clone>(
 }
 
 /// The answer of the logs of a ring, and after a yes whether their election is over.
-pub fn answer_over<A: Allocator + Clone>(
+pub(crate) fn answer_over<A: Allocator + Clone>(
     alloc: A,
     is_json: bool,
     judged: &Judged<A>,
