@@ -1,5 +1,5 @@
 //! Files, readers and sinks in memory, some of them broken, and the program run over them.
-ghost use Rattle.std.specs.Prelude.{◌≢◌, ◌++◌, All, IfSome, MatchOption};
+ghost use Rattle.std.specs.Prelude.{◌≡◌, ◌≢◌, ◌++◌, All, IfSome, MatchOption};
 ghost use Rattle.test_main.specs.MemoryFiles.{HasFirst};
 
 use ira_event::{Sink, SinkFault};
