@@ -71,11 +71,13 @@ where
     };
     match request {
         Request::OneLog => Progress::Ended(deliver(judge_input(alloc, input), out)),
-        Request::Logs(LogsRequest {
-            is_json,
-            asks_over,
-            logs,
-        }) => {
+        Request::Logs(
+            LogsRequest {
+                is_json,
+                asks_over,
+                logs,
+            },
+        ) => {
             let command = judge_command(is_json, asks_over);
             let inputs = Inputs::asked(None, &logs, None);
             Progress::Ended(deliver(answer_files(rt, alloc, command, inputs, shelf), out))

@@ -2,7 +2,7 @@
 use Rattle.std.specs.Prelude.{◌≡◌, ℕ, Bool, List, [], ◌++◌, ◌∷◌, Some, false, true}
 use Rattle.ira_commands.specs.declared.logs_command.LogsCommand.{LogsCommand}
 use Rattle.ira_commands.specs.declared.logs_command.LogsCommand.TheVariants.{Answer, Check, Decide, Explain, ExplainCheck}
-use Rattle.ira_commands.specs.declared.logs_command.LogsCommand.TheVariants.{ExplainQuestion, Show}
+use Rattle.ira_commands.specs.declared.logs_command.LogsCommand.TheVariants.{ExplainQuestion, Over, Show}
 use Rattle.ira_commands.specs.declared.ring_form.RingForm.{RingForm}
 use Rattle.ira_commands.specs.declared.ring_form.RingForm.TheVariants.{Html, Lines, Picture}
 use Rattle.ira_view_picture.specs.declared.column_range.ColumnRange.{ColumnRange}
@@ -36,6 +36,7 @@ HasFormValues (Html columns) values =
 -- the number of a command on the logs of a ring, and its values; what is decided is certified
 abbrev pub HasCommandValues : LogsCommand → List ℕ → Type 0
 HasCommandValues (Answer is_json) values = values ≡ json_values is_json ++ 1 ∷ []
+HasCommandValues (Over is_json) values = ⊥
 HasCommandValues (Explain is_json) values = values ≡ json_values is_json ++ 3 ∷ []
 HasCommandValues (ExplainQuestion is_json case) values = values ≡ json_values is_json ++ 4 ∷ case_values case
 HasCommandValues (ExplainCheck is_json) values = values ≡ json_values is_json ++ 5 ∷ []
