@@ -71,6 +71,7 @@ refuses "ira: a word is not UTF-8" logs "$(printf '\377')"
 refuses "ira: ring size" pairs 1
 refuses "ira: cannot read nowhere.log" logs two_node_election/0.log nowhere.log
 refuses "ira: run refused 1" run --nodes 2 --seed 7 --initiators 0 --out "$folder"
+echo > "$folder/none"
 refuses "ira: cannot write $folder/none/0.log" run --nodes 2 --seed 7 --out "$folder/none"
 "$ira" logs two_node_election/0.log two_node_election/1.log < /dev/null > "$folder/out" 2> "$folder/err"
 judged $? "0: yes: " "logs of two_node_election"
