@@ -22,18 +22,18 @@ AreAsked given asked = AreFiles given.names given.texts asked.logs.now × IsFile
 
 -- the command was done on what is given, and this reply comes of it; the type is that of what gives memory
 abbrev pub Answers : Type 0 → LogsCommand → Given → Reply → Type 0
-Answers A (Answer is_json) given reply = JudgesLogs (ReportsAs is_json) given.texts reply
-Answers A (Over is_json) given reply = JudgesOver is_json given.texts reply
-Answers A (Explain is_json) given reply = (files : List NamedText) × AreFiles given.names given.texts files
-    × JudgesLogs (ExplainsLogs A is_json files) (texts_of files) reply
-Answers A (Decide is_json certify) given reply =
-    DecidesTexts {A = A} (PrintsDecided is_json certify) given.question.text given.texts reply
-Answers A (ExplainQuestion is_json case) given reply = (asked : AskedFiles) × AreAsked given asked
-    × DecidesTexts {A = A} (ExplainsFindings is_json case asked) asked.question.now.text.now (texts_of asked.logs.now) reply
-Answers A (Check is_json) given reply =
-    ChecksTexts (ReportsAs is_json) given.question.text given.certificate.text given.texts reply
-Answers A (ExplainCheck is_json) given reply = (asked : AskedFiles) × (certificate : NamedText) × AreAsked given asked
-    × IsFile given.certificate certificate × ChecksTexts (ExplainsCheck A is_json asked certificate)
+Answers A (Answer form) given reply = JudgesLogs (ReportsAs form) given.texts reply
+Answers A (Over form) given reply = JudgesOver form given.texts reply
+Answers A (Explain form) given reply = (files : List NamedText) × AreFiles given.names given.texts files
+    × JudgesLogs (ExplainsLogs A form files) (texts_of files) reply
+Answers A (Decide form certify) given reply =
+    DecidesTexts {A = A} (PrintsDecided form certify) given.question.text given.texts reply
+Answers A (ExplainQuestion form case) given reply = (asked : AskedFiles) × AreAsked given asked
+    × DecidesTexts {A = A} (ExplainsFindings form case asked) asked.question.now.text.now (texts_of asked.logs.now) reply
+Answers A (Check form) given reply =
+    ChecksTexts (ReportsAs form) given.question.text given.certificate.text given.texts reply
+Answers A (ExplainCheck form) given reply = (asked : AskedFiles) × (certificate : NamedText) × AreAsked given asked
+    × IsFile given.certificate certificate × ChecksTexts (ExplainsCheck A form asked certificate)
     asked.question.now.text.now certificate.text.now (texts_of asked.logs.now) reply
 Answers A (Show form moment) given reply =
     ShowsLogs A form moment given.question.text given.names given.texts reply

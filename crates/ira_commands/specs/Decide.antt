@@ -5,24 +5,25 @@ use Rattle.ira_cert_text.specs.CertText.{IsCertText, cert_text}
 use Rattle.ira_audit.specs.Findings.{AreFindings, IsCertificateOf, MakeNoCertificate}
 use Rattle.ira_audit.specs.declared.findings.Findings.{Findings}
 use Rattle.ira_view.specs.ViewText.{IsFindingsText}
+use Rattle.ira_view.specs.declared.form.Form.{Form}
 use Rattle.ira_commands.specs.Reply.{Prints, Reply, printed, refused_after, with_files}
 use Rattle.ira_commands.specs.Reply.MadeFiles.{one_text}
 use Rattle.ira_commands.specs.declared.command_fault.CommandFault.TheVariants.{CertificatePastLimits}
 use Rattle.ira_view.specs.declared.status.Status.TheVariants.{No, Yes}
 
--- findings are printed, as JSON where that is wanted: with a no where they make no certificate, and else with a yes; then,
+-- findings are printed, in words or as JSON: with a no where they make no certificate, and else with a yes; then,
 -- where it is wanted, the text of the certificate that they make is a file, unless it is past the limits, which is refused
-pub data PrintsDecided {A : Type 0} (is_json certify : Bool) (findings : Findings A) (reply : Reply) : Type 0 where
-  no_certificate : MakeNoCertificate findings → Prints (IsFindingsText is_json findings) No reply
-      → PrintsDecided is_json certify findings reply
-  absent : IsFalse certify → ¬ (MakeNoCertificate findings) → Prints (IsFindingsText is_json findings) Yes reply
-      → PrintsDecided is_json certify findings reply
+pub data PrintsDecided {A : Type 0} (form : Form) (certify : Bool) (findings : Findings A) (reply : Reply) : Type 0 where
+  no_certificate : MakeNoCertificate findings → Prints (IsFindingsText form findings) No reply
+      → PrintsDecided form certify findings reply
+  absent : IsFalse certify → ¬ (MakeNoCertificate findings) → Prints (IsFindingsText form findings) Yes reply
+      → PrintsDecided form certify findings reply
   certified : IsTrue certify → (c : Certificate) (text : List ℕ) → IsCertificateOf findings c → IsCertText (cert_text c) c
-      → IsFindingsText is_json findings text → reply ≡ with_files (printed Yes text) (one_text (cert_text c))
-      → PrintsDecided is_json certify findings reply
+      → IsFindingsText form findings text → reply ≡ with_files (printed Yes text) (one_text (cert_text c))
+      → PrintsDecided form certify findings reply
   past_limits : IsTrue certify → (c : Certificate) (text : List ℕ) → IsCertificateOf findings c
-      → ¬ (IsCertText (cert_text c) c) → IsFindingsText is_json findings text
-      → reply ≡ refused_after text CertificatePastLimits → PrintsDecided is_json certify findings reply
+      → ¬ (IsCertText (cert_text c) c) → IsFindingsText form findings text
+      → reply ≡ refused_after text CertificatePastLimits → PrintsDecided form certify findings reply
 
 -- what is found for texts and the text of a question is told
 pub record DecidesTexts {A : Type 0} (Tells : Findings A → Reply → Type 0) (question : List ℕ) (texts : List (List ℕ))

@@ -1,5 +1,5 @@
 -- What comes of explaining what is found for a question.
-use Rattle.std.specs.Prelude.{ℕ, Bool, Option}
+use Rattle.std.specs.Prelude.{ℕ, Option}
 use Rattle.ira_audit.specs.Judged.{IsJudged}
 use Rattle.ira_audit.specs.declared.findings.Findings.{Findings}
 use Rattle.ira_audit.specs.declared.judged.Judged.{Judged}
@@ -10,17 +10,18 @@ use Rattle.ira_view.specs.Status.{IsFindingsStatus}
 use Rattle.ira_view.specs.Texts.{texts_of}
 use Rattle.ira_view.specs.ViewText.{IsFindingsViewText}
 use Rattle.ira_view.specs.declared.status.Status.{Status}
+use Rattle.ira_view.specs.declared.form.Form.{Form}
 use Rattle.ira_commands.specs.Reply.{Prints, Reply}
 
--- findings are printed with this explanation: as JSON, where that is wanted, or else their lines and the page, which is
+-- findings are printed with this explanation: as JSON, or their lines and the page, which is
 -- printable; the status is that of the findings
-abbrev pub PrintsFindings : {A : Type 0} → Bool → Findings A → Explanation A → Reply → Type 0
-PrintsFindings is_json findings explanation reply =
+abbrev pub PrintsFindings : {A : Type 0} → Form → Findings A → Explanation A → Reply → Type 0
+PrintsFindings form findings explanation reply =
     (status : Status) × IsFindingsStatus findings status
-    × Prints (IsFindingsViewText is_json findings explanation) status reply
+    × Prints (IsFindingsViewText form findings explanation) status reply
 
 -- what is found for a question about logs, in these files, is explained: for the case of a number, or for the first ones
-abbrev pub ExplainsFindings : {A : Type 0} → Bool → Option ℕ → AskedFiles → Findings A → Reply → Type 0
-ExplainsFindings {A} is_json case files findings reply =
+abbrev pub ExplainsFindings : {A : Type 0} → Form → Option ℕ → AskedFiles → Findings A → Reply → Type 0
+ExplainsFindings {A} form case files findings reply =
     (explanation : Explanation A) × (judged : Judged A) × IsJudged (texts_of files.logs.now) judged
-    × IsFindingsExplanation files judged case findings explanation × PrintsFindings is_json findings explanation reply
+    × IsFindingsExplanation files judged case findings explanation × PrintsFindings form findings explanation reply

@@ -7,11 +7,11 @@ use Rattle.ira_commands.specs.declared.logs_command.LogsCommand.TheVariants.{Exp
 
 -- it tells of the logs with their texts and the names of their files
 abbrev pub needs_texts : LogsCommand → Bool
-needs_texts (Answer is_json) = false
-needs_texts (Over is_json) = false
-needs_texts (Explain is_json) = true
-needs_texts (Decide is_json certify) = false
-needs_texts (ExplainQuestion is_json case) = true
-needs_texts (Check is_json) = false
-needs_texts (ExplainCheck is_json) = true
+needs_texts (Answer form) = false
+needs_texts (Over form) = false
+needs_texts (Explain form) = true
+needs_texts (Decide form certify) = false
+needs_texts (ExplainQuestion form case) = true
+needs_texts (Check form) = false
+needs_texts (ExplainCheck form) = true
 needs_texts (Show form moment) = wants_page form

@@ -1,5 +1,5 @@
 -- What comes of a command.
-use Rattle.std.specs.Prelude.{◌≡◌, ℕ, Bool, List, [], ◌∷◌, None, Option, Some, map}
+use Rattle.std.specs.Prelude.{◌≡◌, ℕ, List, [], ◌∷◌, None, Option, Some, map}
 use Rattle.ira_event.specs.Log.{Log}
 use Rattle.ira_event.specs.LogText.{log_text}
 use Rattle.ira_audit.specs.Report.{report_line}
@@ -10,6 +10,7 @@ use Rattle.ira_view.specs.Status.{answer_status}
 use Rattle.ira_view.specs.ViewText.{IsAnswerText, IsViewText}
 use Rattle.ira_view.specs.declared.status.Status.{Status}
 use Rattle.ira_view.specs.declared.status.Status.TheVariants.{Refused}
+use Rattle.ira_view.specs.declared.form.Form.{Form}
 use Rattle.ira_commands.specs.CommandFault.{command_fault_text}
 use Rattle.ira_commands.specs.Output.{Printed}
 use Rattle.ira_commands.specs.Output.Printed.{whole_text}
@@ -63,15 +64,15 @@ Telling = Answer → Reply → Type 0
 abbrev pub Reports : Telling
 Reports answer reply = reply ≡ printed (answer_status answer) (report_line answer)
 
--- it is printed as JSON, where that is wanted, or else its line is, with its status
-abbrev pub ReportsAs : Bool → Telling
-ReportsAs is_json answer = Prints (IsAnswerText is_json answer) (answer_status answer)
+-- it is printed as JSON, or its line is, with its status
+abbrev pub ReportsAs : Form → Telling
+ReportsAs form answer = Prints (IsAnswerText form answer) (answer_status answer)
 
 -- it is printed with this explanation: as JSON, where that is wanted, with how the election stands where that is known,
 -- or else its line and the page, which is printable
-abbrev pub ExplainsAs : {A : Type 0} → Bool → Explanation A → Option Standing → Telling
-ExplainsAs is_json explanation standing answer =
-    Prints (IsViewText is_json answer explanation standing) (answer_status answer)
+abbrev pub ExplainsAs : {A : Type 0} → Form → Explanation A → Option Standing → Telling
+ExplainsAs form explanation standing answer =
+    Prints (IsViewText form answer explanation standing) (answer_status answer)
 
 -- the text of each file
 abbrev pub file_texts : MadeFiles → List (List ℕ)

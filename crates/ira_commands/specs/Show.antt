@@ -21,6 +21,8 @@ use Rattle.ira_view.specs.Html.{IsHtmlOf, IsJudgedTold, IsPictureTold, IsRefusal
 use Rattle.ira_view.specs.ShownRing.{HasTooManyAt, IsPageOf, IsPictureOf, ShownRing}
 use Rattle.ira_view.specs.Status.{IsLeadsStatus, answer_status}
 use Rattle.ira_view.specs.Texts.{AreFiles}
+use Rattle.ira_view.specs.declared.form.Form.{Form}
+use Rattle.ira_view.specs.declared.form.Form.TheVariants.{Json, Words}
 use Rattle.ira_view.specs.declared.ring_fault.RingFault.{RingFault}
 use Rattle.ira_view.specs.declared.ring_fault.RingFault.TheVariants as fault
 use Rattle.ira_view.specs.declared.status.Status.{Status}
@@ -28,7 +30,7 @@ use Rattle.ira_commands.specs.Output.{AreLinesAfter}
 use Rattle.ira_commands.specs.Output.Printed.{all_events, json_lines}
 use Rattle.ira_commands.specs.Reply.{Prints, Reply, ReportsAs, printed, printing, refused, with_files}
 use Rattle.ira_commands.specs.Reply.MadeFiles.{one_text}
-use Rattle.ira_commands.specs.RingForm.{leaders_of, wants_json}
+use Rattle.ira_commands.specs.RingForm.{answer_form, leaders_of}
 use Rattle.ira_commands.specs.RingLeaders.{AreDifferencesOf, AreNoPlaces, named_places}
 use Rattle.ira_commands.specs.RingMoment.{IsAskedRing, IsNoAskedRing}
 use Rattle.ira_commands.specs.declared.command_fault.CommandFault.TheVariants.{NoCase, NoMoment, NoPlace, TooManyEvents}
@@ -47,25 +49,25 @@ pub data Draws (answer : Answer) (IsPicture : List ℕ → Type 0) (AreTooMany :
   too_many : (events : ℕ) → AreTooMany events → reply ≡ refused (TooManyEvents events)
       → Draws answer IsPicture AreTooMany reply
 
--- lines on a ring are printed, with this status: as JSON, where that is wanted; or else, after these on who leads, all
--- events in an order, where these are wanted, or what it looks like at its moment
-abbrev pub PrintsLinesAs : Bool → Bool → RingLeaders → ShownRing → List ℕ → Status → Reply → Type 0
-PrintsLinesAs true has_events leaders ring differences status reply = reply ≡ printing status
+-- lines on a ring are printed, with this status: as JSON; or, after these on who leads, all events in an order, where these
+-- are wanted, or what it looks like at its moment
+abbrev pub PrintsLinesAs : Form → Bool → RingLeaders → ShownRing → List ℕ → Status → Reply → Type 0
+PrintsLinesAs Json has_events leaders ring differences status reply = reply ≡ printing status
     (json_lines (record { ring = ring; named = named_places leaders; has_events = has_events; status = status }))
-PrintsLinesAs false true leaders ring differences status reply = reply ≡ printing status (all_events ring differences)
-PrintsLinesAs false false leaders ring differences status reply =
+PrintsLinesAs Words true leaders ring differences status reply = reply ≡ printing status (all_events ring differences)
+PrintsLinesAs Words false leaders ring differences status reply =
     Prints (AreLinesAfter differences (IsPageOf ring)) status reply
 
 -- and the status says whether there are lines on who leads
 abbrev pub PrintsLines : LinesForm → ShownRing → List ℕ → Reply → Type 0
-PrintsLines form ring differences reply = (status : Status) × IsLeadsStatus differences status
-    × PrintsLinesAs form.is_json form.has_events form.leaders ring differences status reply
+PrintsLines lines ring differences reply = (status : Status) × IsLeadsStatus differences status
+    × PrintsLinesAs lines.form lines.has_events lines.leaders ring differences status reply
 
 -- a ring is told in a form: lines after those on who leads, or a picture
 abbrev pub TellsRing : RingForm → ShownRing → Reply → Type 0
-TellsRing (Lines form) ring reply =
-    (differences : List ℕ) × AreDifferencesOf ring.logs form.leaders differences
-    × PrintsLines form ring differences reply
+TellsRing (Lines lines) ring reply =
+    (differences : List ℕ) × AreDifferencesOf ring.logs lines.leaders differences
+    × PrintsLines lines ring differences reply
 TellsRing (Picture columns) ring reply =
     Draws answer.Yes (IsPictureOf ring columns.from columns.to) (HasTooManyAt ring columns.from columns.to) reply
 TellsRing (Html columns) ring reply =
@@ -79,7 +81,7 @@ IsRefusalToldOf A names texts refused told =
 -- logs that are those of no run, in files of these names and with these texts, are told in a form: there is a picture of
 -- them, or a page, and else their answer alone
 abbrev pub TellsRefused : Type 0 → RingForm → List (List ℕ) → List (List ℕ) → RefusedLogs → Reply → Type 0
-TellsRefused A (Lines form) names texts logs = ReportsAs form.is_json (answer.No logs.reason)
+TellsRefused A (Lines lines) names texts logs = ReportsAs lines.form (answer.No logs.reason)
 TellsRefused A (Picture columns) names texts logs =
     Draws (answer.No logs.reason) (IsRefusedDrawing logs.logs columns.from columns.to)
     (HasTooManyEvents logs.logs None columns.from columns.to)
@@ -90,11 +92,11 @@ TellsRefused A (Html columns) names texts logs =
 
 -- why there is no such moment: the reason against the question is the answer; numbers that are no consistent cut, and that
 -- of a case that isn't there, are refused
-abbrev pub TellsFault : Bool → RingFault → Reply → Type 0
-TellsFault is_json (fault.No r) reply = ReportsAs is_json (answer.No r) reply
-TellsFault is_json (fault.Cut f) reply = reply ≡ refused (NoMoment f)
-TellsFault is_json fault.NoCase reply = reply ≡ refused NoCase
-TellsFault is_json fault.OutOfMemory reply = ⊥
+abbrev pub TellsFault : Form → RingFault → Reply → Type 0
+TellsFault form (fault.No r) reply = ReportsAs form (answer.No r) reply
+TellsFault form (fault.Cut f) reply = reply ≡ refused (NoMoment f)
+TellsFault form fault.NoCase reply = reply ≡ refused NoCase
+TellsFault form fault.OutOfMemory reply = ⊥
 
 -- what comes of good logs and of the text of a question: the ring is told at the moment that is asked for; or why there
 -- is no such moment; or a node that is to lead is none of the ring, which is refused
@@ -102,7 +104,7 @@ pub data ShowsGood (form : RingForm) (moment : RingMoment) (question : List ℕ)
     : Type 0 where
   shown : (ring : ShownRing) → IsAskedRing logs moment question ring → TellsRing form ring reply
       → ShowsGood form moment question logs reply
-  no_moment : (f : RingFault) → IsNoAskedRing logs moment question f → TellsFault (wants_json form) f reply
+  no_moment : (f : RingFault) → IsNoAskedRing logs moment question f → TellsFault (answer_form form) f reply
       → ShowsGood form moment question logs reply
   no_place : AreNoPlaces logs (leaders_of form) → reply ≡ refused NoPlace → ShowsGood form moment question logs reply
 
@@ -115,7 +117,7 @@ pub data ShowsLogs (A : Type 0) (form : RingForm) (moment : RingMoment) (questio
   no_run : (logs : RefusedLogs) → AreLogTexts texts logs.logs → AreRefused logs
       → IsLogsReason texts logs.reason → TellsRefused A form names texts logs reply
       → ShowsLogs A form moment question names texts reply
-  no_ring : (r : Reason) → IsRingReason texts r → ReportsAs (wants_json form) (answer.No r) reply
+  no_ring : (r : Reason) → IsRingReason texts r → ReportsAs (answer_form form) (answer.No r) reply
       → ShowsLogs A form moment question names texts reply
 
 -- ---- Helpers, no definitions.

@@ -41,28 +41,28 @@ pub fn answer<A: Allocator + Clone>(
         logs,
     } = given;
     match command {
-        LogsCommand::Answer { is_json } => answer_logs(alloc, is_json, &judged),
-        LogsCommand::Over { is_json } => answer_over(alloc, is_json, &judged),
-        LogsCommand::Explain { is_json } => explain_all(alloc, is_json, logs, &judged),
-        LogsCommand::Decide { is_json, certify } => {
-            decide_asked(alloc, is_json, certify, question.text, &judged)
+        LogsCommand::Answer { form } => answer_logs(alloc, form, &judged),
+        LogsCommand::Over { form } => answer_over(alloc, form, &judged),
+        LogsCommand::Explain { form } => explain_all(alloc, form, logs, &judged),
+        LogsCommand::Decide { form, certify } => {
+            decide_asked(alloc, form, certify, question.text, &judged)
         }
-        LogsCommand::ExplainQuestion { is_json, case } => {
+        LogsCommand::ExplainQuestion { form, case } => {
             let asked = AskedFiles {
                 logs,
                 question: &question,
             };
-            explain_asked(alloc, is_json, case, asked, &judged)
+            explain_asked(alloc, form, case, asked, &judged)
         }
-        LogsCommand::Check { is_json } => {
-            check_alone(alloc, is_json, question.text, certificate.text, &judged)
+        LogsCommand::Check { form } => {
+            check_alone(alloc, form, question.text, certificate.text, &judged)
         }
-        LogsCommand::ExplainCheck { is_json } => {
+        LogsCommand::ExplainCheck { form } => {
             let asked = AskedFiles {
                 logs,
                 question: &question,
             };
-            explain_check_alone(alloc, is_json, asked, &certificate, &judged)
+            explain_check_alone(alloc, form, asked, &certificate, &judged)
         }
         LogsCommand::Show(form, moment) => {
             let told = told_in_page(alloc.clone()?, form, logs, &judged)?;

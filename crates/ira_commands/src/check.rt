@@ -10,6 +10,7 @@ use crate::reply::Reply;
 use ira_audit::{Answer, AskedQuestion, Judged, Reason, Refusal};
 use ira_cert::{Profiles, Section, Verdict, check_queues, profiled_queues};
 use ira_event::OutOfMemory;
+use ira_view::Form;
 use std::alloc::Allocator;
 
 /// Whether there is a section for each case of the question that is sound for it. They are judged one by one.
@@ -60,18 +61,18 @@ fn certify<A: Allocator + Clone>(
 /// The answer of logs, of a question and of a certificate. No thread is started.
 pub(crate) fn check_alone<A: Allocator + Clone>(
     alloc: A,
-    is_json: bool,
+    form: Form,
     question: &[u8],
     certificate: &[u8],
     judged: &Judged<A>,
 ) -> Result<Reply<A>, OutOfMemory>
     requires { (texts : List (List ℕ)) × IsJudged texts judged.now }
     ensures { (texts : List (List ℕ)) → IsJudged texts judged.now
-        → IfOk result (ChecksTexts (ReportsAs is_json) question.now certificate.now texts) }
+        → IfOk result (ChecksTexts (ReportsAs form) question.now certificate.now texts) }
 {
     match certify(alloc.clone()?, judged, question, certificate) {
-        Ok(()) => Reply::of_answer_as(alloc, is_json, &Answer::Yes),
-        Err(Refusal::No(reason)) => Reply::of_answer_as(alloc, is_json, &Answer::No(reason)),
+        Ok(()) => Reply::of_answer_as(alloc, form, &Answer::Yes),
+        Err(Refusal::No(reason)) => Reply::of_answer_as(alloc, form, &Answer::No(reason)),
         Err(Refusal::OutOfMemory) => Err(OutOfMemory),
     }
 }

@@ -9,21 +9,21 @@ use crate::files::Files;
 use crate::reply::Reply;
 use ira_audit::{Answer, DecidedCases, Judged, Refusal};
 use ira_event::{MemorySink, OutOfMemory};
-use ira_view::{Status, write_decided_as};
+use ira_view::{Form, Status, write_decided_as};
 use std::alloc::Allocator;
 
-/// What was found for the cases of a question, as JSON where that is wanted, with the certificate where it is wanted.
+/// What was found for the cases of a question, in words or as JSON, with the certificate where it is wanted.
 fn tell_decided<A: Allocator + Clone>(
     alloc: A,
-    is_json: bool,
+    form: Form,
     certify: bool,
     decided: DecidedCases<A>,
 ) -> Result<Reply<A>, OutOfMemory>
     ensures { (findings : FindingsValue A) → AreDecided certify findings decided
-        → IfOk result (PrintsDecided is_json certify findings) }
+        → IfOk result (PrintsDecided form certify findings) }
 {
     let mut lines = MemorySink::new(alloc.clone()?);
-    let Ok(()) = write_decided_as(alloc, is_json, &decided, &mut lines) else {
+    let Ok(()) = write_decided_as(alloc, form, &decided, &mut lines) else {
         return Err(OutOfMemory);
     };
     let DecidedCases {
@@ -47,18 +47,18 @@ fn tell_decided<A: Allocator + Clone>(
 /// kept: they are counted, or written into the certificate's text.
 pub(crate) fn decide_asked<A: Allocator + Clone>(
     alloc: A,
-    is_json: bool,
+    form: Form,
     certify: bool,
     question: &[u8],
     judged: &Judged<A>,
 ) -> Result<Reply<A>, OutOfMemory>
     requires { (texts : List (List ℕ)) × IsJudged texts judged.now }
     ensures { (texts : List (List ℕ)) → IsJudged texts judged.now
-        → IfOk result (DecidesTexts {A = A} (PrintsDecided is_json certify) question.now texts) }
+        → IfOk result (DecidesTexts {A = A} (PrintsDecided form certify) question.now texts) }
 {
     match judged.ask(question) {
-        Ok(asked) => tell_decided(alloc, is_json, certify, asked.decide_counted(certify)?),
-        Err(Refusal::No(reason)) => Reply::of_answer_as(alloc, is_json, &Answer::No(reason)),
+        Ok(asked) => tell_decided(alloc, form, certify, asked.decide_counted(certify)?),
+        Err(Refusal::No(reason)) => Reply::of_answer_as(alloc, form, &Answer::No(reason)),
         Err(Refusal::OutOfMemory) => Err(OutOfMemory),
     }
 }

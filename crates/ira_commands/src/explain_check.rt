@@ -12,7 +12,7 @@ use crate::explain::tell_view;
 use crate::reply::Reply;
 use ira_audit::Judged;
 use ira_event::OutOfMemory;
-use ira_view::{AskedFiles, PosedCheck, View, explain_checked, pose_check};
+use ira_view::{AskedFiles, Form, PosedCheck, View, explain_checked, pose_check};
 use ira_view_page::NamedText;
 use std::alloc::Allocator;
 
@@ -42,15 +42,15 @@ fn explain_judged<A: Allocator + Clone>(
 /// The answer of logs, of a question and of a certificate, in these files, and why it is so. No thread is started.
 pub(crate) fn explain_check_alone<A: Allocator + Clone>(
     alloc: A,
-    is_json: bool,
+    form: Form,
     files: AskedFiles<'_>,
     certificate: &NamedText<'_>,
     judged: &Judged<A>,
 ) -> Result<Reply<A>, OutOfMemory>
     requires { IsJudged (texts_of files.logs.now) judged.now }
-    ensures { IfOk result (ChecksTexts (ExplainsCheck A is_json files.entry certificate.now)
+    ensures { IfOk result (ChecksTexts (ExplainsCheck A form files.entry certificate.now)
         files.entry.question.now.text.now certificate.now.text.now (texts_of files.entry.logs.now)) }
 {
     let view = explain_judged(alloc.clone()?, files, certificate, judged)?;
-    tell_view(alloc, is_json, &view, None)
+    tell_view(alloc, form, &view, None)
 }

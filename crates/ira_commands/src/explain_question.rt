@@ -8,20 +8,20 @@ ghost use Rattle.ira_commands.specs.ExplainQuestion.{ExplainsFindings, PrintsFin
 use crate::reply::Reply;
 use ira_audit::Judged;
 use ira_event::{MemorySink, OutOfMemory};
-use ira_view::{AskedFiles, FindingsView, Status, explain_findings, write_findings_view_as};
+use ira_view::{AskedFiles, FindingsView, Form, Status, explain_findings, write_findings_view_as};
 use std::alloc::Allocator;
 
-/// Findings, and why they are so, as JSON where that is wanted.
+/// Findings, and why they are so, in words or as JSON.
 fn tell_findings<A: Allocator + Clone>(
     alloc: A,
-    is_json: bool,
+    form: Form,
     view: &FindingsView<A>,
 ) -> Result<Reply<A>, OutOfMemory>
     requires { AreReportable view.now.findings }
-    ensures { IfOk result (PrintsFindings is_json view.now.findings view.now.explanation) }
+    ensures { IfOk result (PrintsFindings form view.now.findings view.now.explanation) }
 {
     let mut text = MemorySink::new(alloc.clone()?);
-    let Ok(()) = write_findings_view_as(alloc, is_json, view, &mut text) else {
+    let Ok(()) = write_findings_view_as(alloc, form, view, &mut text) else {
         return Err(OutOfMemory);
     };
     Ok(Reply::printed(Status::of_findings(&view.findings), text))
@@ -31,15 +31,15 @@ fn tell_findings<A: Allocator + Clone>(
 /// the first ones.
 pub(crate) fn explain_asked<A: Allocator + Clone>(
     alloc: A,
-    is_json: bool,
+    form: Form,
     case: Option<u64>,
     files: AskedFiles<'_>,
     judged: &Judged<A>,
 ) -> Result<Reply<A>, OutOfMemory>
     requires { IsJudged (texts_of files.logs.now) judged.now }
-    ensures { IfOk result (DecidesTexts {A = A} (ExplainsFindings is_json case files.entry)
+    ensures { IfOk result (DecidesTexts {A = A} (ExplainsFindings form case files.entry)
         files.entry.question.now.text.now (texts_of files.entry.logs.now)) }
 {
     let view = explain_findings(alloc.clone()?, files, judged, case)?;
-    tell_findings(alloc, is_json, &view)
+    tell_findings(alloc, form, &view)
 }

@@ -6,17 +6,18 @@ ghost use Rattle.ira_commands.specs.Reply.{ReportsAs};
 use crate::reply::Reply;
 use ira_audit::Judged;
 use ira_event::OutOfMemory;
+use ira_view::Form;
 use std::alloc::Allocator;
 
 /// The answer of the logs of a ring.
 pub(crate) fn answer_logs<A: Allocator + Clone>(
     alloc: A,
-    is_json: bool,
+    form: Form,
     judged: &Judged<A>,
 ) -> Result<Reply<A>, OutOfMemory>
     requires { (texts : List (List ℕ)) × IsJudged texts judged.now }
     ensures { (texts : List (List ℕ)) → IsJudged texts judged.now
-        → IfOk result (JudgesLogs (ReportsAs is_json) texts) }
+        → IfOk result (JudgesLogs (ReportsAs form) texts) }
 {
-    Reply::of_answer_as(alloc, is_json, &judged.answer())
+    Reply::of_answer_as(alloc, form, &judged.answer())
 }

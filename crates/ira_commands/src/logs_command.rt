@@ -3,24 +3,25 @@ ghost use Rattle.ira_commands.specs.LogsCommand.{needs_texts};
 
 use crate::ring_form::RingForm;
 use crate::ring_moment::RingMoment;
+use ira_view::Form;
 
 /// What is asked of the logs of a ring.
 #[derive(Clone, Copy)]
 pub enum LogsCommand<'v> {
     /// Their answer.
-    Answer { is_json: bool },
+    Answer { form: Form },
     /// The same, and after a yes whether their election is over.
-    Over { is_json: bool },
+    Over { form: Form },
     /// Their answer, and why it is so.
-    Explain { is_json: bool },
+    Explain { form: Form },
     /// What is found for a question about them, and its certificate where that is wanted.
-    Decide { is_json: bool, certify: bool },
+    Decide { form: Form, certify: bool },
     /// What is found, and why it is so: for the case of a number, counted from 0, or for the first ones.
-    ExplainQuestion { is_json: bool, case: Option<u64> },
+    ExplainQuestion { form: Form, case: Option<u64> },
     /// The answer of them, of a question and of a certificate.
-    Check { is_json: bool },
+    Check { form: Form },
     /// The same, and why it is so.
-    ExplainCheck { is_json: bool },
+    ExplainCheck { form: Form },
     /// Their ring at a moment.
     Show(RingForm<'v>, RingMoment<'v>),
 }

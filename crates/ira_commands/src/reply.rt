@@ -9,7 +9,7 @@ use crate::files::Files;
 use crate::output::Output;
 use ira_audit::{Answer, write_report};
 use ira_event::{MemorySink, OutOfMemory};
-use ira_view::{Status, write_answer_as};
+use ira_view::{Form, Status, write_answer_as};
 use std::alloc::Allocator;
 use std::marker::Model;
 
@@ -50,13 +50,13 @@ impl<A: Allocator + Clone> Reply<A> {
         Ok(Reply::printed(Status::of_answer(answer), line))
     }
 
-    /// An answer, as JSON where that is wanted, or else its line.
-    pub fn of_answer_as(alloc: A, is_json: bool, answer: &Answer) -> Result<Reply<A>, OutOfMemory>
+    /// An answer: its line, or JSON.
+    pub fn of_answer_as(alloc: A, form: Form, answer: &Answer) -> Result<Reply<A>, OutOfMemory>
         requires { IsReportable answer.now }
-        ensures { IfOk result (ReportsAs is_json answer.now) }
+        ensures { IfOk result (ReportsAs form answer.now) }
     {
         let mut text = MemorySink::new(alloc.clone()?);
-        let Ok(()) = write_answer_as(alloc, is_json, answer, &mut text) else {
+        let Ok(()) = write_answer_as(alloc, form, answer, &mut text) else {
             return Err(OutOfMemory);
         };
         Ok(Reply::printed(Status::of_answer(answer), text))

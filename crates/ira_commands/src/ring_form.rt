@@ -1,13 +1,14 @@
 ghost use Rattle.std.specs.Prelude.{◌≡◌};
-ghost use Rattle.ira_commands.specs.RingForm.{leaders_of, wants_json};
+ghost use Rattle.ira_commands.specs.RingForm.{answer_form, leaders_of};
 
 use crate::ring_leaders::RingLeaders;
+use ira_view::Form;
 use ira_view_picture::ColumnRange;
 
 /// How a ring is shown as lines: an order of all events through its moment, or else what it looks like then.
 #[derive(Clone, Copy)]
 pub struct LinesForm<'v> {
-    pub is_json: bool,
+    pub form: Form,
     pub has_events: bool,
     pub leaders: RingLeaders<'v>,
 }
@@ -23,13 +24,13 @@ pub enum RingForm<'v> {
 }
 
 impl<'v> RingForm<'v> {
-    /// Whether JSON is wanted.
-    pub(crate) fn wants_json(&self) -> bool
-        ensures { result ≡ wants_json self.now }
+    /// In which form an answer is told where there is no ring to show.
+    pub(crate) fn of_answer(&self) -> Form
+        ensures { result ≡ answer_form self.now }
     {
         match *self {
-            RingForm::Lines(form) => form.is_json,
-            RingForm::Picture(_) | RingForm::Html(_) => false,
+            RingForm::Lines(lines) => lines.form,
+            RingForm::Picture(_) | RingForm::Html(_) => Form::Words,
         }
     }
 
@@ -38,7 +39,7 @@ impl<'v> RingForm<'v> {
         ensures { result ≡ leaders_of self.now }
     {
         match *self {
-            RingForm::Lines(form) => form.leaders,
+            RingForm::Lines(lines) => lines.leaders,
             RingForm::Picture(_) | RingForm::Html(_) => RingLeaders::NotAsked,
         }
     }

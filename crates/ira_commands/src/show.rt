@@ -20,7 +20,9 @@ use crate::ring_form::{LinesForm, RingForm};
 use crate::ring_moment::RingMoment;
 use ira_audit::{Answer, GoodLogs, Judged, RefusedLogs};
 use ira_event::{MemorySink, OutOfMemory};
-use ira_view::{RingFault, ShownRing, Status, refused_html, refused_lines, ring_html, write_view};
+use ira_view::{
+    Form, RingFault, ShownRing, Status, refused_html, refused_lines, ring_html, write_view,
+};
 use ira_view_draw::draw_refused;
 use ira_view_page::{NamedText, PageText};
 use ira_view_picture::DrawFault;
@@ -29,14 +31,14 @@ use std::alloc::Allocator;
 /// Why there is no such moment.
 fn tell_fault<A: Allocator + Clone>(
     alloc: A,
-    is_json: bool,
+    form: Form,
     fault: RingFault,
 ) -> Result<Reply<A>, OutOfMemory>
     requires { IsReportableFault fault }
-    ensures { IfOk result (TellsFault is_json fault) }
+    ensures { IfOk result (TellsFault form fault) }
 {
     match fault {
-        RingFault::No(reason) => Reply::of_answer_as(alloc, is_json, &Answer::No(reason)),
+        RingFault::No(reason) => Reply::of_answer_as(alloc, form, &Answer::No(reason)),
         RingFault::Cut(fault) => Ok(Reply::refused(alloc, CommandFault::NoMoment(fault))),
         RingFault::NoCase => Ok(Reply::refused(alloc, CommandFault::NoCase)),
         RingFault::OutOfMemory => Err(OutOfMemory),
@@ -67,29 +69,31 @@ fn tell_page<A: Allocator + Clone>(
 /// they are printed.
 fn tell_lines<A: Allocator + Clone>(
     alloc: A,
-    form: LinesForm<'_>,
+    lines: LinesForm<'_>,
     ring: ShownRing<A>,
     differences: PageText<A>,
     names: Vec<String<A>, A>,
 ) -> Result<Reply<A>, OutOfMemory>
     requires { length names.items ≡ length ring.logs }
-    ensures { IfOk result (PrintsLines form.entry ring differences) }
+    ensures { IfOk result (PrintsLines lines.entry ring differences) }
 {
     let status = Status::of_differences(differences.bytes());
-    if form.is_json {
-        let named = form.leaders.places(alloc.clone()?)?;
-        let lines = JsonLines::new(alloc, ring, names, named, form.has_events, status);
-        return Ok(Reply::printing(status, Output::Json(lines)));
+    match lines.form {
+        Form::Json => {
+            let named = lines.leaders.places(alloc.clone()?)?;
+            let lines = JsonLines::new(alloc, ring, names, named, lines.has_events, status);
+            Ok(Reply::printing(status, Output::Json(lines)))
+        }
+        Form::Words if lines.has_events => {
+            let events = Output::Events {
+                alloc,
+                ring,
+                differences,
+            };
+            Ok(Reply::printing(status, events))
+        }
+        Form::Words => tell_page(alloc, &ring, &differences, status),
     }
-    if form.has_events {
-        let events = Output::Events {
-            alloc,
-            ring,
-            differences,
-        };
-        return Ok(Reply::printing(status, events));
-    }
-    tell_page(alloc, &ring, &differences, status)
 }
 
 /// A picture, or a page, as a file, after the line of the answer; or why there is none.
@@ -123,7 +127,7 @@ fn tell_ring<A: Allocator + Clone>(
     ensures { IfOk result (TellsRing form.entry ring) }
 {
     match form {
-        RingForm::Lines(form) => tell_lines(alloc, form, ring, differences, names),
+        RingForm::Lines(lines) => tell_lines(alloc, lines, ring, differences, names),
         RingForm::Picture(columns) => {
             let picture = ring.picture(alloc.clone()?, columns);
             tell_picture(alloc, &Answer::Yes, picture)
@@ -153,7 +157,7 @@ fn show_good<A: Allocator + Clone>(
     };
     match moment.ring(alloc.clone()?, logs, question) {
         Ok(ring) => tell_ring(alloc, form, ring, differences, names),
-        Err(fault) => tell_fault(alloc, form.wants_json(), fault),
+        Err(fault) => tell_fault(alloc, form.of_answer(), fault),
     }
 }
 
@@ -188,7 +192,7 @@ fn tell_refused<A: Allocator + Clone>(
 {
     let answer = Answer::No(refused.reason());
     match form {
-        RingForm::Lines(form) => Reply::of_answer_as(alloc, form.is_json, &answer),
+        RingForm::Lines(lines) => Reply::of_answer_as(alloc, lines.form, &answer),
         RingForm::Picture(columns) => {
             let picture = draw_refused(alloc.clone()?, refused, columns);
             tell_picture(alloc, &answer, picture)
@@ -219,7 +223,7 @@ pub(crate) fn show_ring<A: Allocator + Clone>(
         Judged::Good(logs) => show_good(alloc, form, moment, question, names, logs),
         Judged::Refused(refused) => tell_refused(alloc, form, &refused, told),
         Judged::NoRing(reason) => {
-            Reply::of_answer_as(alloc, form.wants_json(), &Answer::No(reason))
+            Reply::of_answer_as(alloc, form.of_answer(), &Answer::No(reason))
         }
     }
 }

@@ -1,11 +1,12 @@
 -- What comes of some folders, one after another.
-use Rattle.std.proofs.Common.{◌≡◌, ◌∙◌, ◌<◌, ◌+◌, ℕ, zero, suc, Bool, List, [], ◌∷◌, ◌++◌, Option, Some, None, IfSome, ap, append-nil, drop}
+use Rattle.std.proofs.Common.{◌≡◌, ◌∙◌, ◌<◌, ◌+◌, ℕ, zero, suc, List, [], ◌∷◌, ◌++◌, Option, Some, None, IfSome, ap, append-nil, drop}
 use Rattle.std.proofs.Common.{append_assoc, arith, length, refl, subst, sym, take}
 use Rattle.std.proofs.lemmas.List.{take_more}
 use Rattle.std.specs.Borrow.{Bor}
 use Rattle.std.specs.List.{AllZip}
 use Rattle.std.specs.Prelude.{slice_get, slice_index_or}
 use Rattle.ira_audit.proofs.Zipped.{zipped_more}
+use Rattle.ira_view.specs.declared.form.Form.{Form}
 use Rattle.ira_main_files.specs.Shelf.{Reading}
 use Rattle.ira_audit.specs.declared.answer.Answer.{Answer}
 use Rattle.ira_main.specs.Each.{AreAnswersOf, AreFolderTexts, AreTellable, IsAnswerOf, IsFolderAnswer, IsFolderText, IsTellable}
@@ -20,30 +21,30 @@ next_zipped R xs i d ys y lt are is =
     rw (take_more xs i d lt) (zipped_more R (take i xs) ys (slice_index_or xs i d) y are is)
 
 -- the text of one folder more
-pub text_more : (is_json : Bool) (folders : List (Bor (List ℕ))) (answers : List FolderAnswer) (text line : List ℕ)
-    (folder : Bor (List ℕ)) (answer : FolderAnswer) → AreFolderTexts is_json folders answers text
-    → IsFolderText is_json folder.now answer line
-    → AreFolderTexts is_json (folders ++ folder ∷ []) (answers ++ answer ∷ []) (text ++ line)
-text_more is_json [] [] text line folder answer are is =
+pub text_more : (form : Form) (folders : List (Bor (List ℕ))) (answers : List FolderAnswer) (text line : List ℕ)
+    (folder : Bor (List ℕ)) (answer : FolderAnswer) → AreFolderTexts form folders answers text
+    → IsFolderText form folder.now answer line
+    → AreFolderTexts form (folders ++ folder ∷ []) (answers ++ answer ∷ []) (text ++ line)
+text_more form [] [] text line folder answer are is =
     (line, [], ap (λ t. t ++ line) are ∙ sym (append-nil line), is, refl)
-text_more is_json [] (a ∷ answers) text line folder answer are is = absurd are
-text_more is_json (f ∷ folders) [] text line folder answer are is = absurd are
-text_more is_json (f ∷ folders) (a ∷ answers) text line folder answer are is = (
+text_more form [] (a ∷ answers) text line folder answer are is = absurd are
+text_more form (f ∷ folders) [] text line folder answer are is = absurd are
+text_more form (f ∷ folders) (a ∷ answers) text line folder answer are is = (
   are.0,
   are.1 ++ line,
   ap (λ t. t ++ line) are.2 ∙ append_assoc are.0 are.1 line,
   are.3,
-  text_more is_json folders answers are.1 line folder answer are.4 is,
+  text_more form folders answers are.1 line folder answer are.4 is,
 )
 
 -- the same by its number
-pub next_text : (is_json : Bool) (folders : List (Bor (List ℕ))) (answers : List FolderAnswer) (i : ℕ)
+pub next_text : (form : Form) (folders : List (Bor (List ℕ))) (answers : List FolderAnswer) (i : ℕ)
     (df : Bor (List ℕ)) (da : FolderAnswer) (text line : List ℕ) → i < length folders → i < length answers
-    → AreFolderTexts is_json (take i folders) (take i answers) text
-    → IsFolderText is_json (slice_index_or folders i df).now (slice_index_or answers i da) line
-    → AreFolderTexts is_json (take (i + 1) folders) (take (i + 1) answers) (text ++ line)
-next_text is_json folders answers i df da text line lf la are is =
-    rw (take_more folders i df lf, take_more answers i da la) (text_more is_json (take i folders) (take i answers) text
+    → AreFolderTexts form (take i folders) (take i answers) text
+    → IsFolderText form (slice_index_or folders i df).now (slice_index_or answers i da) line
+    → AreFolderTexts form (take (i + 1) folders) (take (i + 1) answers) (text ++ line)
+next_text form folders answers i df da text line lf la are is =
+    rw (take_more folders i df lf, take_more answers i da la) (text_more form (take i folders) (take i answers) text
     line (slice_index_or folders i df) (slice_index_or answers i da) are is)
 
 -- answers that were given can be told

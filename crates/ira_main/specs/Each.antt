@@ -13,6 +13,9 @@ use Rattle.ira_audit.specs.declared.answer.Answer.TheVariants as audit
 use Rattle.ira_view_page.specs.Printable.{shown}
 use Rattle.ira_view_json.specs.FolderValue.{folder_answer_value, unread_value}
 use Rattle.ira_view_json.specs.Line.{IsLineOf}
+use Rattle.ira_view.specs.Form.{json_form}
+use Rattle.ira_view.specs.declared.form.Form.{Form}
+use Rattle.ira_view.specs.declared.form.Form.TheVariants.{Json, Words}
 use Rattle.ira_main_cli.specs.declared.each_request.EachRequest.{EachRequest}
 use Rattle.ira_main_cli.specs.declared.log_source.LogSource.TheVariants.{Folder}
 use Rattle.ira_main_files.specs.FileName.{file_name}
@@ -88,18 +91,18 @@ IsFolderObject folder (Judged answer) line =
     IsLineOf (folder_answer_value folder (status_number (answer_status answer)) answer) line
 IsFolderObject folder (Unread name) line = IsLineOf (unread_value (Some folder) (file_name name) 2) line
 
--- what is printed of a folder, as JSON or not
-abbrev pub IsFolderText : Bool → List ℕ → FolderAnswer → List ℕ → Type 0
-IsFolderText true folder answer line = IsFolderObject folder answer line
-IsFolderText false folder answer line = line ≡ folder_line folder answer
+-- what is printed of a folder
+abbrev pub IsFolderText : Form → List ℕ → FolderAnswer → List ℕ → Type 0
+IsFolderText Json folder answer line = IsFolderObject folder answer line
+IsFolderText Words folder answer line = line ≡ folder_line folder answer
 
 -- what is printed of the folders, one after another
-abbrev pub AreFolderTexts : Bool → List (Bor (List ℕ)) → List FolderAnswer → List ℕ → Type 0
-AreFolderTexts is_json [] [] text = text ≡ []
-AreFolderTexts is_json (folder ∷ folders) (answer ∷ answers) text =
-    (line : List ℕ) × (rest : List ℕ) × (text ≡ line ++ rest) × IsFolderText is_json folder.now answer line
-    × AreFolderTexts is_json folders answers rest
-AreFolderTexts is_json folders answers text = ⊥
+abbrev pub AreFolderTexts : Form → List (Bor (List ℕ)) → List FolderAnswer → List ℕ → Type 0
+AreFolderTexts form [] [] text = text ≡ []
+AreFolderTexts form (folder ∷ folders) (answer ∷ answers) text =
+    (line : List ℕ) × (rest : List ℕ) × (text ≡ line ++ rest) × IsFolderText form folder.now answer line
+    × AreFolderTexts form folders answers rest
+AreFolderTexts form folders answers text = ⊥
 
 -- the file that wasn't read, if there is one
 abbrev pub unread_name : FolderAnswer → Option FileName
@@ -128,9 +131,9 @@ IsEachOutcome answers (Err other) = ⊥
 pub data JudgesEach {S : Type 0} (reads : Reading S) (asked : EachRequest) (shelf : S) (out out' : SinkState)
     (outcome : Outcome) : Type 0 where
   told : (answers : List FolderAnswer) (text : List ℕ) → AllZip (IsFolderAnswer reads shelf) asked.folders.items answers
-      → AreFolderTexts asked.is_json asked.folders.items answers text → Takes text out out'
+      → AreFolderTexts (json_form asked.is_json) asked.folders.items answers text → Takes text out out'
       → IsEachOutcome answers outcome → JudgesEach reads asked shelf out out' outcome
   stopped : (answers : List FolderAnswer) (text : List ℕ) → AllZip (IsFolderAnswer reads shelf) asked.folders.items answers
-      → AreFolderTexts asked.is_json asked.folders.items answers text → StopsIn text out out'
+      → AreFolderTexts (json_form asked.is_json) asked.folders.items answers text → StopsIn text out out'
       → outcome ≡ Err CannotWriteAnswer → JudgesEach reads asked shelf out out' outcome
   no_memory : out' ≡ out → outcome ≡ Err OutOfMemory → JudgesEach reads asked shelf out out' outcome

@@ -1,6 +1,7 @@
 -- What the program does without waiting.
 use Rattle.std.specs.Prelude.{◌≡◌, ℕ, false, List}
 use Rattle.ira_event.specs.Sink.{SinkState}
+use Rattle.ira_view.specs.Form.{json_form}
 use Rattle.ira_main_cli.specs.Request.{IsCheckLine, IsExplainLine, IsRunLine}
 use Rattle.ira_main_cli.specs.declared.explain_request.ExplainRequest.{ExplainRequest}
 use Rattle.ira_main_cli.specs.declared.explained_answer.ExplainedAnswer.TheVariants.{Certificate}
@@ -25,8 +26,8 @@ ServesOrLeaves A reads writes words input input' shelf shelf' out out' (Ended ou
 ServesOrLeaves A reads writes words input input' shelf shelf' out out' (Check check) =
     IsCheckLine words check × IsUntouched input input' shelf shelf' out out'
 ServesOrLeaves A reads writes words input input' shelf shelf' out out'
-    (ExplainCheck is_json question certificate logs) =
-    (explain : ExplainRequest) × IsExplainLine words explain × (explain.is_json ≡ is_json)
+    (ExplainCheck form question certificate logs) =
+    (explain : ExplainRequest) × IsExplainLine words explain × (form ≡ json_form explain.is_json)
     × (explain.answer ≡ Certificate question certificate logs)
     × IsUntouched input input' shelf shelf' out out'
 ServesOrLeaves A reads writes words input input' shelf shelf' out out' (Run ring) =

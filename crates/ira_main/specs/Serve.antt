@@ -5,6 +5,8 @@ use Rattle.std.specs.Borrow.{Bor}
 use Rattle.std.specs.Option.{is_some}
 use Rattle.ira_event.specs.Limits.{MAX_TEXT}
 use Rattle.ira_event.specs.Sink.{SinkState}
+use Rattle.ira_view.specs.Form.{json_form}
+use Rattle.ira_view.specs.declared.form.Form.{Form}
 use Rattle.ira_commands.specs.Answers.{Answers}
 use Rattle.ira_commands.specs.Judging.{JudgesLog}
 use Rattle.ira_commands.specs.Pairs.{AsksPairs}
@@ -56,8 +58,8 @@ abbrev pub OfInput : (List ℕ → Reply → Type 0) → Reads → Reads → Rep
 OfInput IsReply old new reply = (text : List ℕ) × IsReadTo (MAX_TEXT + 1) old new text × IsReply text reply
 
 -- what is asked of logs that are to be judged: their answer, and, where that is wanted, whether their election is over
-abbrev pub asked_of_logs : Bool → Bool → LogsCommand
-asked_of_logs is_json asks_over = if asks_over then Over is_json else Answer is_json
+abbrev pub asked_of_logs : Form → Bool → LogsCommand
+asked_of_logs form asks_over = if asks_over then Over form else Answer form
 
 -- why none comes of it: a read failed, or memory ran out
 abbrev pub IsInputFault : Reads → ProgramFault → Type 0
@@ -74,15 +76,15 @@ TellsOfLogs A reads question certificate source shelf out out' outcome command =
     (IsUnread reads None question certificate source shelf) out out' outcome
 
 -- the answer that is asked for was explained; that of one log is none of these, since it comes of the input
-abbrev pub ExplainsAnswer : Type 0 → Bool → {S : Type 0} → Reading S → ExplainedAnswer → S → SinkState → SinkState
+abbrev pub ExplainsAnswer : Type 0 → Form → {S : Type 0} → Reading S → ExplainedAnswer → S → SinkState → SinkState
     → Outcome → Type 0
-ExplainsAnswer A is_json reads OneLog shelf out out' outcome = ⊥
-ExplainsAnswer A is_json reads (Logs source) shelf out out' outcome =
-    TellsOfLogs A reads None None source shelf out out' outcome (Explain is_json)
-ExplainsAnswer A is_json reads (Findings asked source) shelf out out' outcome =
-    TellsOfLogs A reads (Some asked.question) None source shelf out out' outcome (ExplainQuestion is_json asked.case)
-ExplainsAnswer A is_json reads (Certificate question certificate source) shelf out out' outcome =
-    TellsOfLogs A reads (Some question) (Some certificate) source shelf out out' outcome (ExplainCheck is_json)
+ExplainsAnswer A form reads OneLog shelf out out' outcome = ⊥
+ExplainsAnswer A form reads (Logs source) shelf out out' outcome =
+    TellsOfLogs A reads None None source shelf out out' outcome (Explain form)
+ExplainsAnswer A form reads (Findings asked source) shelf out out' outcome =
+    TellsOfLogs A reads (Some asked.question) None source shelf out out' outcome (ExplainQuestion form asked.case)
+ExplainsAnswer A form reads (Certificate question certificate source) shelf out out' outcome =
+    TellsOfLogs A reads (Some question) (Some certificate) source shelf out out' outcome (ExplainCheck form)
 
 -- what is done for words: they are refused; or they ask for logs, or for the evidence of an answer, and their texts
 -- are judged together, or those of each of some folders; or to show logs, and what happened by them is printed; or to draw
@@ -99,12 +101,12 @@ pub data CommandOutcome (A : Type 0) {S : Type 0} (reads : Reading S) (writes : 
       → CommandOutcome A reads writes words shelf shelf' out out' outcome
   judged : (logs : LogsRequest) → IsLogsLine words logs → shelf' ≡ shelf
       → TellsOfLogs A reads None None logs.logs shelf out out' outcome
-      (asked_of_logs logs.is_json logs.asks_over)
+      (asked_of_logs (json_form logs.is_json) logs.asks_over)
       → CommandOutcome A reads writes words shelf shelf' out out' outcome
   each : (asked : EachRequest) → IsEachLine words asked → shelf' ≡ shelf → JudgesEach reads asked shelf out out' outcome
       → CommandOutcome A reads writes words shelf shelf' out out' outcome
   explained : (explain : ExplainRequest) → IsExplainLine words explain → shelf' ≡ shelf
-      → ExplainsAnswer A explain.is_json reads explain.answer shelf out out' outcome
+      → ExplainsAnswer A (json_form explain.is_json) reads explain.answer shelf out out' outcome
       → CommandOutcome A reads writes words shelf shelf' out out' outcome
   shown : (show : ShowRequest) → IsShowLine words show → shelf' ≡ shelf → (command : LogsCommand)
       → AsksToShow show command
@@ -116,12 +118,12 @@ pub data CommandOutcome (A : Type 0) {S : Type 0} (reads : Reading S) (writes : 
       → CommandOutcome A reads writes words shelf shelf' out out' outcome
   certified : (check : CheckRequest) → IsCheckLine words check → shelf' ≡ shelf
       → TellsOfLogs A reads (Some check.question) (Some check.certificate) check.logs shelf out out' outcome
-      (Check check.is_json)
+      (Check (json_form check.is_json))
       → CommandOutcome A reads writes words shelf shelf' out out' outcome
   decided : (decide : DecideRequest) → IsDecideLine words decide
       → TellsAndKeeps writes decide.certificate
       (OfFiles reads decide.certificate (Some decide.question) None decide.logs shelf
-      (Answers A (Decide decide.is_json (is_some decide.certificate))))
+      (Answers A (Decide (json_form decide.is_json) (is_some decide.certificate))))
       (IsUnread reads decide.certificate (Some decide.question) None decide.logs shelf)
       shelf shelf' out out' outcome
       → CommandOutcome A reads writes words shelf shelf' out out' outcome
@@ -152,7 +154,7 @@ pub data Serves (A : Type 0) {S : Type 0} (reads : Reading S) (writes : Writing 
       → Tells (OfInput (JudgesLog Reports) input input') (IsInputFault input') out out' outcome
       → Serves A reads writes words input input' shelf shelf' out out' outcome
   explained : (explain : ExplainRequest) → IsExplainLine words explain → explain.answer ≡ OneLog → shelf' ≡ shelf
-      → Tells (OfInput (ExplainsInput A explain.is_json) input input') (IsInputFault input') out out' outcome
+      → Tells (OfInput (ExplainsInput A (json_form explain.is_json)) input input') (IsInputFault input') out out' outcome
       → Serves A reads writes words input input' shelf shelf' out out' outcome
   with_words : words ≢ [] → input' ≡ input → CommandOutcome A reads writes words shelf shelf' out out' outcome
       → Serves A reads writes words input input' shelf shelf' out out' outcome

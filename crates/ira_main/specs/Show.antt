@@ -1,6 +1,7 @@
 -- What words ask for that show a ring.
 use Rattle.std.specs.Prelude.{◌≡◌, ℕ, List, None, Option, Some}
 use Rattle.std.specs.Borrow.{Bor}
+use Rattle.ira_view.specs.Form.{json_form}
 use Rattle.ira_commands.specs.declared.logs_command.LogsCommand.{LogsCommand}
 use Rattle.ira_commands.specs.declared.logs_command.LogsCommand.TheVariants as command
 use Rattle.ira_commands.specs.declared.ring_form.LinesForm.{LinesForm}
@@ -21,11 +22,11 @@ AreLeadersOf (Some (Places places)) asked =
     (lent : Bor (List ℕ)) × (lent.now ≡ places.items) × (asked ≡ leaders.Places lent)
 
 -- the lines that they ask for
-abbrev pub IsFormOf : ShowRequest → LinesForm → Type 0
-IsFormOf show form =
-    (form.is_json ≡ show.is_json) × (form.has_events ≡ show.has_events) × AreLeadersOf show.leads form.leaders
+abbrev pub AreLinesOf : ShowRequest → LinesForm → Type 0
+AreLinesOf show lines =
+    (lines.form ≡ json_form show.is_json) × (lines.has_events ≡ show.has_events) × AreLeadersOf show.leads lines.leaders
 
 -- they ask to show a ring as these lines
 abbrev pub AsksToShow : ShowRequest → LogsCommand → Type 0
-AsksToShow show asked = (form : LinesForm) × (moment : RingMoment) × IsFormOf show form × IsMomentOf show.moment moment
-    × (asked ≡ command.Show (Lines form) moment)
+AsksToShow show asked = (lines : LinesForm) × (moment : RingMoment) × AreLinesOf show lines × IsMomentOf show.moment moment
+    × (asked ≡ command.Show (Lines lines) moment)

@@ -14,7 +14,7 @@ use ira_commands::{Reply, explain_one, tell_view};
 use ira_event::{MAX_TEXT, OutOfMemory};
 use ira_main_cli::LogSource;
 use ira_main_files::{CountingReader, FileName, TextBuffer, TextSource};
-use ira_view::{AskedFiles, explain_certified, judge_texts};
+use ira_view::{AskedFiles, Form, explain_certified, judge_texts};
 use ira_view_page::NamedText;
 use std::alloc::Allocator;
 use std::io::Read;
@@ -25,10 +25,10 @@ use std::time::Clock;
 /// Judges the log on the input, and says why the answer is as it is.
 pub(crate) fn explain_input<'a, A: Allocator + Clone, I: Read>(
     alloc: A,
-    is_json: bool,
+    form: Form,
     input: &mut CountingReader<I>,
 ) -> Result<Reply<A>, ProgramFault<'a>>
-    ensures judged { MatchResult result (OfInput (ExplainsInput A is_json) input.old input.new)
+    ensures judged { MatchResult result (OfInput (ExplainsInput A form) input.old input.new)
         (IsInputFault input.new) }
     ensures reads { input.new.reads ≤ input.old.reads + (MAX_TEXT + 1) }
 {
@@ -40,14 +40,14 @@ pub(crate) fn explain_input<'a, A: Allocator + Clone, I: Read>(
         name: "-",
         text: text.bytes(),
     };
-    Ok(explain_one(alloc, is_json, &log)?)
+    Ok(explain_one(alloc, form, &log)?)
 }
 
 /// The answer of logs in files that were read, of a question and of a certificate, and why it is so.
 fn explain_check_read<R, A>(
     rt: &R,
     alloc: A,
-    is_json: bool,
+    form: Form,
     question: &NamedText<'_>,
     certificate: &NamedText<'_>,
     logs: &[NamedFile<A>],
@@ -55,7 +55,7 @@ fn explain_check_read<R, A>(
 where
     R: Threads + Wait + Clock + Sync,
     A: Allocator + Clone + Send + Sync,
-    ensures { IfOk result (Answers A (ExplainCheck is_json)
+    ensures { IfOk result (Answers A (ExplainCheck form)
         (given_of question.now certificate.now (names_in logs.now) (texts_in logs.now))) }
 {
     let logs = named_texts(alloc.clone()?, logs)?;
@@ -65,14 +65,14 @@ where
         question,
     };
     let view = explain_certified(rt, alloc.clone()?, files, certificate, &judged)?;
-    tell_view(alloc, is_json, &view, None)
+    tell_view(alloc, form, &view, None)
 }
 
 /// Judges the logs of a source with a question and a certificate, and says why the answer is as it is.
 pub(crate) fn explain_check_files<'a, R, A, F>(
     rt: &R,
     alloc: A,
-    is_json: bool,
+    form: Form,
     question: &'a str,
     certificate: &'a str,
     source: &LogSource<'a>,
@@ -84,7 +84,7 @@ where
     F: TextSource,
     ensures { MatchResult result
         (OfFiles F.reads None (Some question.entry) (Some certificate.entry) source.now shelf.now
-        (Answers A (ExplainCheck is_json)))
+        (Answers A (ExplainCheck form)))
         (IsUnread F.reads None (Some question.entry) (Some certificate.entry) source.now shelf.now) }
 {
     let inputs = Inputs {
@@ -102,5 +102,5 @@ where
         name: certificate,
         text: first.certificate.bytes(),
     };
-    Ok(explain_check_read(rt, alloc, is_json, &question, &certificate, &logs)?)
+    Ok(explain_check_read(rt, alloc, form, &question, &certificate, &logs)?)
 }

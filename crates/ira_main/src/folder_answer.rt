@@ -10,7 +10,7 @@ use ira_audit::{Answer, RingAudit, write_report};
 use ira_event::{MemorySink, OutOfMemory, Sink, WriteFault, write_bytes};
 use ira_main_cli::LogSource;
 use ira_main_files::{FileName, TextSource};
-use ira_view::Status;
+use ira_view::{Form, Status};
 use ira_view_json::{folder_answer_line, unread_line};
 use std::alloc::Allocator;
 
@@ -98,22 +98,22 @@ impl<'a> FolderAnswer<'a> {
     pub(crate) fn add_text<A: Allocator + Clone>(
         &self,
         alloc: A,
-        is_json: bool,
+        form: Form,
         folder: &str,
         text: &mut MemorySink<A>,
     ) -> Result<(), OutOfMemory>
         requires { IsTellable self.now }
-        ensures { OnOk result ((line : List ℕ) × IsFolderText is_json folder.now self.now line
+        ensures { OnOk result ((line : List ℕ) × IsFolderText form folder.now self.now line
             × (text.new.bytes ≡ text.old.bytes ++ line)) }
     {
-        if is_json {
-            let line = self.json(alloc, folder)?;
-            return match write_bytes(line.as_bytes(), text) {
-                Ok(()) => Ok(()),
-                Err(WriteFault) => Err(OutOfMemory),
-            };
-        }
-        match self.write(folder, text) {
+        let written = match form {
+            Form::Json => {
+                let line = self.json(alloc, folder)?;
+                write_bytes(line.as_bytes(), text)
+            }
+            Form::Words => self.write(folder, text),
+        };
+        match written {
             Ok(()) => Ok(()),
             Err(WriteFault) => Err(OutOfMemory),
         }

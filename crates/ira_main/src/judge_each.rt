@@ -10,7 +10,7 @@ use ira_audit::Answer;
 use ira_event::{MemorySink, OutOfMemory, Sink, WriteFault, write_bytes};
 use ira_main_cli::EachRequest;
 use ira_main_files::{FileName, Shelf, TextSource};
-use ira_view::Status;
+use ira_view::{Form, Status};
 use std::alloc::{AllocError, Allocator, Global};
 use std::thread::{self, Threads};
 
@@ -106,17 +106,17 @@ where
 /// What is printed of these folders, in their order.
 fn folder_texts<A: Allocator + Clone>(
     alloc: A,
-    is_json: bool,
+    form: Form,
     folders: &[&str],
     answers: &[FolderAnswer<'_>],
 ) -> Result<MemorySink<A>, OutOfMemory>
     requires number { length answers.now ≡ length folders.now }
     requires tellable { AreTellable answers.now }
-    ensures { IfOk result (λ text. AreFolderTexts is_json folders.now answers.now text.bytes) }
+    ensures { IfOk result (λ text. AreFolderTexts form folders.now answers.now text.bytes) }
 {
     let mut text = MemorySink::new(alloc.clone()?);
     for i in 0..folders.len() {
-        answers[i].add_text(alloc.clone()?, is_json, folders[i], &mut text)?;
+        answers[i].add_text(alloc.clone()?, form, folders[i], &mut text)?;
     }
     Ok(text)
 }
@@ -166,7 +166,8 @@ where
     ensures { JudgesEach F.reads asked.now shelf.now (W.state out.old) (W.state out.new) result }
 {
     let answers = folder_answers(rt, &alloc, &asked.folders, shelf)?;
-    let text = folder_texts(alloc, asked.is_json, &asked.folders, &answers)?;
+    let form = Form::of_json(asked.is_json);
+    let text = folder_texts(alloc, form, &asked.folders, &answers)?;
     let unread = unread(rt.alloc(), &answers)?;
     match write_bytes(text.bytes(), out) {
         Ok(()) if unread.is_empty() => Ok(status_of(&answers)),

@@ -1,5 +1,6 @@
 ghost use Rattle.std.specs.Prelude.{◌≡◌, ◌≤◌, ◌+◌, ℕ, IfOk, List, MatchResult, None, Some};
 ghost use Rattle.ira_audit.specs.RingAudit.{HasTaken};
+ghost use Rattle.ira_view.specs.Form.{json_form};
 ghost use Rattle.ira_commands.specs.Answers.{Answers};
 ghost use Rattle.ira_commands.specs.Check.{ChecksTexts};
 ghost use Rattle.ira_commands.specs.Judging.{JudgesLog};
@@ -17,6 +18,7 @@ use ira_event::{MAX_TEXT, OutOfMemory};
 use ira_links::OpenGate;
 use ira_main_cli::CheckRequest;
 use ira_main_files::{CountingReader, FileName, Shelf};
+use ira_view::Form;
 use std::alloc::Allocator;
 use std::io::Read;
 use std::sync::Wait;
@@ -38,13 +40,13 @@ pub(crate) fn judge_input<'a, A: Allocator + Clone, I: Read>(
 }
 
 /// What is asked of logs that are to be judged.
-pub(crate) fn judge_command<'v>(is_json: bool, asks_over: bool) -> LogsCommand<'v>
-    ensures { result ≡ asked_of_logs is_json asks_over }
+pub(crate) fn judge_command<'v>(form: Form, asks_over: bool) -> LogsCommand<'v>
+    ensures { result ≡ asked_of_logs form asks_over }
 {
     if asks_over {
-        LogsCommand::Over { is_json }
+        LogsCommand::Over { form }
     } else {
-        LogsCommand::Answer { is_json }
+        LogsCommand::Answer { form }
     }
 }
 
@@ -63,11 +65,11 @@ where
     requires depth { check.now.depth ≤ 4 }
     requires taken { (texts : List (List ℕ)) × HasTaken audit texts }
     ensures { (texts : List (List ℕ)) → HasTaken audit texts
-        → IfOk result (ChecksTexts (ReportsAs check.now.is_json) question.now certificate.now texts) }
+        → IfOk result (ChecksTexts (ReportsAs (json_form check.now.is_json)) question.now certificate.now texts) }
 {
     let judged = audit.judge_on_threads(rt)?;
     let answer = judged.check(rt, question, certificate, check.depth, &OpenGate)?;
-    Reply::of_answer_as(alloc, check.is_json, &answer)
+    Reply::of_answer_as(alloc, Form::of_json(check.is_json), &answer)
 }
 
 /// Judges logs with the question and the certificate in the files that are named.
@@ -84,7 +86,7 @@ where
     requires depth { check.now.depth ≤ 4 }
     ensures { MatchResult result
         (OfFiles F.reads None (Some check.now.question) (Some check.now.certificate) check.now.logs shelf.now
-        (Answers A (Check check.now.is_json)))
+        (Answers A (Check (json_form check.now.is_json))))
         (IsUnread F.reads None (Some check.now.question) (Some check.now.certificate) check.now.logs shelf.now) }
 {
     let inputs = Inputs {

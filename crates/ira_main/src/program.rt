@@ -30,7 +30,7 @@ use ira_main_cli::{
     CaseSelection, ExplainRequest, ExplainedAnswer, LogsRequest, Request, read_words,
 };
 use ira_main_files::{CountingReader, Shelf};
-use ira_view::Status;
+use ira_view::{Form, Status};
 use std::alloc::Allocator;
 use std::io::Read;
 use std::sync::Wait;
@@ -78,37 +78,40 @@ where
                 logs,
             },
         ) => {
-            let command = judge_command(is_json, asks_over);
+            let command = judge_command(Form::of_json(is_json), asks_over);
             let inputs = Inputs::asked(None, &logs, None);
             Progress::Ended(deliver(answer_files(rt, alloc, command, inputs, shelf), out))
         }
         Request::Each(each) => Progress::Ended(judge_each(rt, alloc, &each, shelf, out)),
-        Request::Explain(ExplainRequest { answer, is_json }) => match answer {
-            ExplainedAnswer::OneLog => {
-                Progress::Ended(deliver(explain_input(alloc, is_json, input), out))
+        Request::Explain(ExplainRequest { answer, is_json }) => {
+            let form = Form::of_json(is_json);
+            match answer {
+                ExplainedAnswer::OneLog => {
+                    Progress::Ended(deliver(explain_input(alloc, form, input), out))
+                }
+                ExplainedAnswer::Logs(logs) => {
+                    let command = LogsCommand::Explain { form };
+                    let inputs = Inputs::asked(None, &logs, None);
+                    Progress::Ended(deliver(answer_files(rt, alloc, command, inputs, shelf), out))
+                }
+                ExplainedAnswer::Findings { asked, logs } => {
+                    let CaseSelection { question, case } = asked;
+                    let command = LogsCommand::ExplainQuestion { form, case };
+                    let inputs = Inputs::asked(Some(question), &logs, None);
+                    Progress::Ended(deliver(answer_files(rt, alloc, command, inputs, shelf), out))
+                }
+                ExplainedAnswer::Certificate {
+                    question,
+                    certificate,
+                    logs,
+                } => Progress::ExplainCheck {
+                    form,
+                    question,
+                    certificate,
+                    logs,
+                },
             }
-            ExplainedAnswer::Logs(logs) => {
-                let command = LogsCommand::Explain { is_json };
-                let inputs = Inputs::asked(None, &logs, None);
-                Progress::Ended(deliver(answer_files(rt, alloc, command, inputs, shelf), out))
-            }
-            ExplainedAnswer::Findings { asked, logs } => {
-                let CaseSelection { question, case } = asked;
-                let command = LogsCommand::ExplainQuestion { is_json, case };
-                let inputs = Inputs::asked(Some(question), &logs, None);
-                Progress::Ended(deliver(answer_files(rt, alloc, command, inputs, shelf), out))
-            }
-            ExplainedAnswer::Certificate {
-                question,
-                certificate,
-                logs,
-            } => Progress::ExplainCheck {
-                is_json,
-                question,
-                certificate,
-                logs,
-            },
-        },
+        }
         Request::Show(show) => {
             let inputs = Inputs::asked(question_of(&show.moment), &show.logs, None);
             let reply = answer_files(rt, alloc, show_command(&show), inputs, shelf);
@@ -121,7 +124,7 @@ where
         Request::Check(check) => Progress::Check(check),
         Request::Decide(decide) => {
             let command = LogsCommand::Decide {
-                is_json: decide.is_json,
+                form: Form::of_json(decide.is_json),
                 certify: decide.certificate.is_some(),
             };
             let question = Some(decide.question);
@@ -175,20 +178,12 @@ where
         Progress::Ended(outcome) => outcome,
         Progress::Check(check) => deliver(check_files(rt, waiting, &check, shelf), out),
         Progress::ExplainCheck {
-            is_json,
+            form,
             question,
             certificate,
             logs,
         } => {
-            let reply = explain_check_files(
-                rt,
-                waiting,
-                is_json,
-                question,
-                certificate,
-                &logs,
-                shelf,
-            );
+            let reply = explain_check_files(rt, waiting, form, question, certificate, &logs, shelf);
             deliver(reply, out)
         }
         Progress::Run(ring) => {

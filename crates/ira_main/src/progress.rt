@@ -1,6 +1,6 @@
 use crate::program_fault::ProgramFault;
 use ira_main_cli::{CheckRequest, LogSource, RunRequest};
-use ira_view::Status;
+use ira_view::{Form, Status};
 
 /// How far the program comes without waiting.
 #[derive(Drop)]
@@ -11,7 +11,7 @@ pub enum Progress<'a> {
     Check(CheckRequest<'a>),
     /// They ask for the evidence of a check, of which nothing was done.
     ExplainCheck {
-        is_json: bool,
+        form: Form,
         question: &'a str,
         certificate: &'a str,
         logs: LogSource<'a>,

@@ -1,9 +1,10 @@
 ghost use Rattle.std.specs.Prelude.{◌≡◌};
 ghost use Rattle.ira_main.specs.Moment.{IsMomentOf, question_of};
-ghost use Rattle.ira_main.specs.Show.{AsksToShow, IsFormOf};
+ghost use Rattle.ira_main.specs.Show.{AreLinesOf, AsksToShow};
 
 use ira_commands::{LinesForm, LogsCommand, RingForm, RingLeaders, RingMoment};
 use ira_main_cli::{AskedLeaders, AskedMoment, ShowRequest};
+use ira_view::Form;
 
 /// The moment that words ask for.
 pub(crate) fn moment_of<'t>(asked: &'t AskedMoment<'_>) -> RingMoment<'t>
@@ -27,8 +28,8 @@ pub(crate) fn question_of<'a>(asked: &AskedMoment<'a>) -> Option<&'a str>
 }
 
 /// The lines that words ask for.
-fn form_of<'t>(show: &'t ShowRequest<'_>) -> LinesForm<'t>
-    ensures { IsFormOf show.now result }
+fn lines_of<'t>(show: &'t ShowRequest<'_>) -> LinesForm<'t>
+    ensures { AreLinesOf show.now result }
 {
     let leaders = match &show.leads {
         Some(AskedLeaders::Places(places)) => RingLeaders::Places(places.as_slice()),
@@ -36,7 +37,7 @@ fn form_of<'t>(show: &'t ShowRequest<'_>) -> LinesForm<'t>
         None => RingLeaders::NotAsked,
     };
     LinesForm {
-        is_json: show.is_json,
+        form: Form::of_json(show.is_json),
         has_events: show.has_events,
         leaders,
     }
@@ -46,5 +47,5 @@ fn form_of<'t>(show: &'t ShowRequest<'_>) -> LinesForm<'t>
 pub(crate) fn show_command<'t>(show: &'t ShowRequest<'_>) -> LogsCommand<'t>
     ensures { AsksToShow show.now result }
 {
-    LogsCommand::Show(RingForm::Lines(form_of(show)), moment_of(&show.moment))
+    LogsCommand::Show(RingForm::Lines(lines_of(show)), moment_of(&show.moment))
 }

@@ -9,6 +9,8 @@ use Rattle.ira_audit.specs.declared.reason.Reason.{Reason}
 use Rattle.ira_view_json.proofs.LineTexts.{one_line}
 use Rattle.ira_view.specs.Status.{IsFindingsStatus}
 use Rattle.ira_view.specs.ViewText.{IsAnswerText, IsFindingsText}
+use Rattle.ira_view.specs.declared.form.Form.{Form}
+use Rattle.ira_view.specs.declared.form.Form.TheVariants.{Json, Words}
 use Rattle.ira_view.specs.declared.status.Status.{Status}
 use Rattle.ira_view.specs.declared.status.Status.TheVariants as status
 
@@ -21,8 +23,7 @@ findings_status findings true s absent when_absent when_met =
 findings_status findings false s absent when_absent when_met = inl (absent.0 refl, when_met refl)
 
 -- the answer of a reason is the text of a refusal
-pub refusal_text : (A : Type 0) (is_json : Bool) (reason : Reason) (text : List ℕ)
-    → IsAnswerText is_json (No reason) text
-    → IsFindingsText {A = A} is_json (Refused reason) text
-refusal_text A true reason text is = (status.No, inl (tt, refl), one_line _ text is)
-refusal_text A false reason text is = is
+pub refusal_text : (A : Type 0) (form : Form) (reason : Reason) (text : List ℕ)
+    → IsAnswerText form (No reason) text → IsFindingsText {A = A} form (Refused reason) text
+refusal_text A Json reason text is = (status.No, inl (tt, refl), one_line _ text is)
+refusal_text A Words reason text is = is

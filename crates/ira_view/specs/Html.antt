@@ -1,5 +1,5 @@
 -- Pages to move in a picture of a ring.
-use Rattle.std.specs.Prelude.{◌≡◌, ℕ, List, [], ◌++◌, None, Option, map, true}
+use Rattle.std.specs.Prelude.{◌≡◌, ℕ, List, [], ◌++◌, None, Option, map}
 use Rattle.std.specs.List.{zip}
 use Rattle.ira_event.specs.Log.{Log}
 use Rattle.ira_audit.specs.RefusedLogs.{RefusedLogs}
@@ -22,6 +22,7 @@ use Rattle.ira_view.specs.Explained.{IsExplanation}
 use Rattle.ira_view.specs.ShownRing.{ShownRing}
 use Rattle.ira_view.specs.Status.{status_number}
 use Rattle.ira_view.specs.ViewText.{IsViewText}
+use Rattle.ira_view.specs.declared.form.Form.TheVariants.{Json}
 use Rattle.ira_view.specs.declared.status.Status.TheVariants.{Yes}
 
 -- the text is the line of JSON of a picture of the logs at the columns that are asked for, with a line at the moment of the
@@ -63,7 +64,7 @@ abbrev pub IsRefusalTold : Type 0 → List NamedText → RefusedLogs → List �
 IsRefusalTold A files refused told =
     (explanation : Explanation A) × (line : List ℕ) × (page : List ℕ) × (others : List ℕ)
     × IsExplanation {A = A} files (Refused refused) explanation None
-    × IsViewText true (No refused.reason) explanation None line
+    × IsViewText Json (No refused.reason) explanation None line
     × IsLineOf (explanation_value explanation.page) page
     × AreLogLines (zip (map (λ file. file.name.now) files) refused.logs) others × (told ≡ line ++ page ++ others)
 

@@ -1,5 +1,5 @@
 -- What is written of answers and findings, for a person or as JSON.
-use Rattle.std.specs.Prelude.{◌≡◌, ℕ, Bool, true, false, List, ◌++◌, Option, Result, Ok, Err}
+use Rattle.std.specs.Prelude.{◌≡◌, ℕ, List, ◌++◌, Option, Result, Ok, Err}
 use Rattle.ira_event.specs.Sink.{SinkState, StopsIn, Takes}
 use Rattle.ira_audit.specs.FindingsText.{findings_text}
 use Rattle.ira_audit.specs.Report.{report_line}
@@ -15,35 +15,37 @@ use Rattle.ira_view_json.specs.ExplainedFindings.{explained_findings}
 use Rattle.ira_view_json.specs.ExplainedValue.{explained_value}
 use Rattle.ira_view_json.specs.Line.{AreLinesOf, IsLineOf}
 use Rattle.ira_view.specs.Status.{IsFindingsStatus, answer_status, status_number}
+use Rattle.ira_view.specs.declared.form.Form.{Form}
+use Rattle.ira_view.specs.declared.form.Form.TheVariants.{Json, Words}
 use Rattle.ira_view.specs.declared.status.Status.{Status}
 
--- the text of an answer: as JSON, where that is wanted, with its status; or else its line
-abbrev pub IsAnswerText : Bool → Answer → List ℕ → Type 0
-IsAnswerText true answer text = IsLineOf (answer_value (status_number (answer_status answer)) answer) text
-IsAnswerText false answer text = text ≡ report_line answer
+-- the text of an answer: as JSON with its status; or in words: its line
+abbrev pub IsAnswerText : Form → Answer → List ℕ → Type 0
+IsAnswerText Json answer text = IsLineOf (answer_value (status_number (answer_status answer)) answer) text
+IsAnswerText Words answer text = text ≡ report_line answer
 
--- the text of an answer that is explained: as JSON, where that is wanted, with its status, with what it rests on, and
--- with how the election stands where that is known; or else its line, and after it the page, which is printable
-abbrev pub IsViewText : {A : Type 0} → Bool → Answer → Explanation A → Option Standing → List ℕ → Type 0
-IsViewText true answer explanation standing text =
+-- the text of an answer that is explained: as JSON with its status, with what it rests on, and with how the election stands
+-- where that is known; or in words: its line, and after it the page, which is printable
+abbrev pub IsViewText : {A : Type 0} → Form → Answer → Explanation A → Option Standing → List ℕ → Type 0
+IsViewText Json answer explanation standing text =
     IsLineOf (explained_value (status_number (answer_status answer)) answer explanation standing) text
-IsViewText false answer explanation standing text =
+IsViewText Words answer explanation standing text =
     IsPrintable explanation.page × (text ≡ report_line answer ++ explanation.page)
 
--- the text of findings: as JSON, where that is wanted, with their status; or else their lines
-abbrev pub IsFindingsText : {A : Type 0} → Bool → Findings A → List ℕ → Type 0
-IsFindingsText true findings text =
+-- the text of findings: as JSON with their status; or in words: their lines
+abbrev pub IsFindingsText : {A : Type 0} → Form → Findings A → List ℕ → Type 0
+IsFindingsText Json findings text =
     (status : Status) × IsFindingsStatus findings status
     × AreLinesOf (findings_values (status_number status) findings) text
-IsFindingsText false findings text = text ≡ findings_text findings
+IsFindingsText Words findings text = text ≡ findings_text findings
 
--- the text of findings that are explained: as JSON, where that is wanted, with their status and with what they rest on;
--- or else their lines, and after them the page, which is printable
-abbrev pub IsFindingsViewText : {A : Type 0} → Bool → Findings A → Explanation A → List ℕ → Type 0
-IsFindingsViewText true findings explanation text =
+-- the text of findings that are explained: as JSON with their status and with what they rest on; or in words: their lines,
+-- and after them the page, which is printable
+abbrev pub IsFindingsViewText : {A : Type 0} → Form → Findings A → Explanation A → List ℕ → Type 0
+IsFindingsViewText Json findings explanation text =
     (status : Status) × IsFindingsStatus findings status
     × AreLinesOf (explained_findings (status_number status) findings explanation) text
-IsFindingsViewText false findings explanation text =
+IsFindingsViewText Words findings explanation text =
     IsPrintable explanation.page × (text ≡ findings_text findings ++ explanation.page)
 
 -- the sink took such a text; a first part of one, where it failed; or nothing, where memory ran out

@@ -8,9 +8,11 @@ ghost use Rattle.ira_audit.specs.Report.{IsReportable, report_line};
 ghost use Rattle.ira_audit.specs.declared.findings.Findings.{Findings};
 ghost use Rattle.ira_view_election.specs.Election.{standing_of};
 ghost use Rattle.ira_view_page.specs.Printable.{IsPrintable};
+ghost use Rattle.ira_view.specs.declared.form.Form.TheVariants.{Json, Words};
 ghost use Rattle.ira_view.specs.ViewText.{IsAnswerText, IsFindingsText, IsFindingsViewText, IsViewText, WroteText};
 
 use crate::findings_view::FindingsView;
+use crate::form::Form;
 use crate::status::Status;
 use crate::view::View;
 use ira_audit::{Answer, DecidedCases, write_findings, write_report};
@@ -54,7 +56,7 @@ pub(crate) fn view_line<'v, A: Allocator + Clone>(
     election: Option<&'v Election<A>>,
 ) -> Result<String<A>, OutOfMemory>
     requires { IsReportable answer.now }
-    ensures { IfOk result (λ line. IsViewText true answer.now explanation.now
+    ensures { IfOk result (λ line. IsViewText Json answer.now explanation.now
         (option_map (λ election. standing_of election.now) election.entry) (string_bytes line)) }
 {
     let status = Status::of_answer(answer);
@@ -68,43 +70,47 @@ fn write_text<W: Sink>(text: &[u8], sink: &mut W) -> Result<(), ShowFault>
     Ok(write_bytes(text, sink)?)
 }
 
-/// Writes an answer, as JSON where that is wanted, or else its line.
+/// Writes an answer: its line, or JSON.
 pub fn write_answer_as<A: Allocator + Clone, W: Sink>(
     alloc: A,
-    is_json: bool,
+    form: Form,
     answer: &Answer,
     sink: &mut W,
 ) -> Result<(), ShowFault>
     requires { IsReportable answer.now }
-    ensures { WroteText (IsAnswerText is_json answer.now) result (W.state sink.old) (W.state sink.new) }
+    ensures { WroteText (IsAnswerText form answer.now) result (W.state sink.old) (W.state sink.new) }
 {
-    if is_json {
-        let status = Status::of_answer(answer);
-        let line = answer_line(alloc, answer, status.number())?;
-        return write_text(line.as_bytes(), sink);
+    match form {
+        Form::Json => {
+            let status = Status::of_answer(answer);
+            let line = answer_line(alloc, answer, status.number())?;
+            write_text(line.as_bytes(), sink)
+        }
+        Form::Words => Ok(write_report(answer, sink)?),
     }
-    Ok(write_report(answer, sink)?)
 }
 
-/// Writes an answer with why it is so, as JSON where that is wanted, with how the election stands where that is known,
-/// or else as a page after its line.
+/// Writes an answer with why it is so: as a page after its line, or as JSON, with how the election stands where that is
+/// known.
 pub fn write_view_as<'v, A: Allocator + Clone, W: Sink>(
     alloc: A,
-    is_json: bool,
+    form: Form,
     view: &'v View<A>,
     election: Option<&'v Election<A>>,
     sink: &mut W,
 ) -> Result<(), ShowFault>
     requires { IsReportable view.now.answer }
-    ensures { WroteText (IsViewText is_json view.now.answer view.now.explanation
+    ensures { WroteText (IsViewText form view.now.answer view.now.explanation
         (option_map (λ election. standing_of election.now) election.entry)) result
         (W.state sink.old) (W.state sink.new) }
 {
-    if is_json {
-        let line = view_line(alloc, &view.answer, &view.explanation, election)?;
-        return write_text(line.as_bytes(), sink);
+    match form {
+        Form::Json => {
+            let line = view_line(alloc, &view.answer, &view.explanation, election)?;
+            write_text(line.as_bytes(), sink)
+        }
+        Form::Words => Ok(write_view(&view.answer, view.explanation.page.bytes(), sink)?),
     }
-    Ok(write_view(&view.answer, view.explanation.page.bytes(), sink)?)
 }
 
 /// The lines of findings, and the page after them.
@@ -113,7 +119,7 @@ fn findings_page<A: Allocator>(
     view: &FindingsView<A>,
 ) -> Result<MemorySink<A>, OutOfMemory>
     requires { AreReportable view.now.findings }
-    ensures { IfOk result (λ text. IsFindingsViewText false view.now.findings view.now.explanation text.bytes) }
+    ensures { IfOk result (λ text. IsFindingsViewText Words view.now.findings view.now.explanation text.bytes) }
 {
     let mut text = MemorySink::new(alloc);
     match write_findings_view(view, &mut text) {
@@ -122,26 +128,29 @@ fn findings_page<A: Allocator>(
     }
 }
 
-/// Writes findings with why they are so, as JSON where that is wanted, or else as a page after their lines; all of it
-/// at once.
+/// Writes findings with why they are so, as a page after their lines or as JSON; all of it at once.
 pub fn write_findings_view_as<A: Allocator + Clone, W: Sink>(
     alloc: A,
-    is_json: bool,
+    form: Form,
     view: &FindingsView<A>,
     sink: &mut W,
 ) -> Result<(), ShowFault>
     requires { AreReportable view.now.findings }
-    ensures { WroteText (IsFindingsViewText is_json view.now.findings view.now.explanation) result
+    ensures { WroteText (IsFindingsViewText form view.now.findings view.now.explanation) result
         (W.state sink.old) (W.state sink.new) }
 {
-    if is_json {
-        let (findings, explanation) = (&view.findings, &view.explanation);
-        let status = Status::of_findings(findings);
-        let lines = explained_findings_lines(alloc, findings, status.number(), explanation)?;
-        return write_text(lines.as_bytes(), sink);
+    match form {
+        Form::Json => {
+            let (findings, explanation) = (&view.findings, &view.explanation);
+            let status = Status::of_findings(findings);
+            let lines = explained_findings_lines(alloc, findings, status.number(), explanation)?;
+            write_text(lines.as_bytes(), sink)
+        }
+        Form::Words => {
+            let text = findings_page(alloc, view)?;
+            write_text(text.bytes(), sink)
+        }
     }
-    let text = findings_page(alloc, view)?;
-    write_text(text.bytes(), sink)
 }
 
 /// The lines of what was found for the cases of a question.
@@ -158,22 +167,25 @@ fn decided_lines<A: Allocator>(
     }
 }
 
-/// Writes what was found for the cases of a question, as JSON where that is wanted, or else as its lines; all of it at
-/// once.
+/// Writes what was found for the cases of a question, as its lines or as JSON; all of it at once.
 pub fn write_decided_as<A: Allocator + Clone, W: Sink>(
     alloc: A,
-    is_json: bool,
+    form: Form,
     decided: &DecidedCases<A>,
     sink: &mut W,
 ) -> Result<(), ShowFault>
     ensures { (certify : Bool) (findings : Findings A) → AreDecided certify findings decided.now
-        → WroteText (IsFindingsText is_json findings) result (W.state sink.old) (W.state sink.new) }
+        → WroteText (IsFindingsText form findings) result (W.state sink.old) (W.state sink.new) }
 {
-    if is_json {
-        let status = Status::of_absent(decided.are_absent);
-        let lines = cases_lines(alloc, decided, status.number())?;
-        return write_text(lines.as_bytes(), sink);
+    match form {
+        Form::Json => {
+            let status = Status::of_absent(decided.are_absent);
+            let lines = cases_lines(alloc, decided, status.number())?;
+            write_text(lines.as_bytes(), sink)
+        }
+        Form::Words => {
+            let lines = decided_lines(alloc, decided)?;
+            write_text(lines.bytes(), sink)
+        }
     }
-    let lines = decided_lines(alloc, decided)?;
-    write_text(lines.bytes(), sink)
 }

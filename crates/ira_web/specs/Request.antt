@@ -5,15 +5,17 @@ use Rattle.ira_commands.specs.declared.logs_command.LogsCommand.TheVariants.{Ans
 use Rattle.ira_commands.specs.declared.logs_command.LogsCommand.TheVariants.{ExplainQuestion, Over, Show}
 use Rattle.ira_commands.specs.declared.ring_form.RingForm.{RingForm}
 use Rattle.ira_commands.specs.declared.ring_form.RingForm.TheVariants.{Html, Lines, Picture}
+use Rattle.ira_view.specs.declared.form.Form.{Form}
+use Rattle.ira_view.specs.declared.form.Form.TheVariants.{Json, Words}
 use Rattle.ira_view_picture.specs.declared.column_range.ColumnRange.{ColumnRange}
 use Rattle.ira_web.specs.Spelling.{case_values, leaders_values, moment_values, run_values}
 use Rattle.ira_web.specs.declared.request.Request.{Request}
 use Rattle.ira_web.specs.declared.request.Request.TheVariants.{ExplainLog, Mend, OfLogs, OneLog, Pairs, Run, Upgrade}
 
 -- the number that says that lines of JSON are wanted, where they are
-abbrev pub json_values : Bool → List ℕ
-json_values true = 16 ∷ []
-json_values false = []
+abbrev pub json_values : Form → List ℕ
+json_values Json = 16 ∷ []
+json_values Words = []
 
 -- the number of the command that shows a ring: what it looks like at its moment, or all events
 abbrev pub lines_values : Bool → List ℕ
@@ -26,8 +28,8 @@ AreColumns columns from to = (columns.from ≡ Some from) × (columns.to ≡ Som
 
 -- the number of the command that shows a ring in a form, after who is to lead, and the columns of a picture
 abbrev pub HasFormValues : RingForm → List ℕ → Type 0
-HasFormValues (Lines form) values =
-    values ≡ json_values form.is_json ++ leaders_values form.leaders ++ lines_values form.has_events
+HasFormValues (Lines lines) values =
+    values ≡ json_values lines.form ++ leaders_values lines.leaders ++ lines_values lines.has_events
 HasFormValues (Picture columns) values =
     (from : ℕ) × (to : ℕ) × AreColumns columns from to × (values ≡ 8 ∷ from ∷ to ∷ [])
 HasFormValues (Html columns) values =
@@ -35,20 +37,20 @@ HasFormValues (Html columns) values =
 
 -- the number of a command on the logs of a ring, and its values; what is decided is certified
 abbrev pub HasCommandValues : LogsCommand → List ℕ → Type 0
-HasCommandValues (Answer is_json) values = values ≡ json_values is_json ++ 1 ∷ []
-HasCommandValues (Over is_json) values = ⊥
-HasCommandValues (Explain is_json) values = values ≡ json_values is_json ++ 3 ∷ []
-HasCommandValues (ExplainQuestion is_json case) values = values ≡ json_values is_json ++ 4 ∷ case_values case
-HasCommandValues (ExplainCheck is_json) values = values ≡ json_values is_json ++ 5 ∷ []
+HasCommandValues (Answer form) values = values ≡ json_values form ++ 1 ∷ []
+HasCommandValues (Over form) values = ⊥
+HasCommandValues (Explain form) values = values ≡ json_values form ++ 3 ∷ []
+HasCommandValues (ExplainQuestion form case) values = values ≡ json_values form ++ 4 ∷ case_values case
+HasCommandValues (ExplainCheck form) values = values ≡ json_values form ++ 5 ∷ []
 HasCommandValues (Show form moment) values =
     (front : List ℕ) × HasFormValues form front × (values ≡ front ++ moment_values moment)
-HasCommandValues (Decide is_json certify) values = (certify ≡ true) × (values ≡ json_values is_json ++ 9 ∷ [])
-HasCommandValues (Check is_json) values = values ≡ json_values is_json ++ 10 ∷ []
+HasCommandValues (Decide form certify) values = (certify ≡ true) × (values ≡ json_values form ++ 9 ∷ [])
+HasCommandValues (Check form) values = values ≡ json_values form ++ 10 ∷ []
 
 -- the number of the request, and its values
 abbrev pub HasValues : Request → List ℕ → Type 0
 HasValues OneLog values = values ≡ 0 ∷ []
-HasValues (ExplainLog is_json) values = values ≡ json_values is_json ++ 2 ∷ []
+HasValues (ExplainLog form) values = values ≡ json_values form ++ 2 ∷ []
 HasValues (OfLogs command) values = HasCommandValues command values
 HasValues (Pairs nodes) values = values ≡ 11 ∷ nodes ∷ []
 HasValues Upgrade values = values ≡ 12 ∷ []

@@ -31,13 +31,13 @@ OfOneFile Tells files reply = (log : NamedText) × (files ≡ log ∷ []) × Jud
 -- the files are that of the question, where the command has one, that of the certificate, where it has one, and those of the
 -- logs
 abbrev pub AreCommandFiles : LogsCommand → List NamedText → NamedText → NamedText → List NamedText → Type 0
-AreCommandFiles (Answer is_json) files question certificate logs = files ≡ logs
-AreCommandFiles (Over is_json) files question certificate logs = files ≡ logs
-AreCommandFiles (Explain is_json) files question certificate logs = files ≡ logs
-AreCommandFiles (Decide is_json certify) files question certificate logs = files ≡ question ∷ logs
-AreCommandFiles (ExplainQuestion is_json case) files question certificate logs = files ≡ question ∷ logs
-AreCommandFiles (Check is_json) files question certificate logs = files ≡ question ∷ certificate ∷ logs
-AreCommandFiles (ExplainCheck is_json) files question certificate logs = files ≡ question ∷ certificate ∷ logs
+AreCommandFiles (Answer form) files question certificate logs = files ≡ logs
+AreCommandFiles (Over form) files question certificate logs = files ≡ logs
+AreCommandFiles (Explain form) files question certificate logs = files ≡ logs
+AreCommandFiles (Decide form certify) files question certificate logs = files ≡ question ∷ logs
+AreCommandFiles (ExplainQuestion form case) files question certificate logs = files ≡ question ∷ logs
+AreCommandFiles (Check form) files question certificate logs = files ≡ question ∷ certificate ∷ logs
+AreCommandFiles (ExplainCheck form) files question certificate logs = files ≡ question ∷ certificate ∷ logs
 AreCommandFiles (Show form AtEnd) files question certificate logs = files ≡ logs
 AreCommandFiles (Show form (AtCut events)) files question certificate logs = files ≡ logs
 AreCommandFiles (Show form (OfQuestion case)) files question certificate logs = files ≡ question ∷ logs
@@ -51,7 +51,7 @@ AnswersFiles A command files reply = (question : NamedText) × (certificate : Na
 -- what comes of a request with these files; the type is that of what gives memory
 abbrev pub ServesRequest : Type 0 → Request → List NamedText → Reply → Type 0
 ServesRequest A OneLog files reply = OfOneFile (λ log. Reports) files reply
-ServesRequest A (ExplainLog is_json) files reply = OfOneFile (ExplainsLog A is_json) files reply
+ServesRequest A (ExplainLog form) files reply = OfOneFile (ExplainsLog A form) files reply
 ServesRequest A (OfLogs command) files reply = AnswersFiles A command files reply
 ServesRequest A (Pairs nodes) files reply = (files ≡ []) × AsksPairs nodes reply
 ServesRequest A Upgrade files reply = UpgradesTexts (texts_of files) reply

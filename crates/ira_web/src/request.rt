@@ -3,6 +3,7 @@ ghost use Rattle.ira_web.specs.Request.{AreColumns, HasValues, json_values, line
 ghost use Rattle.ira_web.specs.Spelling.{leaders_values, moment_values, run_values};
 
 use ira_commands::{AskedRun, LinesForm, LogsCommand, RingForm, RingLeaders, RingMoment};
+use ira_view::Form;
 use ira_view_picture::ColumnRange;
 
 // The numbers of requests. The page, the library for other languages and its check name them in this order too.
@@ -104,7 +105,7 @@ pub(crate) enum Request<'v> {
     /// The answer of one log alone.
     OneLog,
     /// The answer of one log alone, and why it is so.
-    ExplainLog { is_json: bool },
+    ExplainLog { form: Form },
     /// A command on the logs of a ring.
     OfLogs(LogsCommand<'v>),
     /// The question whether two nodes of a ring of so many ever lead at once.
@@ -132,74 +133,71 @@ impl<'v> Request<'v> {
             [MEND, 1] => Some(Request::Mend(true)),
             [RUN, run @ ..] => Some(Request::Run(run_of(run)?)),
             [PAGE, from, to, moment @ ..] => Request::html(*from, *to, moment),
-            [JSON, told @ ..] => Request::told(true, told),
-            told => Request::told(false, told),
+            [JSON, told @ ..] => Request::told(Form::Json, told),
+            told => Request::told(Form::Words, told),
         }
     }
 
     /// The request of these values, if they are those of one that is answered for a person or as JSON.
-    fn told(is_json: bool, values: &'v [u64]) -> Option<Request<'v>>
-        ensures { IfSome result (λ request. HasValues request (json_values is_json ++ values.now)) }
+    fn told(form: Form, values: &'v [u64]) -> Option<Request<'v>>
+        ensures { IfSome result (λ request. HasValues request (json_values form ++ values.now)) }
     {
         let command = match values {
-            [LOGS] => LogsCommand::Answer { is_json },
-            [EXPLAIN_LOG] => return Some(Request::ExplainLog { is_json }),
-            [EXPLAIN] => LogsCommand::Explain { is_json },
-            [EXPLAIN_QUESTION] => LogsCommand::ExplainQuestion {
-                is_json,
-                case: None,
-            },
+            [LOGS] => LogsCommand::Answer { form },
+            [EXPLAIN_LOG] => return Some(Request::ExplainLog { form }),
+            [EXPLAIN] => LogsCommand::Explain { form },
+            [EXPLAIN_QUESTION] => LogsCommand::ExplainQuestion { form, case: None },
             [EXPLAIN_QUESTION, case] => LogsCommand::ExplainQuestion {
-                is_json,
+                form,
                 case: Some(*case),
             },
-            [EXPLAIN_CERT] => LogsCommand::ExplainCheck { is_json },
-            [LEADERS, count, led @ ..] => return Request::led(is_json, *count, led),
+            [EXPLAIN_CERT] => LogsCommand::ExplainCheck { form },
+            [LEADERS, count, led @ ..] => return Request::led(form, *count, led),
             [SHOW, moment @ ..] => {
-                return Request::lines(is_json, RingLeaders::NotAsked, false, moment);
+                return Request::lines(form, RingLeaders::NotAsked, false, moment);
             }
             [EVENTS, moment @ ..] => {
-                return Request::lines(is_json, RingLeaders::NotAsked, true, moment);
+                return Request::lines(form, RingLeaders::NotAsked, true, moment);
             }
             [DECIDE] => LogsCommand::Decide {
-                is_json,
+                form,
                 certify: true,
             },
-            [CHECK] => LogsCommand::Check { is_json },
+            [CHECK] => LogsCommand::Check { form },
             _ => return None,
         };
         Some(Request::OfLogs(command))
     }
 
     /// A ring as lines, where so many nodes are to lead, or any where they are none.
-    fn led(is_json: bool, count: u64, values: &'v [u64]) -> Option<Request<'v>>
-        ensures { IfSome result (λ request. HasValues request (json_values is_json ++ LEADERS ∷ count ∷ values.now)) }
+    fn led(form: Form, count: u64, values: &'v [u64]) -> Option<Request<'v>>
+        ensures { IfSome result (λ request. HasValues request (json_values form ++ LEADERS ∷ count ∷ values.now)) }
     {
         let (places, lines) = values.split_at_checked(usize::try_from(count).ok()?)?;
         let leaders = leaders_of(places);
         match lines {
-            [SHOW, moment @ ..] => Request::lines(is_json, leaders, false, moment),
-            [EVENTS, moment @ ..] => Request::lines(is_json, leaders, true, moment),
+            [SHOW, moment @ ..] => Request::lines(form, leaders, false, moment),
+            [EVENTS, moment @ ..] => Request::lines(form, leaders, true, moment),
             _ => None,
         }
     }
 
     /// A ring as lines, where these are to lead, at the moment of these values, if they are those of one.
     fn lines(
-        is_json: bool,
+        form: Form,
         leaders: RingLeaders<'v>,
         has_events: bool,
         moment: &'v [u64],
     ) -> Option<Request<'v>>
         ensures { IfSome result (λ request. HasValues request
-            ((json_values is_json ++ leaders_values leaders.entry ++ lines_values has_events) ++ moment.now)) }
+            ((json_values form ++ leaders_values leaders.entry ++ lines_values has_events) ++ moment.now)) }
     {
-        let form = LinesForm {
-            is_json,
+        let lines = LinesForm {
+            form,
             has_events,
             leaders,
         };
-        let command = LogsCommand::Show(RingForm::Lines(form), moment_of(moment)?);
+        let command = LogsCommand::Show(RingForm::Lines(lines), moment_of(moment)?);
         Some(Request::OfLogs(command))
     }
 

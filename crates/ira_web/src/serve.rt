@@ -23,11 +23,11 @@ pub(crate) fn serve<A: Allocator + Clone>(
             };
             Ok(Some(judge_log(alloc, log)?))
         }
-        Request::ExplainLog { is_json } => {
+        Request::ExplainLog { form } => {
             let [log] = files else {
                 return Ok(None);
             };
-            Ok(Some(explain_one(alloc, *is_json, log)?))
+            Ok(Some(explain_one(alloc, *form, log)?))
         }
         Request::OfLogs(command) => answer_command(alloc, *command, files),
         Request::Pairs(nodes) => {

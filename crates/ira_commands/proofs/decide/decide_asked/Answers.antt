@@ -24,5 +24,5 @@ returns-in-Err-No g c = λ texts judged.
     if_ok c.of_answer_as.result (λ reply told. record {
       findings = Refused c.in-Err-No.reason;
       found = why.0;
-      told = no_certificate tt (told.0, refusal_text g.row.A.Denot c.args.is_json c.in-Err-No.reason told.0 told.1, told.2);
+      told = no_certificate tt (told.0, refusal_text g.row.A.Denot c.args.form c.in-Err-No.reason told.0 told.1, told.2);
     }) c.of_answer_as.ensures

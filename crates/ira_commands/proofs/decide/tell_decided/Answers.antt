@@ -12,14 +12,14 @@ use Rattle.ira_commands.proofs.decide.tell_decided.Goals as goal
 pub returns-then-not-are_absent : goal.returns-then-not-are_absent
 returns-then-not-are_absent g c = λ findings is.
     let wrote = c.in-Ok.ensures c.args.certify findings is in
-    no_certificate (is.absent.0 (search rules)) (prints (IsFindingsText c.args.is_json findings) No c.printed.result
+    no_certificate (is.absent.0 (search rules)) (prints (IsFindingsText c.args.form findings) No c.printed.result
     c.new-lines.result c.write_decided_as.new.sink c.new-lines.ensures wrote.0 wrote.1 wrote.2 c.printed.ensures)
 
 pub returns-then-not-certify : goal.returns-then-not-certify
 returns-then-not-certify g c = λ findings is.
     let wrote = c.in-Ok.ensures c.args.certify findings is in
     absent (search rules) (λ none. let no = is.absent.1 none in cc)
-    (prints (IsFindingsText c.args.is_json findings) Yes c.printed-then-not-certify.result
+    (prints (IsFindingsText c.args.form findings) Yes c.printed-then-not-certify.result
     c.new-lines.result c.write_decided_as.new.sink c.new-lines.ensures wrote.0 wrote.1 wrote.2 c.printed-then-not-certify.ensures)
 
 pub returns-in-Some : goal.returns-in-Some

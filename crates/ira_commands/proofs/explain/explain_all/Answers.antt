@@ -21,7 +21,7 @@ returns g c =
     let ring = c.in_ok-ring.ring in
     let view = ring.view in
     let tells = subst (λ (known : Option Standing). IfOk c.tell_view.result
-    (ExplainsAs c.args.is_json view.explanation known view.answer))
+    (ExplainsAs c.args.form view.explanation known view.answer))
     (lent c.as_ref.result ring.election c.as_ref.ensures.value) c.tell_view.ensures in
     if_ok c.tell_view.result (λ reply told. record {
       answer = view.answer;

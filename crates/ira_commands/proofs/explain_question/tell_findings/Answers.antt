@@ -8,7 +8,7 @@ returns g c =
     let wrote = c.in-Ok.ensures in (
       c.of_findings.result,
       c.of_findings.ensures,
-      prints (IsFindingsViewText c.args.is_json view.findings view.explanation) c.of_findings.result
+      prints (IsFindingsViewText c.args.form view.findings view.explanation) c.of_findings.result
           c.printed.result c.new-text.result c.write_findings_view_as.new.sink c.new-text.ensures wrote.0 wrote.1
           wrote.2 c.printed.ensures,
     )

@@ -16,10 +16,10 @@ returns-in-Ok g c =
     c.in_ok-line.ensures in
     let is = subst (λ (logs : List Log). IsYesLine logs None (status_number c.args.status) at_end None line)
     c.logs.ensures.value numbered in
-    rw (c.if-is_json.true, took) is
+    rw (c.in-Json.is, took) is
 
 pub returns-in-Ok-write_view : goal.returns-in-Ok-write_view
 returns-in-Ok-write_view g c =
-    rw c.if-is_json.false
+    rw c.in-Words.is
     (c.in-Ok-write_view.ensures.took ∙ ap (λ (m : Memory). m.bytes ++ front c.bytes.result.now) c.new-text.ensures
     ∙ ap front c.bytes.ensures.text)

@@ -33,4 +33,4 @@ tell_fault-requires g c =
 pub returns-in-Err : goal.returns-in-Err
 returns-in-Err g c =
     if_ok c.tell_fault.result (λ reply told. no_moment c.in-Err.fault c.in-Err.ensures told)
-    (rw c.wants_json.ensures at c.tell_fault.ensures)
+    (rw c.of_answer.ensures at c.tell_fault.ensures)

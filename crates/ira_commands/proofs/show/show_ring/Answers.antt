@@ -34,4 +34,4 @@ pub returns-in-NoRing : goal.returns-in-NoRing
 returns-in-NoRing g c = λ names texts judged told.
     let reason = rw c.in-NoRing.is at judged in
     if_ok c.of_answer_as.result (λ reply told. no_ring c.in-NoRing.reason reason told)
-    (rw c.wants_json.ensures at c.of_answer_as.ensures)
+    (rw c.of_answer.ensures at c.of_answer_as.ensures)

@@ -3,21 +3,21 @@ use Rattle.ira_view.specs.Status.{IsLeadsStatus}
 use Rattle.ira_commands.proofs.Served.{if_ok}
 use Rattle.ira_commands.proofs.show.tell_lines.Goals as goal
 
-pub returns-then-form : goal.returns-then-form
-returns-then-form g c =
+pub returns-in-Json : goal.returns-in-Json
+returns-in-Json g c =
     let status = c.of_differences-status.result in
     let is = subst (λ w. IsLeadsStatus w status) c.bytes.ensures.text c.of_differences-status.ensures in
-    rw c.if-form.true (status, is, rw (c.printing.ensures, c.new-lines.ensures, c.in_ok-named.ensures) refl)
+    rw c.in-Json.is (status, is, rw (c.printing.ensures, c.new-lines.ensures, c.in_ok-named.ensures) refl)
 
-pub returns-then-form-2 : goal.returns-then-form-2
-returns-then-form-2 g c =
+pub returns-in-Words : goal.returns-in-Words
+returns-in-Words g c =
     let status = c.of_differences-status.result in
     let is = subst (λ w. IsLeadsStatus w status) c.bytes.ensures.text c.of_differences-status.ensures in
-    rw (c.if-form.false, c.if-form-2.true) (status, is, c.printing-then-form-2.ensures)
+    rw (c.in-Words.is, c.if-lines.true) (status, is, c.printing-in-Words.ensures)
 
-pub returns : goal.returns
-returns g c =
+pub returns-in-Words-2 : goal.returns-in-Words-2
+returns-in-Words-2 g c =
     let status = c.of_differences-status.result in
     let is = subst (λ w. IsLeadsStatus w status) c.bytes.ensures.text c.of_differences-status.ensures in
-    rw (c.if-form.false, c.if-form-2.false)
+    rw (c.in-Words-2.is, c.if-lines.false)
     (if_ok c.tell_page.result (λ reply told. (status, is, told)) c.tell_page.ensures)

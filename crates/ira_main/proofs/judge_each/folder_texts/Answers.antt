@@ -7,6 +7,6 @@ pub loop-i-preserved : goal.loop-i-preserved
 loop-i-preserved g c =
     let i = c.loop-i.i in
     let it = c.in_ok-add_text.ensures in
-    subst (AreFolderTexts c.args.is_json (take (i + 1) c.args.folders.now) (take (i + 1) c.args.answers.now)) (sym it.2)
-    (next_text c.args.is_json c.args.folders.now c.args.answers.now i _ _ c.loop-i.text.bytes it.0 (omega arith)
+    subst (AreFolderTexts c.args.form (take (i + 1) c.args.folders.now) (take (i + 1) c.args.answers.now)) (sym it.2)
+    (next_text c.args.form c.args.folders.now c.args.answers.now i _ _ c.loop-i.text.bytes it.0 (omega arith)
     (omega arith) c.loop-i.invariant it.1)

@@ -4,4 +4,4 @@ use Rattle.ira_main.proofs.judge_each.folder_texts.Given as goal
 
 abbrev pub invariant-loop-i : goal.invariant-loop-i
 invariant-loop-i g l =
-    AreFolderTexts l.is_json (take l.i l.folders) (take l.i l.answers) l.text.bytes
+    AreFolderTexts l.form (take l.i l.folders) (take l.i l.answers) l.text.bytes

@@ -1,4 +1,4 @@
-use Rattle.std.proofs.Common.{◌∙◌, ◌++◌, ap, length, map, refl, string_bytes, subst, sym, true}
+use Rattle.std.proofs.Common.{◌∙◌, ◌++◌, ap, length, map, refl, string_bytes, subst, sym}
 use Rattle.std.specs.List.{zip}
 use Rattle.std.proofs.lemmas.List.{length-map}
 use Rattle.ira_event.specs.Log.{Log}
@@ -19,6 +19,7 @@ use Rattle.ira_view.specs.Explained.{IsExplanation}
 use Rattle.ira_view.specs.Html.{AreLogLines, IsRefusalTold}
 use Rattle.ira_view.specs.Texts.{texts_of}
 use Rattle.ira_view.specs.ViewText.{IsViewText}
+use Rattle.ira_view.specs.declared.form.Form.TheVariants.{Json}
 use Rattle.ira_view.proofs.html.refused_lines.Goals as goal
 
 -- nothing is known of the election of refused logs
@@ -57,7 +58,7 @@ returns g c =
       page,
       added.0,
       untold files refused explanation _ (rw c.in-Refused.is at c.in_ok-ring.ensures.explained),
-      subst (λ (r : Reason). IsViewText true (No r) explanation None line) c.reason.ensures.value c.in_ok-told.ensures,
+      subst (λ (r : Reason). IsViewText Json (No r) explanation None line) c.reason.ensures.value c.in_ok-told.ensures,
       subst (λ text. IsLineOf (explanation_value text) page) c.as_str.ensures.text c.in_ok-page.ensures,
       lines,
       added.2 ∙ ap (λ text. text ++ added.0) (c.in_ok-push_str.ensures.bytes ∙ ap (λ more. line ++ more) c.as_str-2.ensures.value),

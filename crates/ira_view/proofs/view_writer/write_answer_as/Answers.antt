@@ -1,30 +1,31 @@
-use Rattle.std.proofs.Common.{◌∙◌, ap, refl, string_bytes, subst, sym, true}
+use Rattle.std.proofs.Common.{◌∙◌, ap, refl, string_bytes, subst, sym}
 use Rattle.std.proofs.lemmas.Result.{err_from_is_err_and}
 use Rattle.ira_audit.specs.Report.{report_line}
 use Rattle.ira_view_json.specs.AnswerValue.{answer_value}
 use Rattle.ira_view_json.specs.Line.{IsLineOf}
 use Rattle.ira_view.proofs.Written.{text_written}
 use Rattle.ira_view.specs.Status.{status_number}
+use Rattle.ira_view.specs.declared.form.Form.TheVariants.{Json, Words}
 use Rattle.ira_view.specs.ViewText.{IsAnswerText}
 use Rattle.ira_view.proofs.view_writer.write_answer_as.Goals as goal
 
-pub returns-then-is_json : goal.returns-then-is_json
-returns-then-is_json g c =
+pub returns-in-Json : goal.returns-in-Json
+returns-in-Json g c =
     let answer = c.args.answer.now in
     let line = string_bytes c.in_ok-line.line in
     let s = g.W.Sink.state c.args.sink.now in
     let t = g.W.Sink.state c.write_text.new.sink in
     let number = c.number.ensures ∙ ap status_number c.of_answer-status.ensures in
     let is = subst (λ n. IsLineOf (answer_value n answer) line) number c.in_ok-line.ensures in
-    rw c.if-is_json.true (text_written (IsAnswerText true answer) c.as_bytes.result.now c.write_text.result s t
-    (subst (IsAnswerText true answer) (sym c.as_bytes.ensures.value) is) c.write_text.ensures)
+    rw c.in-Json.is (text_written (IsAnswerText Json answer) c.as_bytes.result.now c.write_text.result s t
+    (subst (IsAnswerText Json answer) (sym c.as_bytes.ensures.value) is) c.write_text.ensures)
 
-pub returns : goal.returns
-returns g c =
-    rw c.if-is_json.false (report_line c.args.answer.now, refl, c.in_ok-write_report.ensures)
+pub returns-in-Words : goal.returns-in-Words
+returns-in-Words g c =
+    rw c.in-Words.is (report_line c.args.answer.now, refl, c.in_ok-write_report.ensures)
 
 pub returns-in_err-write_report : goal.returns-in_err-write_report
 returns-in_err-write_report g c =
     let p = err_from_is_err_and c.from_residual-in_err-write_report.result
     c.from_residual-in_err-write_report.ensures.1 in
-    rw (c.if-is_json.false, p.1, p.2) (report_line c.args.answer.now, refl, c.in_err-write_report.ensures)
+    rw (c.in-Words.is, p.1, p.2) (report_line c.args.answer.now, refl, c.in_err-write_report.ensures)

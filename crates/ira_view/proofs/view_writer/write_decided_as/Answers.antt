@@ -1,4 +1,4 @@
-use Rattle.std.proofs.Common.{◌≡◌, ◌∙◌, false, string_bytes, subst, sym, true}
+use Rattle.std.proofs.Common.{◌≡◌, ◌∙◌, string_bytes, subst, sym}
 use Rattle.ira_audit.proofs.Counting.{lines_are}
 use Rattle.ira_audit.specs.FindingsText.{findings_text}
 use Rattle.ira_view_json.proofs.CasesValues.{values_are}
@@ -7,11 +7,12 @@ use Rattle.ira_view_json.specs.Line.{AreLinesOf}
 use Rattle.ira_view.proofs.Statuses.{findings_status}
 use Rattle.ira_view.proofs.Written.{text_written}
 use Rattle.ira_view.specs.Status.{status_number}
+use Rattle.ira_view.specs.declared.form.Form.TheVariants.{Json, Words}
 use Rattle.ira_view.specs.ViewText.{IsFindingsText}
 use Rattle.ira_view.proofs.view_writer.write_decided_as.Goals as goal
 
-pub returns-then-is_json : goal.returns-then-is_json
-returns-then-is_json g c = λ certify findings are.
+pub returns-in-Json : goal.returns-in-Json
+returns-in-Json g c = λ certify findings are.
     let d = c.args.decided.now in
     let status = c.of_absent-status.result in
     let s = g.W.Sink.state c.args.sink.now in
@@ -24,15 +25,15 @@ returns-then-is_json g c = λ certify findings are.
     c.number.ensures lines in
     let lent = subst (AreLinesOf (findings_values (status_number status) findings)) (sym c.as_bytes.ensures.value)
     numbered in
-    rw c.if-is_json.true (text_written (IsFindingsText true findings) c.as_bytes.result.now c.write_text.result s t
+    rw c.in-Json.is (text_written (IsFindingsText Json findings) c.as_bytes.result.now c.write_text.result s t
     (status, is, lent) c.write_text.ensures)
 
-pub returns : goal.returns
-returns g c = λ certify findings are.
+pub returns-in-Words : goal.returns-in-Words
+returns-in-Words g c = λ certify findings are.
     let d = c.args.decided.now in
     let s = g.W.Sink.state c.args.sink.now in
     let t = g.W.Sink.state c.write_text-2.new.sink in
     let text : c.bytes.result.now ≡ findings_text findings =
     c.bytes.ensures ∙ c.in_ok-lines-2.ensures ∙ lines_are findings d.nodes d.cases.items are.cases in
-    rw c.if-is_json.false (text_written (IsFindingsText false findings) c.bytes.result.now c.write_text-2.result s t
+    rw c.in-Words.is (text_written (IsFindingsText Words findings) c.bytes.result.now c.write_text-2.result s t
     text c.write_text-2.ensures)
