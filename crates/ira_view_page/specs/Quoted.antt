@@ -13,6 +13,12 @@ abbrev pub quoted_text : List ℕ → List ℕ
 quoted_text line =
     if nat_le (length (shown line)) 80 then shown line else shown (take (fitting 78 line) line) ++ codes ".."
 
--- at which column of its quote a byte of a line stands, both counted from 0; one after the line stands at its end
+-- how wide what is shown of a line is, without the two points
+abbrev pub quoted_width : List ℕ → ℕ
+quoted_width line =
+    if nat_le (length (shown line)) 80 then length (shown line) else length (shown (take (fitting 78 line) line))
+
+-- at which column of its quote a byte of a line stands, both counted from 0; one after the line stands at its end, and one
+-- that isn't shown where the two points do
 abbrev pub quoted_column : List ℕ → ℕ → ℕ
-quoted_column line byte = min (length (shown (take byte line))) 80
+quoted_column line byte = min (length (shown (take byte line))) (quoted_width line)

@@ -1,8 +1,8 @@
-ghost use Rattle.std.specs.Prelude.{◌≡◌, ◌≤◌, ◌<◌, ◌++◌, codes, decimal, length};
+ghost use Rattle.std.specs.Prelude.{◌≡◌, ◌≤◌, ◌<◌, ◌++◌, codes, decimal, length, take};
 ghost use Rattle.ira_view_page.specs.Page.{Added};
 ghost use Rattle.ira_view_page.specs.Places.{place_text, record_text};
 ghost use Rattle.ira_view_page.specs.Printable.{shown};
-ghost use Rattle.ira_view_page.specs.Quoted.{fitting, quoted_column, quoted_text};
+ghost use Rattle.ira_view_page.specs.Quoted.{fitting, quoted_column, quoted_text, quoted_width};
 
 use crate::page::Page;
 use crate::places::line_of;
@@ -45,11 +45,25 @@ impl<A: Allocator> Page<A> {
     }
 }
 
+/// How wide what is shown of a line is, without the two points.
+fn quoted_width(line: &[u8]) -> usize
+    ensures value { result ≡ quoted_width line.now }
+    ensures narrow { result ≤ 80 }
+{
+    let width = shown_width(line);
+    if width <= QUOTED {
+        width
+    } else {
+        shown_width(&line[..fitting(line)])
+    }
+}
+
 /// How many bytes of a long line are shown, so that two points have room after them.
 fn fitting(line: &[u8]) -> usize
     requires { 80 < length (shown line.now) }
     ensures value { result ≡ fitting 78 line.now }
     ensures within { result ≤ length line.now }
+    ensures narrow { length (shown (take result line.now)) ≤ 78 }
 {
     let mut width = 0usize;
     for i in 0..line.len() {
@@ -61,9 +75,10 @@ fn fitting(line: &[u8]) -> usize
     unreachable!()
 }
 
-/// At which column of its quote a byte of a line stands, both counted from 0; one after the line stands at its end.
+/// At which column of its quote a byte of a line stands, both counted from 0; one after the line stands at its end, and one
+/// that isn't shown where the two points do.
 pub fn quoted_column(line: &[u8], byte: usize) -> usize
     ensures { result ≡ quoted_column line.now byte }
 {
-    shown_width(&line[..byte.min(line.len())]).min(QUOTED)
+    shown_width(&line[..byte.min(line.len())]).min(quoted_width(line))
 }
