@@ -3,6 +3,7 @@ pub mod Differences
 pub mod DrawFaultLine
 pub mod Explained
 pub mod FirstCut
+pub mod Form
 pub mod Html
 pub mod MendedLines
 pub mod PosedCheck

@@ -9,23 +9,23 @@ use Rattle.ira_view.specs.declared.form.Form.TheVariants.{Json, Words}
 use Rattle.ira_view.specs.ViewText.{IsAnswerText}
 use Rattle.ira_view.proofs.view_writer.write_answer_as.Goals as goal
 
-pub returns-in-Json : goal.returns-in-Json
-returns-in-Json g c =
+pub returns-in_ok-line-in-Json : goal.returns-in_ok-line-in-Json
+returns-in_ok-line-in-Json g c =
     let answer = c.args.answer.now in
-    let line = string_bytes c.in_ok-line.line in
+    let line = string_bytes c.in_ok-line-in-Json.line in
     let s = g.W.Sink.state c.args.sink.now in
     let t = g.W.Sink.state c.write_text.new.sink in
     let number = c.number.ensures ∙ ap status_number c.of_answer-status.ensures in
-    let is = subst (λ n. IsLineOf (answer_value n answer) line) number c.in_ok-line.ensures in
+    let is = subst (λ n. IsLineOf (answer_value n answer) line) number c.in_ok-line-in-Json.ensures in
     rw c.in-Json.is (text_written (IsAnswerText Json answer) c.as_bytes.result.now c.write_text.result s t
     (subst (IsAnswerText Json answer) (sym c.as_bytes.ensures.value) is) c.write_text.ensures)
 
-pub returns-in-Words : goal.returns-in-Words
-returns-in-Words g c =
-    rw c.in-Words.is (report_line c.args.answer.now, refl, c.in_ok-write_report.ensures)
+pub returns-in_ok-write_report-in-Words : goal.returns-in_ok-write_report-in-Words
+returns-in_ok-write_report-in-Words g c =
+    rw c.in-Words.is (report_line c.args.answer.now, refl, c.in_ok-write_report-in-Words.ensures)
 
-pub returns-in_err-write_report : goal.returns-in_err-write_report
-returns-in_err-write_report g c =
-    let p = err_from_is_err_and c.from_residual-in_err-write_report.result
-    c.from_residual-in_err-write_report.ensures.1 in
-    rw (c.in-Words.is, p.1, p.2) (report_line c.args.answer.now, refl, c.in_err-write_report.ensures)
+pub returns-in_err-write_report-in-Words : goal.returns-in_err-write_report-in-Words
+returns-in_err-write_report-in-Words g c =
+    let p = err_from_is_err_and c.from_residual-in_err-write_report-in-Words.result
+    c.from_residual-in_err-write_report-in-Words.ensures.1 in
+    rw (c.in-Words.is, p.1, p.2) (report_line c.args.answer.now, refl, c.in_err-write_report-in-Words.ensures)
