@@ -1,9 +1,12 @@
 ghost use Rattle.std.specs.Prelude.{◌≡◌, ◌<◌, ◌≤◌, ℕ, List, Some, IfOk, MatchOption, length, slice_get};
+ghost use Rattle.ira_event.specs.Log.{Log};
 ghost use Rattle.ira_pred.specs.Case.{Conjunct};
 ghost use Rattle.ira_pred.specs.Question.{IsQuestion};
 ghost use Rattle.ira_cert_text.specs.CertText.{IsCertText};
+ghost use Rattle.ira_cert_text.specs.Certificate as text;
 ghost use Rattle.ira_cert.specs.Conjuncts.{HasPlacesOf};
 ghost use Rattle.ira_elim.specs.Found.{IsFound};
+ghost use Rattle.ira_par.specs.Sections as sections;
 ghost use Rattle.ira_audit.specs.AskedQuestion.{AreFoundOf, IsFirstPresent};
 ghost use Rattle.ira_audit.specs.CheckAnswer.{AreSound};
 ghost use Rattle.ira_audit.specs.DecidedCases.{AreDecided};
@@ -18,12 +21,12 @@ use crate::findings::Findings;
 use crate::reason::Reason;
 use crate::refusal::Refusal;
 use ira_cert::Profiles;
-use ira_cert_text::{Certificate, read_cert};
+use ira_cert_text::{Certificate, Section, read_cert};
 use ira_elim::{Cut, Found, decide_profiled};
 use ira_event::{Logs, OutOfMemory};
 use ira_links::Gate;
 use ira_order::{DirectDependencies, HappenedBefore};
-use ira_par::split_sections;
+use ira_par::{UnsoundSection, check_one_by_one, split_sections};
 use ira_pred::{Case, Question};
 use std::alloc::Allocator;
 use std::marker::Model;
@@ -196,13 +199,7 @@ impl<'a, A: Allocator + Clone> AskedQuestion<'a, A> {
             (IsSectionsRefusal self.now.logs self.now.question.cases certificate.now.sections) }
     {
         let cases = self.cases();
-        let sections = &certificate.sections;
-        if sections.len() != cases.len() {
-            return Err(Refusal::No(Reason::Sections {
-                wanted: cases.len(),
-                found: sections.len(),
-            }));
-        }
+        let sections = self.sections_of(certificate)?;
         let profiles = Profiles::new(self.alloc.clone()?, self.logs(), cases)?;
         let unsound = split_sections(
             rt,
@@ -214,12 +211,55 @@ impl<'a, A: Allocator + Clone> AskedQuestion<'a, A> {
             depth,
             gate,
         )?;
-        match unsound {
-            None => Ok(()),
-            Some(unsound) => Err(Refusal::No(Reason::Section {
-                case: unsound.section,
-                fault: unsound.fault,
-            })),
+        refuse_unsound(unsound)
+    }
+
+    /// What `check` answers. The sections are judged one by one: no thread is started, and nothing is waited for.
+    pub fn check_alone(&self, certificate: &Certificate<A>) -> Result<(), Refusal>
+        ensures { MatchRefusal result
+            (λ _. AreSound self.now.logs self.now.question.cases certificate.now.sections)
+            (IsSectionsRefusal self.now.logs self.now.question.cases certificate.now.sections) }
+    {
+        let cases = self.cases();
+        let sections = self.sections_of(certificate)?;
+        let profiles = Profiles::new(self.alloc.clone()?, self.logs(), cases)?;
+        let unsound = check_one_by_one(
+            self.alloc.clone()?,
+            &profiles,
+            &self.dependencies,
+            cases,
+            sections,
+            || (),
+        )?;
+        refuse_unsound(unsound)
+    }
+
+    /// The sections of the certificate, if there are as many as cases.
+    fn sections_of<'c>(&self, certificate: &'c Certificate<A>) -> Result<&'c [Section<A>], Refusal>
+        ensures { MatchRefusal result
+            (λ sections. (sections.now ≡ certificate.now.sections)
+            × (length certificate.now.sections ≡ length self.now.question.cases))
+            (IsSectionsRefusal self.now.logs self.now.question.cases certificate.now.sections) }
+    {
+        let (wanted, found) = (self.cases().len(), certificate.sections.len());
+        if found != wanted {
+            return Err(Refusal::No(Reason::Sections { wanted, found }));
         }
+        Ok(&certificate.sections)
+    }
+}
+
+/// The refusal for a section that isn't sound.
+fn refuse_unsound(unsound: Option<UnsoundSection>) -> Result<(), Refusal>
+    ensures { (logs : List Log) (cases : List (List Conjunct)) (each : List text.Section)
+        → length each ≡ length cases → sections.IsFound logs cases each unsound
+        → MatchRefusal result (λ _. AreSound logs cases each) (IsSectionsRefusal logs cases each) }
+{
+    match unsound {
+        None => Ok(()),
+        Some(unsound) => Err(Refusal::No(Reason::Section {
+            case: unsound.section,
+            fault: unsound.fault,
+        })),
     }
 }

@@ -10,5 +10,5 @@ mod tables;
 mod task;
 mod unsound_section;
 
-pub use split::{check_split, split_sections};
+pub use split::{check_one_by_one, check_split, split_sections};
 pub use unsound_section::UnsoundSection;

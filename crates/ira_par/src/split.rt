@@ -106,7 +106,14 @@ where
     ensures { IfOk result (IsFound profiles.now cases.now sections.now) }
 {
     if depth == 0 {
-        return check_one_by_one(rt, alloc, profiles, ordered, cases, sections, gate);
+        return check_one_by_one(
+            alloc,
+            profiles,
+            ordered,
+            cases,
+            sections,
+            || gate.pass(rt, 0),
+        );
     }
     let mut first = 0;
     while first < cases.len() {
@@ -123,31 +130,31 @@ where
     Ok(None)
 }
 
-/// Finds the first section that isn't sound at depth 0.
-fn check_one_by_one<R, G, C, A>(
-    rt: &R,
+/// Finds what `split_sections` does, on this thread alone. Before a section is judged, once its candidates are listed,
+/// `pass` is called.
+pub fn check_one_by_one<C, A, F>(
     alloc: A,
     profiles: &Profiles<'_, '_, A>,
     ordered: &C,
     cases: &[Case<A>],
     sections: &[Section<A>],
-    gate: &G,
+    pass: F,
 ) -> Result<Option<UnsoundSection>, OutOfMemory>
 where
-    R: Wait + Clock,
-    G: Gate,
     C: HappenedBefore,
     A: Allocator + Clone,
+    F: Fn(),
     requires order { (C.logs_of ordered.now) ≡ profiles.now }
     requires places { (k : ℕ) (case : List Conjunct) → slice_get cases.now k ≡ Some case
         → HasPlacesOf profiles.now case }
     requires number { length sections.now ≡ length cases.now }
+    requires pass { F.IsAlwaysCallable pass }
     ensures { IfOk result (IsFound profiles.now cases.now sections.now) }
 {
     let nodes = ordered.logs().size();
     for section in 0..cases.len() {
         let queues = profiled_queues(alloc.clone()?, nodes, profiles, &cases[section])?;
-        gate.pass(rt, 0);
+        pass();
         if let Verdict::No(fault) = check_queues(ordered, queues, &sections[section]) {
             return Ok(Some(UnsoundSection { section, fault }));
         }
