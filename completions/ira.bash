@@ -6,7 +6,7 @@ _ira_commands='logs explain show draw check decide pairs run upgrade mend versio
 # The options of a command.
 _ira_options() {
     case $1 in
-        logs) echo --each --over --json --dir --help ;;
+        logs) echo --each --over --leads --json --dir --help ;;
         explain) echo --question --case --cert --json --dir --help ;;
         show) echo --leads --at --question --case --events --json --dir --help ;;
         draw) echo --out --at --question --case --from --to --dir --help ;;
@@ -33,9 +33,9 @@ _ira() {
     compopt -o filenames 2> /dev/null
     case $command:$before in
         help:*) mapfile -t COMPREPLY < <(compgen -W "${_ira_commands% help}" -- "$word") ;;
+        *:--leads) mapfile -t COMPREPLY < <(compgen -W 'any' -- "$word") ;;
         *:--dir | run:--out | upgrade:--out | mend:--out) mapfile -t COMPREPLY < <(compgen -d -- "$word") ;;
         *:--case | *:--at | *:--from | *:--to | *:--nodes | *:--seed | *:--initiators | *:--draws | *:--cap | *:--terms) COMPREPLY=() ;;
-        *:--leads) mapfile -t COMPREPLY < <(compgen -W 'any' -- "$word") ;;
         *:--depth) mapfile -t COMPREPLY < <(compgen -W '0 1 2 3 4' -- "$word") ;;
         *:--start) mapfile -t COMPREPLY < <(compgen -W 'initiator passive' -- "$word") ;;
         pairs:* | run:* | version:*) COMPREPLY=() ;;

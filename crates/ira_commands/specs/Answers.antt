@@ -9,12 +9,12 @@ use Rattle.ira_commands.specs.Explain.{ExplainsCheck, ExplainsLogs}
 use Rattle.ira_commands.specs.ExplainQuestion.{ExplainsFindings}
 use Rattle.ira_commands.specs.Given.{Given, IsFile}
 use Rattle.ira_commands.specs.Judging.{JudgesLogs}
-use Rattle.ira_commands.specs.Over.{JudgesOver}
 use Rattle.ira_commands.specs.Reply.{Reply, ReportsAs}
 use Rattle.ira_commands.specs.Show.{ShowsLogs}
+use Rattle.ira_commands.specs.Expected.{JudgesExpected}
 use Rattle.ira_commands.specs.declared.logs_command.LogsCommand.{LogsCommand}
 use Rattle.ira_commands.specs.declared.logs_command.LogsCommand.TheVariants.{Answer, Check, Decide, Explain, ExplainCheck}
-use Rattle.ira_commands.specs.declared.logs_command.LogsCommand.TheVariants.{ExplainQuestion, Over, Show}
+use Rattle.ira_commands.specs.declared.logs_command.LogsCommand.TheVariants.{Expect, ExplainQuestion, Show}
 
 -- these are the files of the question and of the logs
 abbrev pub AreAsked : Given → AskedFiles → Type 0
@@ -23,7 +23,7 @@ AreAsked given asked = AreFiles given.names given.texts asked.logs.now × IsFile
 -- the command was done on what is given, and this reply comes of it; the type is that of what gives memory
 abbrev pub Answers : Type 0 → LogsCommand → Given → Reply → Type 0
 Answers A (Answer form) given reply = JudgesLogs (ReportsAs form) given.texts reply
-Answers A (Over form) given reply = JudgesOver form given.texts reply
+Answers A (Expect form expected) given reply = JudgesExpected form expected given.texts reply
 Answers A (Explain form) given reply = (files : List NamedText) × AreFiles given.names given.texts files
     × JudgesLogs (ExplainsLogs A form files) (texts_of files) reply
 Answers A (Decide form certify) given reply =

@@ -3,6 +3,7 @@ pub mod AskedRun
 pub mod Check
 pub mod CommandFault
 pub mod Decide
+pub mod Expected
 pub mod Explain
 pub mod ExplainQuestion
 pub mod Given
@@ -11,7 +12,6 @@ pub mod Judging
 pub mod LogsCommand
 pub mod Mend
 pub mod Output
-pub mod Over
 pub mod Pairs
 pub mod Reply
 pub mod RingForm

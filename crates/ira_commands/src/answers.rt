@@ -7,13 +7,13 @@ ghost use Rattle.ira_commands.specs.LogsCommand.{needs_texts};
 
 use crate::check::check_alone;
 use crate::decide::decide_asked;
+use crate::expected::answer_expected;
 use crate::explain::explain_all;
 use crate::explain_check::explain_check_alone;
 use crate::explain_question::explain_asked;
 use crate::given_files::GivenFiles;
 use crate::logs::answer_logs;
 use crate::logs_command::LogsCommand;
-use crate::over::answer_over;
 use crate::reply::Reply;
 use crate::show::{show_ring, told_in_page};
 use ira_audit::Judged;
@@ -42,7 +42,7 @@ pub fn answer<A: Allocator + Clone>(
     } = given;
     match command {
         LogsCommand::Answer { form } => answer_logs(alloc, form, &judged),
-        LogsCommand::Over { form } => answer_over(alloc, form, &judged),
+        LogsCommand::Expect { form, expected } => answer_expected(alloc, form, expected, &judged),
         LogsCommand::Explain { form } => explain_all(alloc, form, logs, &judged),
         LogsCommand::Decide { form, certify } => {
             decide_asked(alloc, form, certify, question.text, &judged)

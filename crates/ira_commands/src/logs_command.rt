@@ -1,6 +1,7 @@
 ghost use Rattle.std.specs.Prelude.{◌≡◌};
 ghost use Rattle.ira_commands.specs.LogsCommand.{needs_texts};
 
+use crate::expected::Expected;
 use crate::ring_form::RingForm;
 use crate::ring_moment::RingMoment;
 use ira_view::Form;
@@ -10,8 +11,8 @@ use ira_view::Form;
 pub enum LogsCommand<'v> {
     /// Their answer.
     Answer { form: Form },
-    /// The same, and after a yes whether their election is over.
-    Over { form: Form },
+    /// The same, and after a yes whether their election is as expected.
+    Expect { form: Form, expected: Expected<'v> },
     /// Their answer, and why it is so.
     Explain { form: Form },
     /// What is found for a question about them, and its certificate where that is wanted.
@@ -37,7 +38,7 @@ impl LogsCommand<'_> {
             | LogsCommand::ExplainCheck { .. }
             | LogsCommand::Show(RingForm::Html(_), _) => true,
             LogsCommand::Answer { .. }
-            | LogsCommand::Over { .. }
+            | LogsCommand::Expect { .. }
             | LogsCommand::Decide { .. }
             | LogsCommand::Check { .. }
             | LogsCommand::Show(RingForm::Lines(_) | RingForm::Picture(_), _) => false,

@@ -7,6 +7,7 @@ pub mod Explain
 pub mod FilesRead
 pub mod Given
 pub mod InputAudit
+pub mod Judge
 pub mod LeftFiles
 pub mod LogFiles
 pub mod Mend

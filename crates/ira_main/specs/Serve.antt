@@ -1,6 +1,5 @@
 -- What the program does.
-use Rattle.std.specs.Prelude.{◌≡◌, ◌≢◌, ◌⊎◌, ℕ, ◌+◌, Bool, true, Err, List, [], None, Option, Some, codes}
-use Rattle.std.specs.Prelude.{if◌then◌else◌}
+use Rattle.std.specs.Prelude.{◌≡◌, ◌≢◌, ◌⊎◌, ℕ, ◌+◌, true, Err, List, [], None, Option, Some, codes}
 use Rattle.std.specs.Borrow.{Bor}
 use Rattle.std.specs.Option.{is_some}
 use Rattle.ira_event.specs.Limits.{MAX_TEXT}
@@ -14,8 +13,7 @@ use Rattle.ira_commands.specs.Reply.{Reply, Reports}
 use Rattle.ira_commands.specs.Run.{RunsRing}
 use Rattle.ira_commands.specs.Upgrade.{UpgradesTexts}
 use Rattle.ira_commands.specs.declared.logs_command.LogsCommand.{LogsCommand}
-use Rattle.ira_commands.specs.declared.logs_command.LogsCommand.TheVariants.{Answer, Check, Decide, Explain, ExplainCheck}
-use Rattle.ira_commands.specs.declared.logs_command.LogsCommand.TheVariants.{ExplainQuestion, Over}
+use Rattle.ira_commands.specs.declared.logs_command.LogsCommand.TheVariants.{Check, Decide, Explain, ExplainCheck, ExplainQuestion}
 use Rattle.ira_main_cli.specs.Request.{IsCheckLine, IsDecideLine, IsDrawLine, IsEachLine, IsExplainLine, IsLogsLine, IsMendLine}
 use Rattle.ira_main_cli.specs.Request.{IsPairsLine, IsRunLine, IsShowLine, IsUpgradeLine, IsVersionLine, MayBeRefused}
 use Rattle.ira_main_cli.specs.declared.check_request.CheckRequest.{CheckRequest}
@@ -47,6 +45,7 @@ use Rattle.ira_main.specs.Mend.{IsUnmended, MendsLogs}
 use Rattle.ira_main.specs.Moment.{question_of}
 use Rattle.ira_main.specs.Outcome.{Outcome, PrintsLine}
 use Rattle.ira_main.specs.ProgramFault.{words_fault}
+use Rattle.ira_main.specs.Judge.{AsksToJudge}
 use Rattle.ira_main.specs.Show.{AsksToShow}
 use Rattle.ira_main.specs.Version.{version_line}
 use Rattle.ira_main.specs.declared.program_fault.ProgramFault.{ProgramFault}
@@ -56,10 +55,6 @@ use Rattle.ira_view.specs.declared.status.Status.TheVariants.{Yes}
 -- the input had this text left, and such a reply comes of it
 abbrev pub OfInput : (List ℕ → Reply → Type 0) → Reads → Reads → Reply → Type 0
 OfInput IsReply old new reply = (text : List ℕ) × IsReadTo (MAX_TEXT + 1) old new text × IsReply text reply
-
--- what is asked of logs that are to be judged: their answer, and, where that is wanted, whether their election is over
-abbrev pub asked_of_logs : Form → Bool → LogsCommand
-asked_of_logs form asks_over = if asks_over then Over form else Answer form
 
 -- why none comes of it: a read failed, or memory ran out
 abbrev pub IsInputFault : Reads → ProgramFault → Type 0
@@ -99,9 +94,8 @@ pub data CommandOutcome (A : Type 0) {S : Type 0} (reads : Reading S) (writes : 
   refused : (fault : WordsFault) → MayBeRefused words fault → shelf' ≡ shelf → out' ≡ out
       → outcome ≡ Err (words_fault fault)
       → CommandOutcome A reads writes words shelf shelf' out out' outcome
-  judged : (logs : LogsRequest) → IsLogsLine words logs → shelf' ≡ shelf
-      → TellsOfLogs A reads None None logs.logs shelf out out' outcome
-      (asked_of_logs (json_form logs.is_json) logs.asks_over)
+  judged : (logs : LogsRequest) → IsLogsLine words logs → shelf' ≡ shelf → (command : LogsCommand)
+      → AsksToJudge logs command → TellsOfLogs A reads None None logs.logs shelf out out' outcome command
       → CommandOutcome A reads writes words shelf shelf' out out' outcome
   each : (asked : EachRequest) → IsEachLine words asked → shelf' ≡ shelf → JudgesEach reads asked shelf out out' outcome
       → CommandOutcome A reads writes words shelf shelf' out out' outcome

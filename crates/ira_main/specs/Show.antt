@@ -14,17 +14,21 @@ use Rattle.ira_main_cli.specs.declared.asked_leaders.AskedLeaders.TheVariants.{A
 use Rattle.ira_main_cli.specs.declared.show_request.ShowRequest.{ShowRequest}
 use Rattle.ira_main.specs.Moment.{IsMomentOf}
 
--- who is to lead by the words: nobody is asked for, or some node is, or the nodes at these places are
-abbrev pub AreLeadersOf : Option AskedLeaders → RingLeaders → Type 0
-AreLeadersOf None asked = asked ≡ leaders.NotAsked
-AreLeadersOf (Some Any) asked = asked ≡ leaders.Any
-AreLeadersOf (Some (Places places)) asked =
+-- who is to lead by the words: some node, or the nodes at these places
+abbrev pub AreLeadersOf : AskedLeaders → RingLeaders → Type 0
+AreLeadersOf Any asked = asked ≡ leaders.Any
+AreLeadersOf (Places places) asked =
     (lent : Bor (List ℕ)) × (lent.now ≡ places.items) × (asked ≡ leaders.Places lent)
+
+-- or nobody is asked for
+abbrev pub MayBeLeadersOf : Option AskedLeaders → RingLeaders → Type 0
+MayBeLeadersOf None asked = asked ≡ leaders.NotAsked
+MayBeLeadersOf (Some named) asked = AreLeadersOf named asked
 
 -- the lines that they ask for
 abbrev pub AreLinesOf : ShowRequest → LinesForm → Type 0
 AreLinesOf show lines =
-    (lines.form ≡ json_form show.is_json) × (lines.has_events ≡ show.has_events) × AreLeadersOf show.leads lines.leaders
+    (lines.form ≡ json_form show.is_json) × (lines.has_events ≡ show.has_events) × MayBeLeadersOf show.leads lines.leaders
 
 -- they ask to show a ring as these lines
 abbrev pub AsksToShow : ShowRequest → LogsCommand → Type 0

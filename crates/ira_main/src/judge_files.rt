@@ -7,16 +7,18 @@ ghost use Rattle.ira_commands.specs.Judging.{JudgesLog};
 ghost use Rattle.ira_commands.specs.Reply.{Reports, ReportsAs};
 ghost use Rattle.ira_commands.specs.declared.logs_command.LogsCommand.TheVariants.{Check};
 ghost use Rattle.ira_main.specs.Given.{IsUnread, OfFiles};
-ghost use Rattle.ira_main.specs.Serve.{IsInputFault, OfInput, asked_of_logs};
+ghost use Rattle.ira_main.specs.Judge.{AsksToJudge, IsExpectedBy};
+ghost use Rattle.ira_main.specs.Serve.{IsInputFault, OfInput};
 
 use crate::given::{Given, Inputs, read_given};
 use crate::input_audit::audit_input;
 use crate::program_fault::ProgramFault;
+use crate::show_command::leaders_of;
 use ira_audit::RingAudit;
-use ira_commands::{LogsCommand, Reply};
+use ira_commands::{Expected, LogsCommand, Reply};
 use ira_event::{MAX_TEXT, OutOfMemory};
 use ira_links::OpenGate;
-use ira_main_cli::CheckRequest;
+use ira_main_cli::{CheckRequest, Expectation, LogsRequest};
 use ira_main_files::{CountingReader, FileName, Shelf};
 use ira_view::Form;
 use std::alloc::Allocator;
@@ -39,14 +41,27 @@ pub(crate) fn judge_input<'a, A: Allocator + Clone, I: Read>(
     }
 }
 
-/// What is asked of logs that are to be judged.
-pub(crate) fn judge_command<'v>(form: Form, asks_over: bool) -> LogsCommand<'v>
-    ensures { result ≡ asked_of_logs form asks_over }
+/// What words expect of an election.
+fn expected_by(expectation: &Expectation) -> Expected<'_>
+    ensures { IsExpectedBy expectation.now result }
 {
-    if asks_over {
-        LogsCommand::Over { form }
-    } else {
-        LogsCommand::Answer { form }
+    match expectation {
+        Expectation::Over => Expected::Over,
+        Expectation::Leaders(leaders) => Expected::Leaders(leaders_of(leaders)),
+    }
+}
+
+/// What words ask of the logs that are to be judged.
+pub(crate) fn judge_command<'t>(logs: &'t LogsRequest<'_>) -> LogsCommand<'t>
+    ensures { AsksToJudge logs.now result }
+{
+    let form = Form::of_json(logs.is_json);
+    match &logs.expected {
+        None => LogsCommand::Answer { form },
+        Some(expectation) => LogsCommand::Expect {
+            form,
+            expected: expected_by(expectation),
+        },
     }
 }
 

@@ -26,9 +26,7 @@ use crate::upgrade_files::upgrade_files;
 use crate::version::print_version;
 use ira_commands::{LogsCommand, Reply, ask_pairs};
 use ira_event::{MAX_TEXT, Sink};
-use ira_main_cli::{
-    CaseSelection, ExplainRequest, ExplainedAnswer, LogsRequest, Request, read_words,
-};
+use ira_main_cli::{CaseSelection, ExplainRequest, ExplainedAnswer, Request, read_words};
 use ira_main_files::{CountingReader, Shelf};
 use ira_view::{Form, Status};
 use std::alloc::Allocator;
@@ -71,16 +69,10 @@ where
     };
     match request {
         Request::OneLog => Progress::Ended(deliver(judge_input(alloc, input), out)),
-        Request::Logs(
-            LogsRequest {
-                is_json,
-                asks_over,
-                logs,
-            },
-        ) => {
-            let command = judge_command(Form::of_json(is_json), asks_over);
-            let inputs = Inputs::asked(None, &logs, None);
-            Progress::Ended(deliver(answer_files(rt, alloc, command, inputs, shelf), out))
+        Request::Logs(logs) => {
+            let inputs = Inputs::asked(None, &logs.logs, None);
+            let reply = answer_files(rt, alloc, judge_command(&logs), inputs, shelf);
+            Progress::Ended(deliver(reply, out))
         }
         Request::Each(each) => Progress::Ended(judge_each(rt, alloc, &each, shelf, out)),
         Request::Explain(ExplainRequest { answer, is_json }) => {

@@ -1,6 +1,6 @@
 ghost use Rattle.std.specs.Prelude.{◌≡◌};
 ghost use Rattle.ira_main.specs.Moment.{IsMomentOf, question_of};
-ghost use Rattle.ira_main.specs.Show.{AreLinesOf, AsksToShow};
+ghost use Rattle.ira_main.specs.Show.{AreLeadersOf, AreLinesOf, AsksToShow};
 
 use ira_commands::{LinesForm, LogsCommand, RingForm, RingLeaders, RingMoment};
 use ira_main_cli::{AskedLeaders, AskedMoment, ShowRequest};
@@ -27,13 +27,22 @@ pub(crate) fn question_of<'a>(asked: &AskedMoment<'a>) -> Option<&'a str>
     }
 }
 
+/// Who is to lead by the words.
+pub(crate) fn leaders_of(asked: &AskedLeaders) -> RingLeaders<'_>
+    ensures { AreLeadersOf asked.now result }
+{
+    match asked {
+        AskedLeaders::Places(places) => RingLeaders::Places(places.as_slice()),
+        AskedLeaders::Any => RingLeaders::Any,
+    }
+}
+
 /// The lines that words ask for.
 fn lines_of<'t>(show: &'t ShowRequest<'_>) -> LinesForm<'t>
     ensures { AreLinesOf show.now result }
 {
     let leaders = match &show.leads {
-        Some(AskedLeaders::Places(places)) => RingLeaders::Places(places.as_slice()),
-        Some(AskedLeaders::Any) => RingLeaders::Any,
+        Some(leaders) => leaders_of(leaders),
         None => RingLeaders::NotAsked,
     };
     LinesForm {

@@ -14,6 +14,8 @@ use Rattle.ira_main_cli.specs.declared.check_request.CheckRequest.{CheckRequest}
 use Rattle.ira_main_cli.specs.declared.decide_request.DecideRequest.{DecideRequest}
 use Rattle.ira_main_cli.specs.declared.draw_request.DrawRequest.{DrawRequest}
 use Rattle.ira_main_cli.specs.declared.each_request.EachRequest.{EachRequest}
+use Rattle.ira_main_cli.specs.declared.expectation.Expectation.{Expectation}
+use Rattle.ira_main_cli.specs.declared.expectation.Expectation.TheVariants.{Leaders, Over}
 use Rattle.ira_main_cli.specs.declared.explain_request.ExplainRequest.{ExplainRequest}
 use Rattle.ira_main_cli.specs.declared.explained_answer.ExplainedAnswer.{ExplainedAnswer}
 use Rattle.ira_main_cli.specs.declared.explained_answer.ExplainedAnswer.TheVariants as explained
@@ -122,11 +124,33 @@ pub record HasAnswerToExplain (rows : List Row) (explain : ExplainRequest) : Typ
 
 -- ---- the other requests
 
--- the logs come from what is named, and JSON, and whether the election is over, is wanted exactly where `--json` and
--- `--over` are given
+-- who is to lead: some node, where the option says `any`, or else the nodes of its numbers; nothing is asked where it is
+-- left out
+abbrev pub HasLeaders : List Row → Option AskedLeaders → Type 0
+HasLeaders rows None = IsLeftOut (codes "leads") rows
+HasLeaders rows (Some Any) = first_of (codes "leads") rows ≡ Some (codes "any")
+HasLeaders rows (Some (Places places)) = HasNumbers rows (codes "leads") places.items
+
+-- the option says `any` or lists numbers, or it is left out
+abbrev pub NamesLeaders : List Row → Type 0
+NamesLeaders rows = (first_of (codes "leads") rows ≡ Some (codes "any")) ⊎ ListsNumbers (codes "leads") rows
+
+-- what is expected of an election: that it is over, where `--over` is given, or who is to lead; both aren't given
+abbrev pub HasExpectation : List Row → Option Expectation → Type 0
+HasExpectation rows None = (is_given (codes "over") rows ≡ false) × IsLeftOut (codes "leads") rows
+HasExpectation rows (Some Over) = (is_given (codes "over") rows ≡ true) × IsLeftOut (codes "leads") rows
+HasExpectation rows (Some (Leaders leaders)) = (is_given (codes "over") rows ≡ false) × HasLeaders rows (Some leaders)
+
+-- leaders are `any` or a list of numbers, and aren't named with `--over`
+pub record NamesExpectation (rows : List Row) : Type 0 where
+  pub leaders : NamesLeaders rows
+  pub one : is_given (codes "over") rows ≡ true → IsLeftOut (codes "leads") rows
+
+-- the logs come from what is named, with what is expected of their election, and JSON is wanted exactly where `--json` is
+-- given
 pub record HasLogsToJudge (rows : List Row) (request : LogsRequest) : Type 0 where
   pub json : request.is_json ≡ is_given (codes "json") rows
-  pub over : request.asks_over ≡ is_given (codes "over") rows
+  pub expected : HasExpectation rows request.expected
   pub together : is_given (codes "each") rows ≡ false
   pub logs : HasLogs rows request.logs
 
@@ -153,19 +177,10 @@ pub record NamesFolders (rows : List Row) : Type 0 where
 -- where each folder is to be judged folders are named, and nothing more is asked of them, and else logs are
 pub record NamesLogsToJudge (rows : List Row) : Type 0 where
   pub logs : NamesLogs rows
+  pub expected : NamesExpectation rows
   pub over : is_given (codes "each") rows ≡ true → is_given (codes "over") rows ≡ false
+  pub leaders : is_given (codes "each") rows ≡ true → IsLeftOut (codes "leads") rows
   pub folders : is_given (codes "each") rows ≡ true → NamesFolders rows
-
--- who is to lead: some node, where the option says `any`, or else the nodes of its numbers; nothing is asked where it is
--- left out
-abbrev pub HasLeaders : List Row → Option AskedLeaders → Type 0
-HasLeaders rows None = IsLeftOut (codes "leads") rows
-HasLeaders rows (Some Any) = first_of (codes "leads") rows ≡ Some (codes "any")
-HasLeaders rows (Some (Places places)) = HasNumbers rows (codes "leads") places.items
-
--- the option says `any` or lists numbers, or it is left out
-abbrev pub NamesLeaders : List Row → Type 0
-NamesLeaders rows = (first_of (codes "leads") rows ≡ Some (codes "any")) ⊎ ListsNumbers (codes "leads") rows
 
 -- the request has the values of these options, and the logs that are named beside them; events and JSON are wanted
 -- exactly where `--events` and `--json` are given

@@ -70,7 +70,7 @@ command_app name rules = on_top (λ s. record s { rules = rules }) (new_app name
 
 abbrev pub logs_app : App
 logs_app =
-    command_app (codes "logs") (flag_rule (codes "each") ∷ flag_rule (codes "over") ∷ json_rule ∷ source_rules)
+    command_app (codes "logs") (flag_rule (codes "each") ∷ flag_rule (codes "over") ∷ text_rule (codes "leads") ∷ json_rule ∷ source_rules)
 
 abbrev pub explain_app : App
 explain_app =

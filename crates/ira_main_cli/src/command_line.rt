@@ -2,8 +2,8 @@ ghost use Rattle.std.specs.Prelude.{◌≡◌, ◌↔◌, [], IfErr, IfOk, IsTru
 ghost use Rattle.clap.specs.Words.{app_of, found_of, kind_of, rows_of};
 ghost use Rattle.clap.specs.declared.error.kind.ErrorKind.TheVariants as kind;
 ghost use Rattle.ira_main_cli.specs.Asked.{AsksLogs, HasAnswer, HasAnswerToExplain, HasFiles, HasFilesToDecide, HasFilesToRewrite};
-ghost use Rattle.ira_main_cli.specs.Asked.{HasFolders, HasLeaders, HasLogs, HasLogsToDraw, HasLogsToMend, HasLogsToShow, HasMoment, HasOptions};
-ghost use Rattle.ira_main_cli.specs.Asked.{MayHaveLogs, MayNameLogs, NamesAnswer, NamesFolders};
+ghost use Rattle.ira_main_cli.specs.Asked.{HasExpectation, HasFolders, HasLeaders, HasLogs, HasLogsToDraw, HasLogsToMend, HasLogsToShow, HasMoment, HasOptions};
+ghost use Rattle.ira_main_cli.specs.Asked.{MayHaveLogs, MayNameLogs, NamesAnswer, NamesExpectation, NamesFolders};
 ghost use Rattle.ira_main_cli.specs.Asked.{NamesLeaders, NamesLogs, NamesLogsToDraw, NamesLogsToJudge, NamesLogsToMend, NamesLogsToShow};
 ghost use Rattle.ira_main_cli.specs.Asked.{NamesMoment, NamesStart, SaysStart};
 ghost use Rattle.ira_main_cli.specs.CommandEntry.{with_entry};
@@ -26,6 +26,7 @@ use crate::command_entry::CommandEntry;
 use crate::decide_request::DecideRequest;
 use crate::draw_request::DrawRequest;
 use crate::each_request::EachRequest;
+use crate::expectation::Expectation;
 use crate::explain_request::ExplainRequest;
 use crate::explained_answer::ExplainedAnswer;
 use crate::log_source::LogSource;
@@ -43,7 +44,8 @@ use clap::error::ErrorKind;
 use clap::{ArgMatches, Command, Error};
 use std::alloc::{AllocError, Global};
 
-const USAGE: &str = "ira < LOG\n       ira logs [--over] [--json] <LOGS>\n       \
+const USAGE: &str =
+    "ira < LOG\n       ira logs [--over | --leads <P,..|any>] [--json] <LOGS>\n       \
     ira logs --each [--json] <DIR>...\n       \
     ira explain [--json] [<LOGS>]\n       \
     ira explain --question <Q> [--case <K> | --cert <C>] [--json] <LOGS>\n       \
@@ -147,6 +149,8 @@ const LOG: Argument = Argument("LOG", Files, Optional, LOG_HELP);
 
 const OUT: Argument = Argument("out", Value("DIR", FOLDER), Required, OUT_HELP);
 
+const LEADS: Argument = Argument("leads", Value("P,..|any", TEXT), Optional, LEADS_HELP);
+
 const AT: Argument = Argument("at", Value("N0,N1,..", TEXT), Optional, AT_HELP);
 
 const MET_QUESTION: Argument = Argument("question", Value("Q", TEXT), Optional, MET_QUESTION_HELP);
@@ -160,6 +164,7 @@ const COMMANDS: &[CommandEntry] = &[
         arguments: &[
             Argument("each", Flag, Optional, EACH_HELP),
             Argument("over", Flag, Optional, OVER_HELP),
+            LEADS,
             JSON,
             DIR,
             LOG,
@@ -181,7 +186,7 @@ const COMMANDS: &[CommandEntry] = &[
         name: "show",
         about: "Shows what happened, at the end of the logs or at another moment",
         arguments: &[
-            Argument("leads", Value("P,..|any", TEXT), Optional, LEADS_HELP),
+            LEADS,
             AT,
             MET_QUESTION,
             MET_CASE,
@@ -355,6 +360,25 @@ fn folders<'a>(alloc: Global, matches: &ArgMatches<'a>) -> Result<Vec<&'a str>, 
     }
 }
 
+/// What is expected of the election, if anything.
+fn expectation<'a>(
+    alloc: Global,
+    matches: &ArgMatches<'a>,
+) -> Result<Option<Expectation>, OptionsFault>
+    requires { AreTyped (rows_of (found_of matches.now)) }
+    ensures found { IfOk result (HasExpectation (rows_of (found_of matches.now))) }
+    ensures refused { IfErr result
+        (λ why. NamesExpectation (rows_of (found_of matches.now)) → why ≡ options.OutOfMemory) }
+{
+    let is_over = flag(matches, "over");
+    match asked_leaders(alloc, matches)? {
+        None if is_over => Ok(Some(Expectation::Over)),
+        None => Ok(None),
+        Some(_) if is_over => Err(OptionsFault::OverAndLeads),
+        Some(leaders) => Ok(Some(Expectation::Leaders(leaders))),
+    }
+}
+
 /// The logs to judge, together or those of each folder.
 fn logs<'a>(alloc: Global, matches: &ArgMatches<'a>) -> Result<Request<'a>, OptionsFault>
     requires { AreTyped (rows_of (found_of matches.now)) }
@@ -363,17 +387,17 @@ fn logs<'a>(alloc: Global, matches: &ArgMatches<'a>) -> Result<Request<'a>, Opti
         (λ why. NamesLogsToJudge (rows_of (found_of matches.now)) → why ≡ options.OutOfMemory) }
 {
     let is_json = flag(matches, "json");
-    let asks_over = flag(matches, "over");
+    let expected = expectation(alloc, matches)?;
     if flag(matches, "each") {
-        if asks_over {
-            return Err(OptionsFault::EachAndOver);
+        if expected.is_some() {
+            return Err(OptionsFault::EachAndExpected);
         }
         let folders = folders(alloc, matches)?;
         return Ok(Request::Each(EachRequest { is_json, folders }));
     }
     Ok(Request::Logs(LogsRequest {
         is_json,
-        asks_over,
+        expected,
         logs: log_source(alloc, matches)?,
     }))
 }

@@ -1,3 +1,4 @@
+use crate::expectation::Expectation;
 use crate::log_source::LogSource;
 
 /// Logs to judge together, as the words name them.
@@ -5,7 +6,7 @@ use crate::log_source::LogSource;
 pub struct LogsRequest<'a> {
     /// Whether the answer is wanted as JSON.
     pub is_json: bool,
-    /// Whether it is asked too if the election is over.
-    pub asks_over: bool,
+    /// What is expected of the election, if anything.
+    pub expected: Option<Expectation>,
     pub logs: LogSource<'a>,
 }

@@ -2,7 +2,7 @@
 use Rattle.std.specs.Prelude.{◌≡◌, ℕ, Bool, List, [], ◌++◌, ◌∷◌, Some, false, true}
 use Rattle.ira_commands.specs.declared.logs_command.LogsCommand.{LogsCommand}
 use Rattle.ira_commands.specs.declared.logs_command.LogsCommand.TheVariants.{Answer, Check, Decide, Explain, ExplainCheck}
-use Rattle.ira_commands.specs.declared.logs_command.LogsCommand.TheVariants.{ExplainQuestion, Over, Show}
+use Rattle.ira_commands.specs.declared.logs_command.LogsCommand.TheVariants.{Expect, ExplainQuestion, Show}
 use Rattle.ira_commands.specs.declared.ring_form.RingForm.{RingForm}
 use Rattle.ira_commands.specs.declared.ring_form.RingForm.TheVariants.{Html, Lines, Picture}
 use Rattle.ira_view.specs.declared.form.Form.{Form}
@@ -38,7 +38,7 @@ HasFormValues (Html columns) values =
 -- the number of a command on the logs of a ring, and its values; what is decided is certified
 abbrev pub HasCommandValues : LogsCommand → List ℕ → Type 0
 HasCommandValues (Answer form) values = values ≡ json_values form ++ 1 ∷ []
-HasCommandValues (Over form) values = ⊥
+HasCommandValues (Expect form expected) values = ⊥
 HasCommandValues (Explain form) values = values ≡ json_values form ++ 3 ∷ []
 HasCommandValues (ExplainQuestion form case) values = values ≡ json_values form ++ 4 ∷ case_values case
 HasCommandValues (ExplainCheck form) values = values ≡ json_values form ++ 5 ∷ []

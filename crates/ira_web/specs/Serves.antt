@@ -15,7 +15,7 @@ use Rattle.ira_commands.specs.Run.{RunsRing}
 use Rattle.ira_commands.specs.Upgrade.{UpgradesTexts}
 use Rattle.ira_commands.specs.declared.logs_command.LogsCommand.{LogsCommand}
 use Rattle.ira_commands.specs.declared.logs_command.LogsCommand.TheVariants.{Answer, Check, Decide, Explain, ExplainCheck}
-use Rattle.ira_commands.specs.declared.logs_command.LogsCommand.TheVariants.{ExplainQuestion, Over, Show}
+use Rattle.ira_commands.specs.declared.logs_command.LogsCommand.TheVariants.{Expect, ExplainQuestion, Show}
 use Rattle.ira_commands.specs.declared.ring_moment.RingMoment.TheVariants.{AtCut, AtEnd, OfQuestion}
 use Rattle.ira_lent.specs.declared.lent.Lent.{Lent}
 use Rattle.ira_web.specs.Files.{AreFiles}
@@ -32,7 +32,7 @@ OfOneFile Tells files reply = (log : NamedText) × (files ≡ log ∷ []) × Jud
 -- logs
 abbrev pub AreCommandFiles : LogsCommand → List NamedText → NamedText → NamedText → List NamedText → Type 0
 AreCommandFiles (Answer form) files question certificate logs = files ≡ logs
-AreCommandFiles (Over form) files question certificate logs = files ≡ logs
+AreCommandFiles (Expect form expected) files question certificate logs = files ≡ logs
 AreCommandFiles (Explain form) files question certificate logs = files ≡ logs
 AreCommandFiles (Decide form certify) files question certificate logs = files ≡ question ∷ logs
 AreCommandFiles (ExplainQuestion form case) files question certificate logs = files ≡ question ∷ logs

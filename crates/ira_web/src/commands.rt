@@ -90,7 +90,7 @@ fn split_files<'f>(
     };
     match command {
         LogsCommand::Answer { .. }
-        | LogsCommand::Over { .. }
+        | LogsCommand::Expect { .. }
         | LogsCommand::Explain { .. }
         | LogsCommand::Show(_, RingMoment::AtEnd | RingMoment::AtCut(_)) => {
             Some((none, none, files))

@@ -5,8 +5,8 @@ use Rattle.ira_commands.proofs.answers.answer.Goals as goal
 pub returns-in-Answer : goal.returns-in-Answer
 returns-in-Answer g c = λ names texts judged are. rw c.in-Answer.is (c.answer_logs.ensures texts judged)
 
-pub returns-in-Over : goal.returns-in-Over
-returns-in-Over g c = λ names texts judged are. rw c.in-Over.is (c.answer_over.ensures texts judged)
+pub returns-in-Expect : goal.returns-in-Expect
+returns-in-Expect g c = λ names texts judged are. rw c.in-Expect.is (c.answer_expected.ensures texts judged)
 
 pub explain_all-requires : goal.explain_all-requires
 explain_all-requires g c = c.requires.kept (rw c.in-Explain.is refl)

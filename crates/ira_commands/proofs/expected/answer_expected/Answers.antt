@@ -5,25 +5,25 @@ use Rattle.ira_audit.specs.Refusal.{IsLogsReason}
 use Rattle.ira_audit.specs.RingAnswer.IsRingAnswer.{yes}
 use Rattle.ira_audit.specs.declared.answer.Answer.TheVariants.{Yes}
 use Rattle.ira_commands.proofs.Served.{if_ok}
-use Rattle.ira_commands.specs.Over.JudgesOver.{good, refused}
-use Rattle.ira_commands.proofs.over.answer_over.Goals as goal
+use Rattle.ira_commands.specs.Expected.JudgesExpected.{good, no}
+use Rattle.ira_commands.proofs.expected.answer_expected.Goals as goal
 
 pub returns-in-Good : goal.returns-in-Good
 returns-in-Good g c = λ texts judged.
     let logs = c.in-Good.logs in
     let are = rw c.in-Good.is at judged in
     let runs = yes_runs texts Yes (yes logs are refl) refl in
-    if_ok c.tell_over.result (λ reply told. good logs are runs told) c.tell_over.ensures
+    if_ok c.tell_expected.result (λ reply told. good logs are runs told) c.tell_expected.ensures
 
 pub returns-in-Refused : goal.returns-in-Refused
 returns-in-Refused g c = λ texts judged.
     let is = rw c.in-Refused.is at judged in
     let reason = subst (IsLogsReason texts) (sym c.reason.ensures.value)
     (refused_reason texts c.in-Refused.refused is.0 is.1) in
-    if_ok c.of_answer_as.result (λ reply told. refused c.reason.result reason told) c.of_answer_as.ensures
+    if_ok c.of_answer_as.result (λ reply told. no c.reason.result reason told) c.of_answer_as.ensures
 
 pub returns-in-NoRing : goal.returns-in-NoRing
 returns-in-NoRing g c = λ texts judged.
     let reason = rw c.in-NoRing.is at judged in
     if_ok c.of_answer_as-in-NoRing.result
-    (λ reply told. refused c.in-NoRing.reason (reason.0, reason.2) told) c.of_answer_as-in-NoRing.ensures
+    (λ reply told. no c.in-NoRing.reason (reason.0, reason.2) told) c.of_answer_as-in-NoRing.ensures

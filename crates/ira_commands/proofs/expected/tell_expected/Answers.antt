@@ -1,9 +1,13 @@
 use Rattle.std.proofs.Common.{subst}
 use Rattle.ira_view.specs.Status.{IsLeadsStatus}
-use Rattle.ira_commands.proofs.over.tell_over.Goals as goal
+use Rattle.ira_commands.specs.Expected.TellsExpected.{no_place, told}
+use Rattle.ira_commands.proofs.expected.tell_expected.Goals as goal
+
+pub returns-in_default : goal.returns-in_default
+returns-in_default g c = no_place (rw c.in_default.is at c.in_ok-lines.ensures) c.refused.ensures
 
 pub returns : goal.returns
 returns g c =
     let status = c.of_differences-status.result in
     let is = subst (λ w. IsLeadsStatus w status) c.bytes.ensures.text c.of_differences-status.ensures in
-    (_, status, c.in_ok-lines.ensures, is, (_, c.in_ok-over_text.ensures, c.printed.ensures))
+    told _ status (rw c.in-Some.is at c.in_ok-lines.ensures) is (_, c.in_ok-text.ensures, c.printed.ensures)

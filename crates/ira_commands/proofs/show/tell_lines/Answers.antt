@@ -3,11 +3,11 @@ use Rattle.ira_view.specs.Status.{IsLeadsStatus}
 use Rattle.ira_commands.proofs.Served.{if_ok}
 use Rattle.ira_commands.proofs.show.tell_lines.Goals as goal
 
-pub returns-in-Json : goal.returns-in-Json
-returns-in-Json g c =
+pub returns-in_ok-named-in-Json : goal.returns-in_ok-named-in-Json
+returns-in_ok-named-in-Json g c =
     let status = c.of_differences-status.result in
     let is = subst (λ w. IsLeadsStatus w status) c.bytes.ensures.text c.of_differences-status.ensures in
-    rw c.in-Json.is (status, is, rw (c.printing.ensures, c.new-lines.ensures, c.in_ok-named.ensures) refl)
+    rw c.in-Json.is (status, is, rw (c.printing.ensures, c.new-lines.ensures, c.in_ok-named-in-Json.ensures) refl)
 
 pub returns-in-Words : goal.returns-in-Words
 returns-in-Words g c =

@@ -36,9 +36,8 @@ returns-in-OneLog-clause-served g c =
 pub returns-in-Logs-clause-served : goal.returns-in-Logs-clause-served
 returns-in-Logs-clause-served g c =
     let made = subst (IsMadeOf (map (λ w. w.now) c.args.words.now)) c.in-Logs.is c.in-Ok.ensures.made in
-    with_words (some_words _ _ _ made.line.first) refl (judged _ made refl
-    (told _ _ _ _ _ _ (rw (c.asked-inputs.ensures, c.judge_command-command.ensures) at c.answer_files.ensures)
-    c.deliver-in-Logs.ensures))
+    with_words (some_words _ _ _ made.line.first) refl (judged _ made refl _ c.judge_command.ensures (told _ _ _ _ _ _
+    (rw c.asked-inputs.ensures at c.answer_files-reply.ensures) c.deliver-in-Logs.ensures))
 
 pub returns-in-Each-clause-served : goal.returns-in-Each-clause-served
 returns-in-Each-clause-served g c =
