@@ -9,7 +9,7 @@ use ira_order::HappenedBefore;
 /// A count that was looked up: how many events of `node` are event `other_pos` of `other` or happened before it. Nearly
 /// each step of a long section asks what the step before it asked.
 #[derive(Clone, Copy)]
-pub struct LastCount {
+pub(crate) struct LastCount {
     node: u8,
     other: u8,
     other_pos: u32,

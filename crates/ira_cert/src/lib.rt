@@ -24,7 +24,6 @@ pub use conjuncts::map_conjuncts;
 pub use ira_cert_text::{
     CertFault, CertStep, Certificate, MAX_SECTIONS, MAX_STEPS, Section, read_cert, write_cert,
 };
-pub use last_count::LastCount;
 pub use laws::{a_section_has_one_verdict, sound_sections_leave_no_cut};
 pub use listed_candidates::ListedCandidates;
 pub use plain::{Candidates, case_queues, check_plain};
@@ -32,8 +31,7 @@ pub use positions::Positions;
 pub use profiled::profiled_queues;
 pub use profiles::Profiles;
 pub use queue_head::QueueHead;
-pub use queues::{candidates_left, check_queues, eliminate};
+pub use queues::{candidates_left, check_queues, eliminate, left_at, make_steps};
 pub use section_fault::SectionFault;
-pub use soundness::judge_step;
 pub use unsound::Unsound;
 pub use verdict::Verdict;

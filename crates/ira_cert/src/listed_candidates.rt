@@ -23,7 +23,7 @@ impl<'t, A: Allocator> Model for ListedCandidates<'t, A> {
 
 impl<'t, A: Allocator> ListedCandidates<'t, A> {
     /// All positions of the list.
-    pub(crate) fn new(positions: Positions<'t, A>) -> ListedCandidates<'t, A>
+    pub fn new(positions: Positions<'t, A>) -> ListedCandidates<'t, A>
         ensures { result ≡ positions.entry }
     {
         ListedCandidates {

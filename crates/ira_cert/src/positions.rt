@@ -36,7 +36,7 @@ impl<'t, A: Allocator> Positions<'t, A> {
     }
 
     /// Those of a list that others use too.
-    pub(crate) fn shared(positions: &'t [u32]) -> Positions<'t, A>
+    pub fn shared(positions: &'t [u32]) -> Positions<'t, A>
         ensures { result ≡ positions.now }
     {
         Positions {

@@ -1,4 +1,4 @@
-ghost use Rattle.std.specs.Prelude.{◌≡◌, ◌≢◌, ◌↔◌, ◌<◌, ◌≤◌, ℕ, List, [], IsTrue, MatchOption, MatchResult, OnOk, IfErr, Some, length, drop, slice_get, slice_index_or, slice_set, take};
+ghost use Rattle.std.specs.Prelude.{◌≡◌, ◌≢◌, ◌↔◌, ◌<◌, ◌≤◌, ℕ, List, [], IsTrue, MatchOption, MatchResult, OnOk, Some, length, drop, slice_get, slice_index_or, slice_set, take};
 ghost use Rattle.std.specs.Option.{option_map};
 ghost use Rattle.ira_event.specs.Log.{Log};
 ghost use Rattle.ira_pred.specs.Case.{Conjunct};
@@ -42,7 +42,8 @@ where
     ensures { (case : List Conjunct) → HasDifferentPlaces case → AreQueues (C.logs_of ordered.now) case queues.items
         → IsVerdict (C.logs_of ordered.now) case section.now result }
 {
-    if let Err(fault) = make_steps(ordered, &mut queues, &section.steps) {
+    let steps = section.steps.as_slice();
+    if let Err(fault) = make_steps(ordered, &mut queues, steps, 0, steps.len()) {
         return Verdict::No(fault);
     }
     if !is_spent(&queues, section.spent) {
@@ -51,25 +52,34 @@ where
     Verdict::Yes
 }
 
-/// Makes the eliminations one after the other, as long as they are sound.
-fn make_steps<C: HappenedBefore, I: Iterator<Item = u32> + Listed>(
+/// Makes the first `to` eliminations one after the other, as long as they are sound. The first `from` of these are made as
+/// if they were.
+pub fn make_steps<C: HappenedBefore, I: Iterator<Item = u32> + Listed>(
     ordered: &C,
     queues: &mut [Option<Ahead<I>>],
     steps: &[CertStep],
+    from: usize,
+    to: usize,
 ) -> Result<(), SectionFault>
-    requires { length queues.old ≤ length (C.logs_of ordered.now) }
-    ensures ok { (case : List Conjunct) → HasDifferentPlaces case → AreQueues (C.logs_of ordered.now) case queues.old
-        → OnOk result
-        (AreSoundSteps (C.logs_of ordered.now) case steps.now
-        × AreQueuesAfter (C.logs_of ordered.now) case steps.now queues.new) }
-    ensures err { (case : List Conjunct) → HasDifferentPlaces case
-        → AreQueues (C.logs_of ordered.now) case queues.old
-        → IfErr result
+    requires places { length queues.old ≤ length (C.logs_of ordered.now) }
+    requires range { (from ≤ to) × (to ≤ length steps.now) }
+    ensures { (case : List Conjunct) → HasDifferentPlaces case → AreQueues (C.logs_of ordered.now) case queues.old
+        → AreSoundSteps (C.logs_of ordered.now) case (take from steps.now)
+        → MatchResult result
+        (λ _. AreSoundSteps (C.logs_of ordered.now) case (take to steps.now)
+        × AreQueuesAfter (C.logs_of ordered.now) case (take to steps.now) queues.new)
         (λ f. (k : ℕ) × (why : Unsound) × (f ≡ SectionFault.Step k why)
         × IsFirstUnsoundStep (C.logs_of ordered.now) case steps.now k why) }
 {
+    for early in 0..from {
+        let place = steps[early].node;
+        if usize::from(place) < queues.len() {
+            eliminate(queues, place);
+        }
+    }
     let mut last = None;
-    for (k, step) in steps.iter().enumerate() {
+    for k in from..to {
+        let step = &steps[k];
         if let Err(why) = check_step(ordered, queues, step, &mut last) {
             return Err(SectionFault::Step(k, why));
         }
@@ -100,7 +110,10 @@ fn check_step<C: HappenedBefore, I: Iterator<Item = u32> + Listed>(
 }
 
 /// What is left of the node's candidates.
-fn left_at<I: Iterator<Item = u32> + Listed>(queues: &[Option<Ahead<I>>], place: u8) -> QueueHead
+pub fn left_at<I: Iterator<Item = u32> + Listed>(
+    queues: &[Option<Ahead<I>>],
+    place: u8,
+) -> QueueHead
     ensures place { result ≢ QueueHead.NotAsked → place < length queues.now }
     ensures left { (logs : List Log) (case : List Conjunct) (before : List CertStep)
         → AreQueuesAfter logs case before queues.now → IsQueueHead logs case before place result }

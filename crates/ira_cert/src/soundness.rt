@@ -18,7 +18,7 @@ use ira_order::HappenedBefore;
 
 /// Whether the step is sound after those that were made, and why not, where it is known what they left of
 /// the candidates of its two nodes. It costs one look-up of a count, where that isn't the last one.
-pub fn judge_step<C: HappenedBefore>(
+pub(crate) fn judge_step<C: HappenedBefore>(
     ordered: &C,
     step: &CertStep,
     own: QueueHead,

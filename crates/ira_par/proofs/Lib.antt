@@ -1,10 +1,8 @@
 pub mod Answered
 pub mod Begins
 pub mod Clear
-pub mod Counts
 pub mod First
 pub mod Found
 pub mod Halves
-pub mod Places
 pub mod CaseTables
 pub mod Verdicts

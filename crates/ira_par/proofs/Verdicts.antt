@@ -9,15 +9,15 @@ use Rattle.ira_cert_text.specs.Certificate.{Section}
 use Rattle.ira_cert.specs.declared.queue_head.QueueHead.{QueueHead}
 use Rattle.ira_cert.specs.declared.queue_head.QueueHead.TheVariants.{NotAsked, Spent, First}
 use Rattle.ira_cert.specs.declared.section_fault.SectionFault.{SectionFault}
-use Rattle.ira_cert.specs.declared.section_fault.SectionFault.TheVariants.{NotSpent}
+use Rattle.ira_cert.specs.declared.section_fault.SectionFault.TheVariants.{NotSpent, Step}
+use Rattle.ira_cert.specs.declared.unsound.Unsound.{Unsound}
 use Rattle.ira_cert.specs.Conjuncts.{HasDifferentPlaces}
 use Rattle.ira_cert.specs.Front.{IsSpent}
 use Rattle.ira_cert.specs.QueueHead.{IsQueueHead}
 use Rattle.ira_cert.specs.SoundSection.{AreSoundSteps}
-use Rattle.ira_cert.specs.SectionFault.{unsound, not_spent}
+use Rattle.ira_cert.specs.SectionFault.{IsFirstUnsoundStep, unsound, not_spent}
 use Rattle.ira_cert.proofs.OneVerdict.{front_unspent}
 use Rattle.ira_par.specs.Halves.{begin_of}
-use Rattle.ira_par.specs.Ranges.{IsRangeFault}
 use Rattle.ira_par.specs.Task.{IsFoundInRange}
 use Rattle.ira_par.proofs.Begins.{begin_last}
 
@@ -25,33 +25,21 @@ use Rattle.ira_par.proofs.Begins.{begin_last}
 abbrev pub before_range : Section → ℕ → ℕ → List CertStep
 before_range section depth r = take (begin_of (length section.steps) depth r) section.steps
 
--- a range of the section's steps
-pub range_of : (logs : List Log) (case : List Conjunct) (steps others : List CertStep) (depth r from to : ℕ)
-    → steps ≡ others → from ≡ begin_of (length steps) depth r → to ≡ begin_of (length steps) depth (r + 1)
-    → (found : Option SectionFault)
-    → IsRangeFault logs case steps from to found
-    → IsRangeFault logs case others (begin_of (length others) depth r) (begin_of (length others) depth (r + 1)) found
-range_of logs case steps others depth r from to same first last found h =
-    subst (λ (ss : List CertStep). IsRangeFault logs case ss (begin_of (length ss) depth r) (begin_of (length ss) depth (r + 1))
-    found) same
-    (subst (λ (k : ℕ). IsRangeFault logs case steps k (begin_of (length steps) depth (r + 1)) found) first
-    (subst (λ (k : ℕ). IsRangeFault logs case steps from k found) last h))
-
 module _ (logs : List Log) (case : List Conjunct) (section : Section) (depth r : ℕ) where
   -- a step that isn't sound
-  pub step_found : (fault : SectionFault)
-      → IsRangeFault logs case section.steps (begin_of (length section.steps) depth r)
-      (begin_of (length section.steps) depth (r + 1)) (Some fault) → IsFoundInRange logs case section depth r (Some fault)
-  step_found fault h before = unsound h.0 h.1 (h.3 before.0) h.2
+  pub step_found : (fault : SectionFault) → (AreSoundSteps logs case (before_range section depth r)
+      → (k : ℕ) × (why : Unsound) × (fault ≡ Step k why) × IsFirstUnsoundStep logs case section.steps k why)
+      → IsFoundInRange logs case section depth r (Some fault)
+  step_found fault first before = let h = first before.0 in unsound h.0 h.1 h.3 h.2
 
-  module _ (clear : IsRangeFault logs case section.steps (begin_of (length section.steps) depth r)
-      (begin_of (length section.steps) depth (r + 1)) None) where
+  module _ (clear : AreSoundSteps logs case (before_range section depth r)
+      → AreSoundSteps logs case (before_range section depth (r + 1))) where
     -- none, and another range follows
     pub none_found : r + 1 < 2 ^ depth → IsFoundInRange logs case section depth r None
     none_found more before = (clear before.0, λ last. absurd (omega (arith, more, last)))
 
     module _ (last : r + 1 ≡ 2 ^ depth) (left : QueueHead)
-        (is_left : AreSoundSteps logs case (before_range section depth (r + 1))
+        (is_left : AreSoundSteps logs case (before_range section depth r)
         → IsQueueHead logs case (before_range section depth (r + 1)) section.spent left) where
       all : before_range section depth (r + 1) ≡ section.steps
       all = let end = begin_last (length section.steps) depth in
@@ -65,7 +53,7 @@ module _ (logs : List Log) (case : List Conjunct) (section : Section) (depth r :
             sound,
             λ _. subst (λ (steps : List CertStep). IsSpent logs case steps section.spent) all
                 (subst (λ (l : QueueHead). IsQueueHead logs case (before_range section depth (r + 1)) section.spent l) is
-                (is_left sound)),
+                (is_left before.0)),
           )
 
       unspent : HasDifferentPlaces case → (other : QueueHead) → other ≢ Spent
@@ -82,5 +70,5 @@ module _ (logs : List Log) (case : List Conjunct) (section : Section) (depth r :
       unspent_found differ not before =
           let sound = clear before.0 in
           not_spent (subst (λ (steps : List CertStep). AreSoundSteps logs case steps) all sound)
-          (λ spent. unspent differ left not (is_left sound)
+          (λ spent. unspent differ left not (is_left before.0)
           (subst (λ (steps : List CertStep). IsSpent logs case steps section.spent) (sym all) spent)) refl

@@ -1,4 +1,3 @@
-pub mod Ranges
 pub mod Sections
 pub mod Share
 pub mod CandidateTable

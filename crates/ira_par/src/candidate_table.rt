@@ -1,6 +1,8 @@
-ghost use Rattle.std.specs.Prelude.{◌≡◌, slice_get};
+ghost use Rattle.std.specs.Prelude.{◌≡◌};
+ghost use Rattle.std.specs.List.Sorted.{IsStrictlyIncreasing};
 
-use ira_cert::Positions;
+use ira_cand::Ahead;
+use ira_cert::{ListedCandidates, Positions};
 use std::alloc::Allocator;
 use std::marker::Model;
 
@@ -12,16 +14,20 @@ pub(crate) struct CandidateTable<'t, A: Allocator> {
 }
 
 impl<'t, A: Allocator> Model for CandidateTable<'t, A> {
+    ghost use Rattle.std.specs.List.Sorted.{IsStrictlyIncreasing};
     ghost use Rattle.ira_par.specs.CandidateTable.{CandidateTable};
 
     ghost Value = { CandidateTable };
 
     ghost view = { λ t. record { place = t.place; positions = t.positions } };
+
+    ghost invariant = { λ t. IsStrictlyIncreasing t.positions };
 }
 
 impl<'t, A: Allocator> CandidateTable<'t, A> {
     /// The candidates of the node at the place, which are at these positions.
     pub(crate) fn new(place: u8, positions: Positions<'t, A>) -> CandidateTable<'t, A>
+        requires { IsStrictlyIncreasing positions }
         ensures { result ≡ record { place = place; positions = positions.entry } }
     {
         CandidateTable { place, positions }
@@ -39,10 +45,10 @@ impl<'t, A: Allocator> CandidateTable<'t, A> {
         self.positions.as_slice().len()
     }
 
-    /// The candidate of this number, from 0.
-    pub(crate) fn get(&self, number: usize) -> Option<u32>
-        ensures { result ≡ slice_get self.now.positions number }
+    /// The candidates, none of which is taken yet.
+    pub(crate) fn queue(&self) -> Ahead<ListedCandidates<'_, A>>
+        ensures { result ≡ self.now.positions }
     {
-        self.positions.as_slice().get(number).copied()
+        Ahead::new(ListedCandidates::new(Positions::shared(self.positions.as_slice())))
     }
 }

@@ -3,6 +3,8 @@ ghost use Rattle.ira_par.specs.Share.{HavePlaces, IsFoundBy};
 
 use crate::task::Task;
 use crate::unsound_section::UnsoundSection;
+use ira_cand::Ahead;
+use ira_cert::ListedCandidates;
 use ira_links::Gate;
 use ira_order::HappenedBefore;
 use std::alloc::{AllocError, Allocator};
@@ -10,30 +12,34 @@ use std::marker::Model;
 use std::sync::Wait;
 use std::time::Clock;
 
-/// What one thread needs to judge a range of each section of a batch: a counter for each place of the ring, and room
-/// for the first section in whose range it finds a fault.
+/// What one thread needs to judge a range of each section of a batch: room for the candidates left at each place of the
+/// ring, and for the first section in whose range it finds a fault.
 #[derive(Drop)]
-pub(crate) struct Share<A: Allocator> {
-    counts: Vec<usize, A>,
+pub(crate) struct Share<'q, A: Allocator> {
+    queues: Vec<Option<Ahead<ListedCandidates<'q, A>>>, A>,
     found: Option<UnsoundSection>,
 }
 
-impl<A: Allocator> Model for Share<A> {
+impl<'q, A: Allocator> Model for Share<'q, A> {
     ghost use Rattle.std.specs.Prelude.{length};
     ghost use Rattle.ira_par.specs.Share.{Share};
 
     ghost Value = { Share };
 
-    ghost view = { λ s. record { places = length s.counts.items; found = s.found } };
+    ghost view = { λ s. record { places = length s.queues.items; found = s.found } };
 }
 
-impl<A: Allocator> Share<A> {
+impl<'q, A: Allocator> Share<'q, A> {
     /// A share for a ring of so many places.
-    pub(crate) fn new(alloc: A, places: usize) -> Result<Share<A>, AllocError>
+    pub(crate) fn new(alloc: A, places: usize) -> Result<Share<'q, A>, AllocError>
         ensures { IfOk result (λ share. share.places ≡ places) }
     {
+        let mut queues = Vec::with_capacity(alloc, places)?;
+        for _ in 0..places {
+            queues.push(None)?;
+        }
         Ok(Share {
-            counts: vec![in alloc; 0; places]?,
+            queues,
             found: None,
         })
     }
@@ -46,7 +52,7 @@ impl<A: Allocator> Share<A> {
         number: usize,
         depth: u8,
         ordered: &C,
-        tasks: &[Task<'_, '_, A>],
+        tasks: &'q [Task<'_, '_, A>],
     )
         requires number { number < 2 ^ depth }
         requires depth { depth ≤ 4 }
@@ -60,7 +66,7 @@ impl<A: Allocator> Share<A> {
             if self.found.is_some() {
                 continue;
             }
-            if let Some(fault) = tasks[section].judge(ordered, number, depth, &mut self.counts) {
+            if let Some(fault) = tasks[section].judge(ordered, number, depth, &mut self.queues) {
                 self.found = Some(UnsoundSection { section, fault });
             }
         }

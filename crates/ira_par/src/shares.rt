@@ -42,11 +42,11 @@ where
 }
 
 /// A share for each of `2^depth` ranges.
-fn new_shares<A: Allocator + Clone>(
+fn new_shares<'q, A: Allocator + Clone>(
     alloc: &A,
     places: usize,
     depth: u8,
-) -> Result<Vec<Share<A>, A>, OutOfMemory>
+) -> Result<Vec<Share<'q, A>, A>, OutOfMemory>
     requires { depth ≤ 4 }
     ensures count { IfOk result (λ shares. length shares.items ≡ 2 ^ depth) }
     ensures room { IfOk result (λ shares. All (λ share. share.places ≡ places) shares.items) }
@@ -60,13 +60,13 @@ fn new_shares<A: Allocator + Clone>(
 }
 
 /// Finds the first section that isn't sound, with a thread for each share.
-fn judge_tasks<R, G, C, A>(
+fn judge_tasks<'q, R, G, C, A>(
     rt: &R,
     gate: &G,
     ordered: &C,
-    tasks: &[Task<'_, '_, A>],
+    tasks: &'q [Task<'_, '_, A>],
     depth: u8,
-    shares: &mut [Share<A>],
+    shares: &mut [Share<'q, A>],
 ) -> Option<UnsoundSection>
 where
     R: Threads + Wait + Clock + Sync,
@@ -81,19 +81,23 @@ where
     ensures { IsFoundIn (C.logs_of ordered.now) tasks.now result }
 {
     let ranges = shares.len();
-    let judge = |number: usize, share: &mut Share<A>|
-        requires { (number < 2 ^ depth) × (depth ≤ 4)
-            × (share.old.places ≡ length (C.logs_of ordered.now))
-            × HavePlaces (length (C.logs_of ordered.now)) tasks.now }
-        ensures { IsFoundBy (C.logs_of ordered.entry.now) depth number (length tasks.entry.now)
-            tasks.entry.now share.new.found }
-    { share.judge(rt, gate, number, depth, ordered, tasks) };
-    thread::for_each_mut(rt, shares, ranges, &judge);
+    thread::for_each_mut(
+        rt,
+        shares,
+        ranges,
+        &|number, share|
+            requires { (number < 2 ^ depth) × (depth ≤ 4)
+                × (share.old.places ≡ length (C.logs_of ordered.now))
+                × HavePlaces (length (C.logs_of ordered.now)) tasks.now }
+            ensures { IsFoundBy (C.logs_of ordered.entry.now) depth number (length tasks.entry.now)
+                tasks.entry.now share.new.found }
+        { share.judge(rt, gate, number, depth, ordered, tasks) },
+    );
     first_found(shares)
 }
 
 /// Of what was found by the shares, from the left, the first section, with the fault of the leftmost share.
-fn first_found<A: Allocator>(shares: &[Share<A>]) -> Option<UnsoundSection>
+fn first_found<A: Allocator>(shares: &[Share<'_, A>]) -> Option<UnsoundSection>
     ensures { IsFirstFound shares.now result }
 {
     let Some((share, others)) = shares.split_first() else {

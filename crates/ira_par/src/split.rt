@@ -31,11 +31,11 @@ const FULL: usize = 1 << 20;
 /// the threads are scheduled.
 ///
 /// The steps are halved `depth` times, into `2^depth` ranges. Each is judged by itself, after the gate, which it
-/// passes with its number from the left, by a thread that first counts the steps before it, node by node: so it
-/// knows how many candidates of each node are eliminated there. At depth 0 there is one range, which is judged as `check_plain`
-/// does. All memory is taken before the gate is passed and before the first thread starts: the list of the
-/// candidates of each node that is asked, and a counter of each node for each range. Where a thread can't be
-/// started, the one that asked for it does the work.
+/// passes with its number from the left, by a thread that first makes the steps before it unjudged: so it knows what
+/// they leave of each node's candidates. At depth 0 there is one range, which is judged as `check_plain` does. All
+/// memory is taken before the gate is passed and before the first thread starts: the list of the candidates of each
+/// node that is asked, and for each range how far each is eliminated. Where a thread can't be started, the one that
+/// asked for it does the work.
 pub fn check_split<R, G, A>(
     rt: &R,
     alloc: A,

@@ -1,11 +1,14 @@
 // The candidates of a case as lists, one for each node that it asks.
-ghost use Rattle.std.specs.Prelude.{◌≡◌, ◌<◌, ℕ, List, Ok, Some, IfOk, OnOk, MatchOption, length, slice_get};
+ghost use Rattle.std.specs.Prelude.{◌≡◌, ◌<◌, ℕ, List, Ok, Some, IfOk, OnOk, length, slice_get};
+ghost use Rattle.ira_event.specs.Log.{Log};
+ghost use Rattle.ira_pred.specs.Case.{Conjunct};
 ghost use Rattle.ira_cert.specs.Conjuncts.{HasDifferentPlaces, HasPlacesOf};
-ghost use Rattle.ira_par.specs.CandidateTable.{IsTableFor, IsListAt, AreTables, AreBelow};
+ghost use Rattle.ira_cert.specs.Queues.{AreQueues};
+ghost use Rattle.ira_par.specs.CandidateTable.{IsTableFor, AreTables, AreBelow};
 
 use crate::candidate_table::CandidateTable;
-use ira_cand::table;
-use ira_cert::{Positions, Profiles};
+use ira_cand::{Ahead, table};
+use ira_cert::{ListedCandidates, Positions, Profiles};
 use ira_event::{Logs, OutOfMemory};
 use ira_pred::Case;
 use std::alloc::Allocator;
@@ -81,19 +84,20 @@ where
     Ok(found)
 }
 
-/// The table of the place, if there is one.
-pub(crate) fn table_at<'t, 'p, A: Allocator>(
-    tables: &'t [CandidateTable<'p, A>],
-    place: u8,
-) -> Option<&'t CandidateTable<'p, A>>
-    ensures { MatchOption result ((positions : List ℕ) → ¬ (IsListAt tables.now place positions))
-        (λ table. IsListAt tables.now place table.now.positions) }
+/// Puts the candidates of each table at its place, and nothing at others.
+pub(crate) fn list_candidates<'t, A: Allocator>(
+    tables: &'t [CandidateTable<'_, A>],
+    queues: &mut [Option<Ahead<ListedCandidates<'t, A>>>],
+)
+    requires { AreBelow (length queues.old) tables.now }
+    ensures { (logs : List Log) (case : List Conjunct) → AreTables logs case tables.now
+        → AreQueues logs case queues.new }
 {
+    for place in 0..queues.len() {
+        queues[place] = None;
+    }
     for n in 0..tables.len() {
         let table = &tables[n];
-        if table.place() == place {
-            return Some(table);
-        }
+        queues[usize::from(table.place())] = Some(table.queue());
     }
-    None
 }
