@@ -7,7 +7,6 @@ ghost use Rattle.ira_view.specs.Texts.{texts_of};
 ghost use Rattle.ira_commands.specs.Check.{ChecksTexts};
 ghost use Rattle.ira_commands.specs.Explain.{ExplainsCheck};
 
-use crate::check::check_sections;
 use crate::explain::tell_view;
 use crate::reply::Reply;
 use ira_audit::Judged;
@@ -32,7 +31,7 @@ fn explain_judged<A: Allocator + Clone>(
 {
     match pose_check(alloc.clone()?, files, certificate, judged)? {
         PosedCheck::Posed { asked, read } => {
-            let checked = check_sections(alloc.clone()?, &asked, &read.sections);
+            let checked = asked.check_alone(&read);
             explain_checked(alloc, files, certificate, &asked, &read, checked)
         }
         PosedCheck::Refused(view) => Ok(view),

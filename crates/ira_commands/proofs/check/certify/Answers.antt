@@ -1,7 +1,4 @@
-use Rattle.std.proofs.Common.{rules, subst}
-use Rattle.ira_audit.specs.CheckAnswer.{AreSound}
-use Rattle.ira_audit.specs.Refusal.{IsSectionsRefusal, MatchRefusal}
-use Rattle.ira_cert_text.specs.Certificate.{Certificate}
+use Rattle.std.proofs.Common.{rules}
 use Rattle.ira_audit.proofs.RefusedTexts.{certificate_reason, findings_reason, handed_on, sections_judged}
 use Rattle.ira_commands.proofs.check.certify.Goals as goal
 
@@ -22,9 +19,5 @@ pub returns : goal.returns
 returns g c = λ texts is.
     let asked = c.in_ok-asked.asked in
     let k = c.in_ok-certificate.ensures in
-    let judged = subst (λ (it : Certificate). MatchRefusal c.check_sections.result
-    (λ _. AreSound asked.logs asked.question.cases it.sections)
-    (IsSectionsRefusal asked.logs asked.question.cases it.sections)) c.certificate.view_is
-    (rw c.deref.ensures.value at c.check_sections.ensures) in
     sections_judged texts c.args.question.now c.args.certificate.now asked.logs asked.question
-    (c.in_ok-asked.ensures texts is) c.in_ok-certificate.certificate k.0 k.1 c.check_sections.result judged
+    (c.in_ok-asked.ensures texts is) c.in_ok-certificate.certificate k.0 k.1 c.check_alone.result c.check_alone.ensures

@@ -4,8 +4,8 @@ use Rattle.ira_commands.proofs.explain_check.explain_judged.Goals as goal
 pub explain_checked-requires-clause-posed : goal.explain_checked-requires-clause-posed
 explain_checked-requires-clause-posed g c = rw c.in-Posed.is at c.in_ok-asked.ensures
 
-pub returns-in_ok-clone-in-Posed : goal.returns-in_ok-clone-in-Posed
-returns-in_ok-clone-in-Posed g c =
+pub returns-in-Posed : goal.returns-in-Posed
+returns-in-Posed g c =
     let files = c.args.files in
     let posed = rw c.in-Posed.is at c.in_ok-asked.ensures in
     record {
