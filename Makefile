@@ -11,8 +11,8 @@ needs_kit = command -v rt > /dev/null && command -v rattle > /dev/null || \
 
 help:
 	@echo 'With what is in the repository, in seconds, on Linux on x86-64:'
-	@echo 'make run        holds the released program, release/ira, against its sums, judges examples with it, and types the'
-	@echo '                commands of the pages; or does so with bin/ira, where make ira built it of these sources'
+	@echo 'make run        holds the released program, release/ira, against its sums, and judges examples with it; where it is of'
+	@echo '                these sources, or bin/ira is, types the commands of the pages too'
 	@echo 'make install    copies bin/ira, or the release where that was not built, to $$(PREFIX)/bin, and its manual and'
 	@echo '                completions below $$(PREFIX)/share; PREFIX is $(PREFIX) if not given'
 	@echo 'make dist       packs the same with examples and pages, for other machines'
