@@ -22,7 +22,7 @@ folder_texts-requires-clause-tellable g c =
 pub returns-in-Ok : goal.returns-in-Ok
 returns-in-Ok g c =
     let are = rw c.deref.ensures.value at c.in_ok-answers.ensures in
-    let texts = rw (c.deref-2.ensures.value, c.deref-3.ensures.value) at c.in_ok-text.ensures in
+    let texts = rw (c.deref-2.ensures.value, c.deref-3.ensures.value, c.of_json-form.ensures) at c.in_ok-text.ensures in
     let took = subst (λ t. Takes t (g.W.Sink.state c.args.out.now) (g.W.Sink.state c.write_bytes.new.sink))
     c.bytes.ensures c.in-Ok.ensures in
     let names = rw c.deref-4.ensures.value at c.in_ok-unread.ensures in
@@ -33,7 +33,7 @@ returns-in-Ok g c =
 pub returns-in-Ok-2 : goal.returns-in-Ok-2
 returns-in-Ok-2 g c =
     let are = rw c.deref.ensures.value at c.in_ok-answers.ensures in
-    let texts = rw (c.deref-2.ensures.value, c.deref-3.ensures.value) at c.in_ok-text.ensures in
+    let texts = rw (c.deref-2.ensures.value, c.deref-3.ensures.value, c.of_json-form.ensures) at c.in_ok-text.ensures in
     let took = subst (λ t. Takes t (g.W.Sink.state c.args.out.now) (g.W.Sink.state c.write_bytes.new.sink))
     c.bytes.ensures c.in-Ok.ensures in
     let names = rw c.deref-4.ensures.value at c.in_ok-unread.ensures in
@@ -43,7 +43,7 @@ returns-in-Ok-2 g c =
 pub returns : goal.returns
 returns g c =
     let are = rw c.deref.ensures.value at c.in_ok-answers.ensures in
-    let texts = rw (c.deref-2.ensures.value, c.deref-3.ensures.value) at c.in_ok-text.ensures in
+    let texts = rw (c.deref-2.ensures.value, c.deref-3.ensures.value, c.of_json-form.ensures) at c.in_ok-text.ensures in
     let stops = subst (λ t. StopsIn t (g.W.Sink.state c.args.out.now) (g.W.Sink.state c.write_bytes.new.sink))
     c.bytes.ensures c.in-Err.ensures in
     stopped c.in_ok-answers.answers.items c.in_ok-text.text.bytes are texts stops refl

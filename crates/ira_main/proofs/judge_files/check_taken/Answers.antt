@@ -16,4 +16,4 @@ returns g c = λ texts taken.
       judged = (unless_ok answer _ _ (c.in_ok-answer.ensures.answer texts answer judged)).0 refl;
       never = λ e. c.in_ok-answer.ensures.yes texts judged (ap Ok e);
       told = told;
-    }) c.of_answer_as.ensures
+    }) (rw c.of_json.ensures at c.of_answer_as.ensures)

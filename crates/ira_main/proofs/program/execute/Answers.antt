@@ -46,7 +46,7 @@ returns-in-ExplainCheck-clause-executed g c =
     let first = made.first in
     let same = left.4 in
     with_words (λ none. cc) same.input_is
-    (explained _ made same.shelf_is (rw (left.2, left.3)
+    (explained _ made same.shelf_is (rw (← left.2, left.3)
     (told _ _ _ _ _ _ (rw same.shelf_is at c.explain_check_files-reply.ensures)
     (rw same.out_is at c.deliver-in-ExplainCheck.ensures))))
 

@@ -47,28 +47,28 @@ returns-in-Each-clause-served g c =
 pub returns-in-OneLog-answer-clause-served : goal.returns-in-OneLog-answer-clause-served
 returns-in-OneLog-answer-clause-served g c =
     let made = subst (IsMadeOf (map (λ w. w.now) c.args.words.now)) c.in-Explain.is c.in-Ok.ensures.made in
-    explained _ made c.in-OneLog-answer.is refl (told _ _ _ _ _ _ c.explain_input.ensures.judged
-    c.deliver-in-OneLog-answer.ensures)
+    explained _ made c.in-OneLog-answer.is refl (told _ _ _ _ _ _
+    (rw c.of_json-form.ensures at c.explain_input.ensures.judged) c.deliver-in-OneLog-answer.ensures)
 
 pub returns-in-Logs-answer-clause-served : goal.returns-in-Logs-answer-clause-served
 returns-in-Logs-answer-clause-served g c =
     let made = subst (IsMadeOf (map (λ w. w.now) c.args.words.now)) c.in-Explain.is c.in-Ok.ensures.made in
     with_words (some_words _ _ _ made.first) refl (explained_of_logs _ made refl
     (rw c.in-Logs-answer.is (told _ _ _ _ _ _
-    (rw c.asked-inputs-in-Logs-answer.ensures at c.answer_files-in-Logs-answer.ensures) c.deliver-in-Logs-answer.ensures)))
+    (rw (c.asked-inputs-in-Logs-answer.ensures, c.of_json-form.ensures) at c.answer_files.ensures) c.deliver-in-Logs-answer.ensures)))
 
 pub returns-in-Findings-clause-served : goal.returns-in-Findings-clause-served
 returns-in-Findings-clause-served g c =
     let made = subst (IsMadeOf (map (λ w. w.now) c.args.words.now)) c.in-Explain.is c.in-Ok.ensures.made in
     with_words (some_words _ _ _ made.first) refl (explained_of_logs _ made refl
     (rw c.in-Findings.is (told _ _ _ _ _ _
-    (rw c.asked-inputs-in-Findings.ensures at c.answer_files-in-Findings.ensures) c.deliver-in-Findings.ensures)))
+    (rw (c.asked-inputs-in-Findings.ensures, c.of_json-form.ensures) at c.answer_files-in-Findings.ensures) c.deliver-in-Findings.ensures)))
 
 pub returns-in-Show-clause-served : goal.returns-in-Show-clause-served
 returns-in-Show-clause-served g c =
     let made = subst (IsMadeOf (map (λ w. w.now) c.args.words.now)) c.in-Show.is c.in-Ok.ensures.made in
     with_words (some_words _ _ _ made.first) refl (shown _ made refl _ c.show_command.ensures (told _ _ _ _ _ _
-    (rw (c.asked-inputs-in-Show.ensures, c.question_of.ensures) at c.answer_files-reply.ensures) c.deliver-in-Show.ensures))
+    (rw (c.asked-inputs-in-Show.ensures, c.question_of.ensures) at c.answer_files-reply-in-Show.ensures) c.deliver-in-Show.ensures))
 
 pub returns-in-Draw-clause-served : goal.returns-in-Draw-clause-served
 returns-in-Draw-clause-served g c =
@@ -85,7 +85,7 @@ pub returns-in-Decide-clause-served : goal.returns-in-Decide-clause-served
 returns-in-Decide-clause-served g c =
     let made = subst (IsMadeOf (map (λ w. w.now) c.args.words.now)) c.in-Decide.is c.in-Ok.ensures.made in
     with_words (some_words _ _ _ made.first) refl (decided _ made (told_and_kept _ _ _ _ _ _ _ _ _ _
-    (rw (c.asked-inputs-in-Decide.ensures, c.is_some.ensures) at c.answer_files-reply-in-Decide.ensures)
+    (rw (c.asked-inputs-in-Decide.ensures, c.is_some.ensures, c.of_json.ensures) at c.answer_files-reply-in-Decide.ensures)
     c.deliver_and_keep-in-Decide.ensures))
 
 pub returns-in-Pairs-clause-served : goal.returns-in-Pairs-clause-served
