@@ -1,5 +1,7 @@
 """What is said of the command line in other places is made of the one place where it stands, USAGE and COMMANDS in
-crates/ira_main_cli/src/command_line.rt: completions, the manual page's synopsis and options, and two tables of docs/COMMANDS.md.
+crates/ira_main_cli/src/command_line.rt: completions, the manual page's synopsis and options, two tables of docs/COMMANDS.md,
+and what `ira guide` prints. The manual page's section on questions is what `ira guide questions` prints, and the texts that it
+and `ira guide logs` have in common with docs/FORMATS.md are held against that page.
 
     python3 checks/command_words.py [--write]      says what differs, or writes all of it
 """
@@ -11,8 +13,9 @@ from collections import namedtuple
 HERE = os.path.dirname(os.path.abspath(__file__))
 ROOT = os.path.join(HERE, '..')
 SOURCE = 'crates/ira_main_cli/src/command_line.rt'
+GUIDE = 'crates/ira_main/src/guide.rt'
 # Values that are one of a few words: what the help names first, or `any`.
-WORDS = {'start': 'initiator passive', 'depth': '0 1 2 3 4', 'leads': 'any'}
+WORDS = {'start': 'initiator passive', 'depth': '0 1 2 3 4', 'leads': 'any', 'TOPIC': 'questions logs'}
 Option = namedtuple('Option', 'name value parser need help')
 
 
@@ -33,7 +36,7 @@ def strings(text):
 def option(text, words):
     """An argument as a command has it."""
     name, form, need, help_ = re.fullmatch(r'Argument\(\s*"(\w+)",\s*(\w+(?:\([^)]*\))?),\s*(\w+(?:\("[^"]*"\))?),\s*(\w+),?\s*\)', text, re.S).groups()
-    value = re.match(r'Value\("([^"]*)",\s*(\w+)\)', form)
+    value = re.match(r'(?:Value\("([^"]*)",\s*|Word\()(\w+)\)', form)
     return Option(name, value and value[1], value[2] if value else form, need, words[help_])
 
 
@@ -57,8 +60,17 @@ HELPED = Option('help', None, 'Flag', 'Optional', HELP)
 VERSION = dict((name, about) for name, about, _ in COMMANDS)['version']
 
 
+def is_named(it):
+    return it.parser == 'Flag' or it.value is not None
+
+
 def named(options):
-    return [it for it in options if it.parser not in ('Files', 'Number')]
+    return [it for it in options if is_named(it)]
+
+
+def worded():
+    """The commands that take one of a few words, with that argument."""
+    return [(name, it) for name, _, options in COMMANDS for it in options if not is_named(it) and it.name in WORDS]
 
 
 def takes_files(options):
@@ -102,7 +114,8 @@ def bash():
             flags = {'folders': '-d', 'nothing': None}.get(what, f"-W '{what}'")
             done = 'COMPREPLY=()' if flags is None else f'mapfile -t COMPREPLY < <(compgen {flags} -- "$word")'
             lines.append(f"        {' | '.join(f'{name}:--{option}' for name, option in places)}) {done} ;;")
-    bare = [name for name, _, options in COMMANDS if not takes_files(options)]
+    lines += [f"        {name}:*) mapfile -t COMPREPLY < <(compgen -W '{WORDS[it.name]}' -- \"$word\") ;;" for name, it in worded()]
+    bare = [name for name, _, options in COMMANDS if not takes_files(options) and name not in dict(worded())]
     lines += [f"        {' | '.join(name + ':*' for name in bare)}) COMPREPLY=() ;;",
               '        *) mapfile -t COMPREPLY < <(compgen -f -- "$word") ;;', '    esac', '}', '', 'complete -F _ira ira']
     return lines
@@ -126,8 +139,9 @@ def zsh():
         for it in options + [HELPED]:
             takes = {'folders': '_files -/', 'files': '_files', 'nothing': ''}.get(kind(it), f'({kind(it)})') if it.value else ''
             help_ = quoted(it.help.replace('[', '\\[').replace(']', '\\]').replace(':', '\\:'))
-            lines.append({'Files': "                '*:log:_files' \\", 'Number': f"                ':{help_}:' \\"}.get(
-                it.parser, f"                '--{it.name}[{help_}]{f':{quoted(it.value.split(chr(124))[0])}:{takes}' if it.value else ''}' \\"))
+            word = f"                ':{help_}:{f'({WORDS[it.name]})' if it.name in WORDS else ''}' \\"
+            lines.append("                '*:log:_files' \\" if it.parser == 'Files' else word if not is_named(it) else (
+                f"                '--{it.name}[{help_}]{f':{quoted(it.value.split(chr(124))[0])}:{takes}' if it.value else ''}' \\"))
         lines[-1] = lines[-1][:-2]
         lines.append('            ;;')
     lines += ['        help)', '            commands[-1]=()', '            _describe command commands', '            ;;', '    esac', '}', '',
@@ -151,6 +165,8 @@ def fish():
     bare = ' '.join(name for name, _, options in COMMANDS if not takes_files(options))
     lines += [f"complete -c ira -n '__fish_seen_subcommand_from {everywhere}' -l help -d '{HELP}'",
               f"complete -c ira -f -n '__fish_seen_subcommand_from {bare}'"]
+    lines += [f"complete -c ira -n '__fish_seen_subcommand_from {name}' -a '{WORDS[it.name]}' -d '{fished(it.help)}'"
+              for name, it in worded()]
     return lines + [f"complete -c ira -f -n '__fish_seen_subcommand_from help' -a '{everywhere}'"]
 
 
@@ -160,7 +176,7 @@ def fished(words):
 
 # ---- pages ----------------------------------------------------------------------------------------
 def spelled(it):
-    return f'--{it.name}' + (f' {it.value}' if it.value else '') if it.parser not in ('Files', 'Number') else it.name
+    return f'--{it.name}' + (f' {it.value}' if it.value else '') if is_named(it) else it.name
 
 
 def said(it):
@@ -197,13 +213,51 @@ def manual_options():
     return lines
 
 
+# ---- guides ---------------------------------------------------------------------------------------
+def commands_guide():
+    width = max(len(name) for name, _, _ in COMMANDS)
+    usage, logs = USAGE.split('\n\n')
+    lines = ['`ira` judges and makes logs of Itai-Rodeh elections on anonymous rings.', '']
+    lines += ['    ' + line.strip() for line in usage.split('\n')] + ['', logs + '. Without words `ira` judges one log on standard input.', '']
+    lines += [f'    {name:{width}}  {about}' for name, about, _ in COMMANDS]
+    return lines + ['', '`ira COMMAND --help` says on standard error which options a command has. `ira guide questions` says',
+                    'how questions are written, and `ira guide logs` how logs are.']
+
+
+def guides():
+    """The guides, by the names of their constants."""
+    return dict(re.findall(r'^const (\w+)_GUIDE: &\[u8\] = b"\\\n(.*?)";$', read(GUIDE), re.M | re.S))
+
+
+def paragraphs(guide):
+    return guide.strip('\n').split('\n\n')
+
+
+def manual_questions():
+    lines = []
+    for part in paragraphs(guides()['QUESTIONS']):
+        rows = [troff(line[4:] if line.startswith('    ') else line) for line in part.split('\n')]
+        lines += ['.PP', '.nf', '.RS'] + rows + ['.RE', '.fi'] if part.startswith('    ') else ['.PP'] + rows
+    return lines[1:]
+
+
+def strange():
+    """The texts of guides that docs/FORMATS.md hasn't."""
+    page = read('docs/FORMATS.md')
+    shared = [part for guide in guides().values() for part in paragraphs(guide) if re.match('    (CLAUSE =|irlog 1\nnodes)', part.replace('\n    ', '\n'))]
+    assert len(shared) == 2, 'a text of a guide that this script does not find'
+    return [part for part in shared if part + '\n' not in page]
+
+
 MADE = {
+    GUIDE: [('const COMMANDS_GUIDE: &[u8] = b"\\\n', '";\n', commands_guide)],
     'completions/ira.bash': [(None, None, bash)],
     'completions/_ira': [(None, None, zsh)],
     'completions/ira.fish': [(None, None, fish)],
     'docs/COMMANDS.md': [('<!-- made by checks/command_words.py -->\n', '<!-- to here -->\n', tables)],
     'docs/ira.1': [('.\\" The synopsis is made by checks/command_words.py, to the end of its lines.\n', '.SH DESCRIPTION\n', synopsis),
-                   ('.\\" The options are made by checks/command_words.py, to the end of their lines.\n', '.SH FILES\n', manual_options)],
+                   ('.\\" The options are made by checks/command_words.py, to the end of their lines.\n', '.SH FILES\n', manual_options),
+                   ('.\\" The questions are made by checks/command_words.py, to the end of their lines.\n', '.SH EXIT STATUS\n', manual_questions)],
 }
 
 
@@ -226,9 +280,11 @@ def main():
             at = next((i for i, (a, b) in enumerate(zip(old, new)) if a != b), min(len(old), len(new)))
             print(f'{name}:{at + 1}: {old[at:at + 1]}, but the command line says {new[at:at + 1]}')
             differ = True
+    for part in strange():
+        sys.exit(f'{GUIDE}: docs/FORMATS.md has not these lines:\n{part}')
     if differ:
         sys.exit('run: python3 checks/command_words.py --write')
-    print('completions, the manual page and COMMANDS.md say what the command line does')
+    print('completions, guides, the manual page and COMMANDS.md say what the command line does')
 
 
 if __name__ == '__main__':

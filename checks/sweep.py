@@ -49,7 +49,7 @@ LINES = [
     ["upgrade", "--out", "d", "--dir", "."],
     ["mend", "--out", "d", "0.log", "1.log"],
     ["mend", "--start", "initiator", "--out", "d", "--dir", "."],
-    ["mend", "--out", "d", "0.log", "none"],
+    ["mend", "--lost", "1", "--out", "d", "0.log", "none"],
     ["explain"],
     ["explain", "1.log", "0.log"],
     ["explain", "--json", "1.log", "0.log"],

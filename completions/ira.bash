@@ -1,7 +1,7 @@
 # Completion of `ira` for bash. `make install` puts it where bash-completion looks; else: source completions/ira.bash
 # Made by checks/command_words.py.
 
-_ira_commands='logs explain show draw check decide pairs run upgrade mend version help'
+_ira_commands='logs explain show draw check decide pairs run upgrade mend guide version help'
 
 # The options of a command.
 _ira_options() {
@@ -15,7 +15,8 @@ _ira_options() {
         pairs) echo --help ;;
         run) echo --nodes --seed --out --initiators --draws --cap --terms --alone --help ;;
         upgrade) echo --out --dir --help ;;
-        mend) echo --out --start --dir --help ;;
+        mend) echo --out --start --lost --dir --help ;;
+        guide) echo --help ;;
         version) echo --help ;;
     esac
 }
@@ -35,9 +36,10 @@ _ira() {
         help:*) mapfile -t COMPREPLY < <(compgen -W "${_ira_commands% help}" -- "$word") ;;
         *:--leads) mapfile -t COMPREPLY < <(compgen -W 'any' -- "$word") ;;
         *:--dir | run:--out | upgrade:--out | mend:--out) mapfile -t COMPREPLY < <(compgen -d -- "$word") ;;
-        *:--case | *:--at | *:--from | *:--to | *:--nodes | *:--seed | *:--initiators | *:--draws | *:--cap | *:--terms) COMPREPLY=() ;;
+        *:--case | *:--at | *:--from | *:--to | *:--nodes | *:--seed | *:--initiators | *:--draws | *:--cap | *:--terms | *:--lost) COMPREPLY=() ;;
         *:--depth) mapfile -t COMPREPLY < <(compgen -W '0 1 2 3 4' -- "$word") ;;
         *:--start) mapfile -t COMPREPLY < <(compgen -W 'initiator passive' -- "$word") ;;
+        guide:*) mapfile -t COMPREPLY < <(compgen -W 'questions logs' -- "$word") ;;
         pairs:* | run:* | version:*) COMPREPLY=() ;;
         *) mapfile -t COMPREPLY < <(compgen -f -- "$word") ;;
     esac

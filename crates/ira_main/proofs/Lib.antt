@@ -3,6 +3,7 @@ pub mod FilesRead
 pub mod Folders
 pub mod GivenFiles
 pub mod InputAudits
+pub mod LeftLogs
 pub mod LogFiles
 pub mod NamedFiles
 pub mod PartsAt

@@ -6,6 +6,7 @@ pub mod Each
 pub mod Explain
 pub mod FilesRead
 pub mod Given
+pub mod Guide
 pub mod InputAudit
 pub mod Judge
 pub mod LeftFiles

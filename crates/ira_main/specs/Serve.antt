@@ -14,8 +14,8 @@ use Rattle.ira_commands.specs.Run.{RunsRing}
 use Rattle.ira_commands.specs.Upgrade.{UpgradesTexts}
 use Rattle.ira_commands.specs.declared.logs_command.LogsCommand.{LogsCommand}
 use Rattle.ira_commands.specs.declared.logs_command.LogsCommand.TheVariants.{Check, Decide, Explain, ExplainCheck, ExplainQuestion}
-use Rattle.ira_main_cli.specs.Request.{IsCheckLine, IsDecideLine, IsDrawLine, IsEachLine, IsExplainLine, IsLogsLine, IsMendLine}
-use Rattle.ira_main_cli.specs.Request.{IsPairsLine, IsRunLine, IsShowLine, IsUpgradeLine, IsVersionLine, MayBeRefused}
+use Rattle.ira_main_cli.specs.Request.{IsCheckLine, IsDecideLine, IsDrawLine, IsEachLine, IsExplainLine, IsGuideLine, IsLogsLine}
+use Rattle.ira_main_cli.specs.Request.{IsMendLine, IsPairsLine, IsRunLine, IsShowLine, IsUpgradeLine, IsVersionLine, MayBeRefused}
 use Rattle.ira_main_cli.specs.declared.check_request.CheckRequest.{CheckRequest}
 use Rattle.ira_main_cli.specs.declared.decide_request.DecideRequest.{DecideRequest}
 use Rattle.ira_main_cli.specs.declared.draw_request.DrawRequest.{DrawRequest}
@@ -23,6 +23,7 @@ use Rattle.ira_main_cli.specs.declared.each_request.EachRequest.{EachRequest}
 use Rattle.ira_main_cli.specs.declared.explain_request.ExplainRequest.{ExplainRequest}
 use Rattle.ira_main_cli.specs.declared.explained_answer.ExplainedAnswer.{ExplainedAnswer}
 use Rattle.ira_main_cli.specs.declared.explained_answer.ExplainedAnswer.TheVariants.{OneLog, Logs, Findings, Certificate}
+use Rattle.ira_main_cli.specs.declared.guide_topic.GuideTopic.{GuideTopic}
 use Rattle.ira_main_cli.specs.declared.log_source.LogSource.{LogSource}
 use Rattle.ira_main_cli.specs.declared.logs_request.LogsRequest.{LogsRequest}
 use Rattle.ira_main_cli.specs.declared.mend_request.MendRequest.{MendRequest}
@@ -41,6 +42,7 @@ use Rattle.ira_main.specs.Draw.{DrawsFiles, IsUndrawn}
 use Rattle.ira_main.specs.Each.{JudgesEach}
 use Rattle.ira_main.specs.Explain.{ExplainsInput}
 use Rattle.ira_main.specs.Given.{IsNoMemory, IsUnread, OfFiles}
+use Rattle.ira_main.specs.Guide.{guide_text}
 use Rattle.ira_main.specs.Mend.{IsUnmended, MendsLogs}
 use Rattle.ira_main.specs.Moment.{question_of}
 use Rattle.ira_main.specs.Outcome.{Outcome, PrintsLine}
@@ -85,8 +87,8 @@ ExplainsAnswer A form reads (Certificate question certificate source) shelf out 
 -- are judged together, or those of each of some folders; or to show logs, and what happened by them is printed; or to draw
 -- them, and a picture is kept; or to check logs, and their texts are judged with those of a question and of a certificate; or
 -- to decide a question of them, and it is decided of their texts; or for the question of all pairs, and it is printed; or for
--- a ring, and it is run; or to upgrade logs, or to mend them, and it is done; or for the version, and it is printed. Or no
--- answer is given, for a fault that the command can have. The shelf is as it was but for the files of a run, of upgraded or
+-- a ring, and it is run; or to upgrade logs, or to mend them, and it is done; or for a guide or the version, and it is
+-- printed. Or no answer is given, for a fault that the command can have. The shelf is as it was but for the files of a run, of upgraded or
 -- mended logs, of a certificate and of a picture
 pub data CommandOutcome (A : Type 0) {S : Type 0} (reads : Reading S) (writes : Writing S)
     (words : List (List ℕ)) (shelf shelf' : S) (out out' : SinkState)
@@ -135,6 +137,9 @@ pub data CommandOutcome (A : Type 0) {S : Type 0} (reads : Reading S) (writes : 
   mended : (mend : MendRequest) → IsMendLine words mend
       → TellsAndRecords writes mend.folder (MendsLogs reads mend shelf) (IsUnmended reads mend shelf)
       shelf shelf' out out' outcome
+      → CommandOutcome A reads writes words shelf shelf' out out' outcome
+  guided : (topic : GuideTopic) → IsGuideLine words topic → shelf' ≡ shelf
+      → PrintsLine (guide_text topic) Yes out out' outcome
       → CommandOutcome A reads writes words shelf shelf' out out' outcome
   versioned : IsVersionLine words → shelf' ≡ shelf → PrintsLine version_line Yes out out' outcome
       → CommandOutcome A reads writes words shelf shelf' out out' outcome

@@ -28,7 +28,7 @@ TellsUnread wants outcome out out' = out' ≡ out
 
 -- what is said of such a file, by what its name leads to
 abbrev pub entry_text : FileEntry → List ℕ
-entry_text Missing = codes "  no such file; of a ring's log that is lost `ira mend` makes an empty one\n"
+entry_text Missing = codes "  no such file; of a log that is lost `ira mend --lost PLACE` makes an empty one\n"
 entry_text Folder = codes "  it is a folder; logs in a folder are named by --dir\n"
 entry_text _ = codes "  the system refuses to open or read it; `ls -l` says who may\n"
 

@@ -2,12 +2,13 @@ ghost use Rattle.std.specs.Prelude.{◌≡◌};
 ghost use Rattle.ira_commands.specs.Reply.{made};
 ghost use Rattle.ira_main_files.specs.Shelf.{writing_by};
 ghost use Rattle.ira_main.specs.Delivery.{KeepsResult, KeepsText, PrintsReply, PrintsResult, RecordsResult, outcome_of};
+ghost use Rattle.ira_main.specs.Outcome.{PrintsLine};
 
 use crate::log_files::write_files;
 use crate::program_fault::ProgramFault;
 use crate::text_file::write_text;
 use ira_commands::{Files, Reply};
-use ira_event::Sink;
+use ira_event::{Sink, WriteFault, write_bytes};
 use ira_main_files::Shelf;
 use ira_view::Status;
 use ira_view_page::ShowFault;
@@ -20,6 +21,20 @@ fn outcome<'a, A: Allocator + Clone>(reply: &Reply<A>) -> Result<Status, Program
     match reply.fault() {
         Some(fault) => Err(ProgramFault::Refused(fault)),
         None => Ok(reply.status()),
+    }
+}
+
+/// Prints a text, after which this is the status.
+pub(crate) fn print_text<'a, W: Sink>(
+    text: &[u8],
+    status: Status,
+    out: &mut W,
+) -> Result<Status, ProgramFault<'a>>
+    ensures { PrintsLine text.now status (W.state out.old) (W.state out.new) result }
+{
+    match write_bytes(text, out) {
+        Ok(()) => Ok(status),
+        Err(WriteFault) => Err(ProgramFault::CannotWriteAnswer),
     }
 }
 

@@ -1,8 +1,9 @@
-ghost use Rattle.std.specs.Prelude.{◌∷◌, [], IfErr, IfOk, MatchResult, Ok};
+ghost use Rattle.std.specs.Prelude.{◌↔◌, ◌∷◌, [], IfErr, IfOk, IsTrue, MatchResult, option_map};
+ghost use Rattle.std.specs.List.{enumerate_from};
 ghost use Rattle.ira_main_files.specs.FileName.{file_name};
-ghost use Rattle.ira_main.specs.FilesRead.{IsFilesFault, names_of};
+ghost use Rattle.ira_main.specs.FilesRead.{IsFilesFault};
 ghost use Rattle.ira_main.specs.LeftFiles.{HasLeftFiles, HasLeftInFolder, HasLeftNames, IsLeftFault, IsLeftFolderFault};
-ghost use Rattle.ira_main.specs.LeftFiles.{IsLeftNamesFault, SaysLeft, left_by};
+ghost use Rattle.ira_main.specs.LeftFiles.{IsLeftNamesFault, LeavesText, MayBeLost, SaysLeft, left_by};
 
 use crate::program_fault::ProgramFault;
 use crate::read_files::read_in_turn;
@@ -13,20 +14,38 @@ use ira_main_files::{FileName, ShelfFault, TextBuffer, TextSource};
 use ira_mend::RecordedLogs;
 use std::alloc::Allocator;
 
-/// Reads the text of the file of this name; no bytes where there is no such file.
+/// Whether the log at this place, whose file has this name, may be lost. The places of those that may be are perhaps given.
+fn may_be_lost(lost: &Option<Vec<u64>>, place: u64, name: FileName<'_>) -> bool
+    ensures { IsTrue result ↔ MayBeLost (option_map (λ places. places.items) lost.now) place name.entry }
+{
+    match lost {
+        Some(places) => places.contains(&place),
+        None => matches!(name, FileName::Log(_, _)),
+    }
+}
+
+/// Reads the text of the file of the log at this place; no bytes where there is no such file and the log may be lost.
 fn find_into<'a, A: Allocator + Clone, F: TextSource>(
     alloc: &A,
+    lost: &Option<Vec<u64>>,
+    place: u64,
     name: FileName<'a>,
     text: &mut TextBuffer<A>,
     shelf: &F,
 ) -> Result<(), ProgramFault<'a>>
-    ensures found { IfOk result (λ _. (left_by F.reads).text shelf.now (file_name name.entry) (Ok text.new)) }
-    ensures fault { IfErr result (IsFilesFault (left_by F.reads) (file_name name.entry ∷ []) shelf.now) }
+    ensures found { IfOk result (λ _. LeavesText F.reads (option_map (λ places. places.items) lost.now) shelf.now
+        (place, name.entry) text.new) }
+    ensures fault { IfErr result (IsFilesFault
+        (left_by F.reads (MayBeLost (option_map (λ places. places.items) lost.now) place name.entry))
+        (file_name name.entry ∷ []) shelf.now) }
 {
     let path = name.path(alloc)?;
     match shelf.read(path.as_str(), text) {
         Ok(()) => Ok(()),
         Err(ShelfFault::NotFound) => {
+            if !may_be_lost(lost, place, name) {
+                return Err(ProgramFault::CannotRead(name));
+            }
             text.clear();
             Ok(())
         }
@@ -45,7 +64,8 @@ fn number_left<'a, A: Allocator + Clone, F: TextSource>(
 {
     let mut text = TextBuffer::new(alloc.clone()?);
     for place in 0..MAX_NODES as u8 {
-        find_into(alloc, FileName::Log(folder, place), &mut text, shelf)?;
+        let name = FileName::Log(folder, place);
+        find_into(alloc, &None, u64::from(place), name, &mut text, shelf)?;
         let number = number_of_logs(text.bytes());
         if number > 1 {
             return Ok(number);
@@ -89,17 +109,18 @@ pub(crate) fn left_names<'a, A: Allocator + Clone, F: TextSource>(
 /// more as those of logs are, so that a file that isn't there is named.
 pub(crate) fn read_left<'a, A: Allocator + Clone, F: TextSource>(
     alloc: &A,
+    lost: &Option<Vec<u64>>,
     names: &[FileName<'a>],
     shelf: &F,
 ) -> Result<RecordedLogs<A>, ProgramFault<'a>>
     ensures { MatchResult result
-        (HasLeftFiles F.reads (names_of names.now) shelf.now)
-        (IsLeftFault F.reads (names_of names.now) shelf.now) }
+        (HasLeftFiles F.reads (option_map (λ places. places.items) lost.now) shelf.now (enumerate_from 0 names.now))
+        (IsLeftFault F.reads (option_map (λ places. places.items) lost.now) shelf.now names.now) }
 {
     let mut recorded = RecordedLogs::new(alloc.clone()?);
     let mut text = TextBuffer::new(alloc.clone()?);
-    for name in names {
-        find_into(alloc, *name, &mut text, shelf)?;
+    for (place, name) in names.iter().enumerate() {
+        find_into(alloc, lost, place as u64, *name, &mut text, shelf)?;
         recorded.take(text.bytes())?;
     }
     if !recorded.has_log() {

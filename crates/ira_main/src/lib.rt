@@ -9,6 +9,7 @@ mod draw_files;
 mod explain_files;
 mod folder_answer;
 mod given;
+mod guide;
 mod input_audit;
 mod judge_each;
 mod judge_files;

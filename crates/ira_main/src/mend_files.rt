@@ -21,6 +21,6 @@ pub(crate) fn mend_files<'a, A: Allocator + Clone, F: Shelf>(
     if let Some(name) = overwritten(alloc, request.folder, &names, shelf)? {
         return Err(ProgramFault::WouldOverwrite(name));
     }
-    let recorded = read_left(alloc, &names, shelf)?;
+    let recorded = read_left(alloc, &request.lost, &names, shelf)?;
     Ok(mend_left(alloc.clone()?, request.is_initiator, recorded)?)
 }

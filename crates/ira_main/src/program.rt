@@ -14,6 +14,7 @@ use crate::delivery::{deliver, deliver_and_keep, record_and_deliver};
 use crate::draw_files::draw_files;
 use crate::explain_files::{explain_check_files, explain_input};
 use crate::given::Inputs;
+use crate::guide::print_guide;
 use crate::judge_each::judge_each;
 use crate::judge_files::{check_files, judge_command, judge_input};
 use crate::mend_files::mend_files;
@@ -141,6 +142,7 @@ where
             let reply = mend_files(&alloc, &mend, shelf);
             Progress::Ended(record_and_deliver(&alloc, reply, mend.folder, shelf, out))
         }
+        Request::Guide(topic) => Progress::Ended(print_guide(topic, out)),
         Request::Version => Progress::Ended(print_version(out)),
     }
 }
@@ -208,6 +210,7 @@ where
 /// * `run` and its options runs a ring and writes the logs of its nodes to files;
 /// * `upgrade` writes logs in version 2, and `mend` of each the longest beginning such that all are consistent, each to a file
 ///   of a folder;
+/// * `guide` says what the commands are, or how questions or logs are written;
 /// * `version` prints the version; all other words are refused.
 ///
 /// With `--json` answers, what is found for a question, what is shown, and a file that can't be read are printed as JSON

@@ -24,7 +24,7 @@ fn words_given<R: AllocGlobal + Env>(rt: &R) -> Result<Vec<String>, ProgramFault
 
 /// What is said where someone may wait for an answer.
 const WAITS: &[u8] =
-    b"ira: reads the log of one node, which you type or paste here; `ira help` has the commands\n";
+    b"ira: reads the log of one node, which you type or paste here; `ira guide` has the commands\n";
 
 fn borrowed(alloc: Global, words: &[String]) -> Result<Vec<&str>, AllocError> {
     words.iter().map(|word| word.as_str()).collect(alloc)

@@ -12,7 +12,7 @@ fn entry_text(entry: FileEntry) -> &'static [u8]
 {
     match entry {
         FileEntry::Missing => {
-            b"  no such file; of a ring's log that is lost `ira mend` makes an empty one\n"
+            b"  no such file; of a log that is lost `ira mend --lost PLACE` makes an empty one\n"
         }
         FileEntry::Folder => b"  it is a folder; logs in a folder are named by --dir\n",
         FileEntry::File(_) | FileEntry::Other => {

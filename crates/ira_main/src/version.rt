@@ -2,8 +2,9 @@ ghost use Rattle.ira_main.specs.Outcome.{PrintsLine};
 ghost use Rattle.ira_main.specs.Version.{version_line};
 ghost use Rattle.ira_view.specs.declared.status.Status.TheVariants.{Yes};
 
+use crate::delivery::print_text;
 use crate::program_fault::ProgramFault;
-use ira_event::{Sink, WriteFault, write_bytes};
+use ira_event::Sink;
 use ira_view::Status;
 
 /// The program's version, and the logic that it was proved in, as `rt version` names that.
@@ -13,8 +14,5 @@ const VERSION: &[u8] = b"ira 0.2.1 (proved by rattle, logic dac8208d650f15bf)\n"
 pub(crate) fn print_version<'a, W: Sink>(out: &mut W) -> Result<Status, ProgramFault<'a>>
     ensures { PrintsLine version_line Yes (W.state out.old) (W.state out.new) result }
 {
-    match write_bytes(VERSION, out) {
-        Ok(()) => Ok(Status::Yes),
-        Err(WriteFault) => Err(ProgramFault::CannotWriteAnswer),
-    }
+    print_text(VERSION, Status::Yes, out)
 }

@@ -13,7 +13,7 @@ use Rattle.ira_main_cli.specs.CommandEntry.{app_of_entry, with_entry}
 use Rattle.ira_main_cli.specs.CommandLine.{commands, ira_app, ira_top}
 use Rattle.ira_main_cli.specs.declared.argument.Argument.{Argument}
 use Rattle.ira_main_cli.specs.declared.argument.ArgumentForm.{ArgumentForm}
-use Rattle.ira_main_cli.specs.declared.argument.ArgumentForm.TheVariants.{Flag, Value, Number, Files}
+use Rattle.ira_main_cli.specs.declared.argument.ArgumentForm.TheVariants.{Flag, Value, Word, Files}
 use Rattle.ira_main_cli.specs.declared.argument.Need.{Need}
 use Rattle.ira_main_cli.specs.declared.argument.Need.TheVariants.{Optional, Required, Default}
 use Rattle.ira_main_cli.specs.declared.command_entry.CommandEntry.{CommandEntry}
@@ -31,7 +31,7 @@ last_false a b c d e f g h i last all =
 formed : (form : ArgumentForm) (name : List ℕ) → (rule_of_form form name).is_simple ≡ true
 formed Flag name = refl
 formed (Value value parser) name = refl
-formed Number name = refl
+formed (Word parser) name = refl
 formed Files name = refl
 
 simple : (form : ArgumentForm) (need : Need) (name : List ℕ) → (with_need need (rule_of_form form name)).is_simple ≡ true

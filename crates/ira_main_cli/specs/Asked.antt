@@ -19,6 +19,8 @@ use Rattle.ira_main_cli.specs.declared.expectation.Expectation.TheVariants.{Lead
 use Rattle.ira_main_cli.specs.declared.explain_request.ExplainRequest.{ExplainRequest}
 use Rattle.ira_main_cli.specs.declared.explained_answer.ExplainedAnswer.{ExplainedAnswer}
 use Rattle.ira_main_cli.specs.declared.explained_answer.ExplainedAnswer.TheVariants as explained
+use Rattle.ira_main_cli.specs.declared.guide_topic.GuideTopic.{GuideTopic}
+use Rattle.ira_main_cli.specs.declared.guide_topic.GuideTopic.TheVariants as topic
 use Rattle.ira_main_cli.specs.declared.log_source.LogSource.{LogSource}
 use Rattle.ira_main_cli.specs.declared.log_source.LogSource.TheVariants.{Files, Folder}
 use Rattle.ira_main_cli.specs.declared.logs_request.LogsRequest.{LogsRequest}
@@ -243,16 +245,33 @@ SaysStart rows false = first_of (codes "start") rows ≡ Some (codes "passive")
 abbrev pub NamesStart : List Row → Type 0
 NamesStart rows = SaysStart rows true ⊎ SaysStart rows false
 
--- the folder and the start are the values of these options, and the logs come from what is named beside them
+-- the logs at these places are lost, where the option says so
+abbrev pub HasLost : List Row → Option (List ℕ) → Type 0
+HasLost rows None = IsLeftOut (codes "lost") rows
+HasLost rows (Some places) = HasNumbers rows (codes "lost") places
+
+-- the folder, the start and the lost logs are the values of these options, and the logs come from what is named beside them
 pub record HasLogsToMend (rows : List Row) (mend : MendRequest) : Type 0 where
   pub folder : first_of (codes "out") rows ≡ Some mend.folder.now
   pub start : SaysStart rows mend.is_initiator
+  pub lost : HasLost rows (option_map (λ places. places.items) mend.lost)
   pub logs : HasLogs rows mend.logs
 
--- options and names that go together: the start is one of two, and logs are named in one way
+-- options and names that go together: the start is one of two, places of lost logs are numbers, and logs are named in one way
 pub record NamesLogsToMend (rows : List Row) : Type 0 where
   pub start : NamesStart rows
+  pub lost : ListsNumbers (codes "lost") rows
   pub logs : NamesLogs rows
+
+-- the guide is on the commands, where no topic is named, or else on that one
+abbrev pub HasTopic : List Row → GuideTopic → Type 0
+HasTopic rows topic.Commands = IsLeftOut (codes "TOPIC") rows
+HasTopic rows topic.Questions = first_of (codes "TOPIC") rows ≡ Some (codes "questions")
+HasTopic rows topic.Logs = first_of (codes "TOPIC") rows ≡ Some (codes "logs")
+
+-- there is a guide on what is named
+abbrev pub NamesTopic : List Row → Type 0
+NamesTopic rows = (topic : GuideTopic) × HasTopic rows topic
 
 -- the ring has the values of these options, at most 100,000 draws, and one thread exactly where `--alone` is given
 pub record HasOptions (rows : List Row) (ring : RunRequest) : Type 0 where

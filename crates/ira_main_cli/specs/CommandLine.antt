@@ -31,9 +31,9 @@ number_rule = option_rule (Unsigned 0 18446744073709551615)
 abbrev pub flag_rule : Text → Rule
 flag_rule name = record (new_rule name) { long = Some name; action = Some SetTrue }
 
--- a number with no option before it
-abbrev pub nodes_rule : Text → Rule
-nodes_rule name = record (new_rule name) { parser = Some (Unsigned 0 18446744073709551615) }
+-- a word that this parser takes, with no option before it
+abbrev pub word_rule : ValueParser → Text → Rule
+word_rule parser name = record (new_rule name) { parser = Some parser }
 
 -- names of files, one at least, with no option before them
 abbrev pub files_rule : Text → Rule
@@ -100,7 +100,7 @@ decide_app =
     (required (text_rule (codes "question")) ∷ text_rule (codes "out") ∷ json_rule ∷ source_rules)
 
 abbrev pub pairs_app : App
-pairs_app = command_app (codes "pairs") (required (nodes_rule (codes "N")) ∷ [])
+pairs_app = command_app (codes "pairs") (required (word_rule (Unsigned 0 18446744073709551615) (codes "N")) ∷ [])
 
 abbrev pub run_app : App
 run_app =
@@ -116,7 +116,11 @@ upgrade_app = command_app (codes "upgrade") (required (folder_rule (codes "out")
 
 abbrev pub mend_app : App
 mend_app =
-    command_app (codes "mend") (required (folder_rule (codes "out")) ∷ text_rule (codes "start") ∷ source_rules)
+    command_app (codes "mend")
+    (required (folder_rule (codes "out")) ∷ text_rule (codes "start") ∷ text_rule (codes "lost") ∷ source_rules)
+
+abbrev pub guide_app : App
+guide_app = command_app (codes "guide") (word_rule String (codes "TOPIC") ∷ [])
 
 abbrev pub version_app : App
 version_app = command_app (codes "version") []
@@ -124,7 +128,7 @@ version_app = command_app (codes "version") []
 abbrev pub commands : List App
 commands =
     logs_app ∷ explain_app ∷ show_app ∷ draw_app ∷ check_app ∷ decide_app ∷ pairs_app ∷ run_app ∷ upgrade_app
-    ∷ mend_app ∷ version_app ∷ []
+    ∷ mend_app ∷ guide_app ∷ version_app ∷ []
 
 -- what the parser reads of the command of this name
 abbrev pub rules_named : Text → List Rule

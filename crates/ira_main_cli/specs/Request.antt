@@ -5,9 +5,9 @@ use Rattle.clap.specs.Simple.{HasMatchesOf}
 use Rattle.clap.specs.Walk.{Row, Text, rows_after}
 use Rattle.clap.specs.declared.parser.matches.ArgMatches.{ArgMatches}
 use Rattle.ira_main_cli.specs.Asked.{HasAnswerToExplain, HasFiles, HasFilesToDecide, HasFilesToRewrite, HasFoldersToJudge}
-use Rattle.ira_main_cli.specs.Asked.{HasLogsToDraw, HasLogsToJudge, HasLogsToMend, HasLogsToShow, HasOptions, IsOfFiles}
+use Rattle.ira_main_cli.specs.Asked.{HasLogsToDraw, HasLogsToJudge, HasLogsToMend, HasLogsToShow, HasOptions, HasTopic, IsOfFiles}
 use Rattle.ira_main_cli.specs.Asked.{NamesAnswer, NamesLogs, NamesLogsToDraw, NamesLogsToJudge, NamesLogsToMend}
-use Rattle.ira_main_cli.specs.Asked.{NamesLogsToShow}
+use Rattle.ira_main_cli.specs.Asked.{NamesLogsToShow, NamesTopic}
 use Rattle.ira_main_cli.specs.CommandLine.{ira_app, rules_named}
 use Rattle.ira_main_cli.specs.Options.{HasNumber}
 use Rattle.ira_main_cli.specs.declared.check_request.CheckRequest.{CheckRequest}
@@ -15,6 +15,7 @@ use Rattle.ira_main_cli.specs.declared.decide_request.DecideRequest.{DecideReque
 use Rattle.ira_main_cli.specs.declared.draw_request.DrawRequest.{DrawRequest}
 use Rattle.ira_main_cli.specs.declared.each_request.EachRequest.{EachRequest}
 use Rattle.ira_main_cli.specs.declared.explain_request.ExplainRequest.{ExplainRequest}
+use Rattle.ira_main_cli.specs.declared.guide_topic.GuideTopic.{GuideTopic}
 use Rattle.ira_main_cli.specs.declared.logs_request.LogsRequest.{LogsRequest}
 use Rattle.ira_main_cli.specs.declared.mend_request.MendRequest.{MendRequest}
 use Rattle.ira_main_cli.specs.declared.rewrite_request.RewriteRequest.{RewriteRequest}
@@ -22,7 +23,7 @@ use Rattle.ira_main_cli.specs.declared.run_request.RunRequest.{RunRequest}
 use Rattle.ira_main_cli.specs.declared.show_request.ShowRequest.{ShowRequest}
 use Rattle.ira_main_cli.specs.declared.request.Request.{Request}
 use Rattle.ira_main_cli.specs.declared.request.Request.TheVariants.{OneLog, Logs, Each, Explain, Show, Draw, Check, Decide}
-use Rattle.ira_main_cli.specs.declared.request.Request.TheVariants.{Pairs, Run, Upgrade, Mend, Version}
+use Rattle.ira_main_cli.specs.declared.request.Request.TheVariants.{Pairs, Run, Upgrade, Mend, Guide, Version}
 use Rattle.ira_main_cli.specs.declared.words_fault.WordsFault.{WordsFault}
 use Rattle.ira_main_cli.specs.declared.words_fault.WordsFault.TheVariants.{OutOfMemory, Refused}
 
@@ -45,6 +46,7 @@ pub record GoTogetherAfter (name : Text) (rows : List Row) : Type 0 where
   pub decide : name ≡ codes "decide" → NamesLogs rows
   pub upgrade : name ≡ codes "upgrade" → NamesLogs rows
   pub mend : name ≡ codes "mend" → NamesLogsToMend rows
+  pub guide : name ≡ codes "guide" → NamesTopic rows
 
 -- so do those of the words, of which the first names the command
 abbrev pub GoTogether : List Text → Type 0
@@ -65,6 +67,7 @@ Asks name rows (Pairs nodes) = (name ≡ codes "pairs") × HasNumber rows (codes
 Asks name rows (Run ring) = (name ≡ codes "run") × HasOptions rows ring
 Asks name rows (Upgrade upgrade) = (name ≡ codes "upgrade") × HasFilesToRewrite rows upgrade
 Asks name rows (Mend mend) = (name ≡ codes "mend") × HasLogsToMend rows mend
+Asks name rows (Guide topic) = (name ≡ codes "guide") × HasTopic rows topic
 Asks name rows Version = name ≡ codes "version"
 
 -- the command line accepts the words: the name of a command and others, and what is found of these asks for the request
@@ -127,6 +130,10 @@ IsUpgradeLine words upgrade = IsCommandLine words (Upgrade upgrade)
 -- `mend`, options and logs, which ask for these files
 abbrev pub IsMendLine : List Text → MendRequest → Type 0
 IsMendLine words mend = IsCommandLine words (Mend mend)
+
+-- `guide` and perhaps its topic
+abbrev pub IsGuideLine : List Text → GuideTopic → Type 0
+IsGuideLine words topic = IsCommandLine words (Guide topic)
 
 -- the option `--version` or `-V` alone
 abbrev pub IsVersionOption : List Text → Type 0

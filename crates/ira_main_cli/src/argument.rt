@@ -3,7 +3,7 @@ ghost use Rattle.clap.specs.Words.{rule_of};
 ghost use Rattle.ira_main_cli.specs.Argument.{rule_of_argument};
 
 use clap::builder::ValueParser;
-use clap::{Arg, ArgAction, value_parser};
+use clap::{Arg, ArgAction};
 use std::alloc::Global;
 
 /// An option or a name of a command: its name, what is given of it, whether it may be left out, and its help.
@@ -22,8 +22,8 @@ pub enum ArgumentForm {
     Flag,
     /// The option and a value that this parser takes. Help calls it so.
     Value(&'static str, ValueParser<'static>),
-    /// A number, with no option before it.
-    Number,
+    /// A word that this parser takes, with no option before it.
+    Word(ValueParser<'static>),
     /// Names of files, one at least, with no option before them.
     Files,
 }
@@ -50,7 +50,7 @@ impl Argument {
                 .long(name)
                 .value_name(value)
                 .value_parser(parser),
-            ArgumentForm::Number => arg.value_parser(value_parser!(u64)),
+            ArgumentForm::Word(parser) => arg.value_parser(parser),
             ArgumentForm::Files => arg.action(ArgAction::Append).num_args(1..),
         };
         match need {

@@ -2,21 +2,22 @@ ghost use Rattle.std.specs.Prelude.{◌≡◌, ◌↔◌, [], IfErr, IfOk, IsTru
 ghost use Rattle.clap.specs.Words.{app_of, found_of, kind_of, rows_of};
 ghost use Rattle.clap.specs.declared.error.kind.ErrorKind.TheVariants as kind;
 ghost use Rattle.ira_main_cli.specs.Asked.{AsksLogs, HasAnswer, HasAnswerToExplain, HasFiles, HasFilesToDecide, HasFilesToRewrite};
-ghost use Rattle.ira_main_cli.specs.Asked.{HasExpectation, HasFolders, HasLeaders, HasLogs, HasLogsToDraw, HasLogsToMend, HasLogsToShow, HasMoment, HasOptions};
+ghost use Rattle.ira_main_cli.specs.Asked.{HasExpectation, HasFolders, HasLeaders, HasLogs, HasLogsToDraw, HasLogsToMend, HasLogsToShow};
+ghost use Rattle.ira_main_cli.specs.Asked.{HasLost, HasMoment, HasOptions, HasTopic};
 ghost use Rattle.ira_main_cli.specs.Asked.{MayHaveLogs, MayNameLogs, NamesAnswer, NamesExpectation, NamesFolders};
 ghost use Rattle.ira_main_cli.specs.Asked.{NamesLeaders, NamesLogs, NamesLogsToDraw, NamesLogsToJudge, NamesLogsToMend, NamesLogsToShow};
-ghost use Rattle.ira_main_cli.specs.Asked.{NamesMoment, NamesStart, SaysStart};
+ghost use Rattle.ira_main_cli.specs.Asked.{NamesMoment, NamesStart, NamesTopic, SaysStart};
 ghost use Rattle.ira_main_cli.specs.CommandEntry.{with_entry};
 ghost use Rattle.ira_main_cli.specs.CommandLine.{commands, ira_app, ira_top};
 ghost use Rattle.ira_main_cli.specs.FoundOptions.{AreFoundAfter, AreTyped, IsOneOf};
-ghost use Rattle.ira_main_cli.specs.Options.{AreNumbers, WritesNumbers, parts_of};
+ghost use Rattle.ira_main_cli.specs.Options.{AreNumbers, ListsNumbers, WritesNumbers, parts_of};
 ghost use Rattle.ira_main_cli.specs.Request.{AreAcceptedWords, Asks, GoTogether, GoTogetherAfter, IsMadeOf, IsVersionOption, MayBeRefused};
 ghost use Rattle.ira_main_cli.specs.declared.options_fault.OptionsFault.TheVariants as options;
 ghost use Rattle.ira_main_cli.specs.declared.request.Request.TheVariants as request;
 ghost use Rattle.ira_main_cli.specs.declared.words_fault.WordsFault.TheVariants as fault;
 
 use crate::argument::Argument;
-use crate::argument::ArgumentForm::{Files, Flag, Number, Value};
+use crate::argument::ArgumentForm::{Files, Flag, Value, Word};
 use crate::argument::Need::{Default, Optional, Required};
 use crate::asked_leaders::AskedLeaders;
 use crate::asked_moment::AskedMoment;
@@ -29,6 +30,7 @@ use crate::each_request::EachRequest;
 use crate::expectation::Expectation;
 use crate::explain_request::ExplainRequest;
 use crate::explained_answer::ExplainedAnswer;
+use crate::guide_topic::GuideTopic;
 use crate::log_source::LogSource;
 use crate::logs_request::LogsRequest;
 use crate::mend_request::MendRequest;
@@ -56,7 +58,8 @@ const USAGE: &str =
     ira pairs <N>\n       \
     ira run --nodes <N> --seed <S> --out <DIR> [OPTIONS]\n       \
     ira upgrade --out <DIR> <LOGS>\n       \
-    ira mend --out <DIR> [--start <S>] <LOGS>\n       \
+    ira mend --out <DIR> [--start <S>] [--lost <P,..>] <LOGS>\n       \
+    ira guide [questions | logs]\n       \
     ira version\n\n\
     LOGS is either <LOG>... or --dir <DIR>";
 
@@ -96,6 +99,12 @@ const OVER_HELP: &str =
 
 const START_HELP: &str =
     "initiator or passive: what a node is taken for of whose log not even the head is left";
+
+const TOPIC_HELP: &str =
+    "questions or logs: how a question or a log is written, with examples; the commands if not given";
+
+const LOST_HELP: &str =
+    "The places of the logs that are lost, as 1,2; if not given none of LOG.., and any of --dir";
 
 const LEADS_HELP: &str =
     "The places of the nodes that are to lead at the end, and no other, as 1,2; or any: some node is";
@@ -236,7 +245,7 @@ const COMMANDS: &[CommandEntry] = &[
     CommandEntry {
         name: "pairs",
         about: "Prints the question whether two nodes of a ring ever lead at once",
-        arguments: &[Argument("N", Number, Required, NODES_HELP)],
+        arguments: &[Argument("N", Word(NUMBER), Required, NODES_HELP)],
     },
     CommandEntry {
         name: "run",
@@ -263,9 +272,15 @@ const COMMANDS: &[CommandEntry] = &[
         arguments: &[
             OUT,
             Argument("start", Value("S", TEXT), Optional, START_HELP),
+            Argument("lost", Value("P,..", TEXT), Optional, LOST_HELP),
             DIR,
             LOG,
         ],
+    },
+    CommandEntry {
+        name: "guide",
+        about: "Says what the commands are, or how questions or logs are written",
+        arguments: &[Argument("TOPIC", Word(TEXT), Optional, TOPIC_HELP)],
     },
     CommandEntry {
         name: "version",
@@ -625,6 +640,22 @@ fn is_initiator(matches: &ArgMatches) -> Result<bool, OptionsFault>
     }
 }
 
+/// The places of the logs that are lost, if they are named.
+fn lost_places<'a>(
+    alloc: Global,
+    matches: &ArgMatches<'a>,
+) -> Result<Option<Vec<u64>>, OptionsFault>
+    ensures found { IfOk result
+        (λ lost. HasLost (rows_of (found_of matches.now)) (option_map (λ places. places.items) lost)) }
+    ensures refused { IfErr result
+        (λ why. ListsNumbers (codes "lost") (rows_of (found_of matches.now)) → why ≡ options.OutOfMemory) }
+{
+    match text(matches, "lost") {
+        None => Ok(None),
+        Some(text) => Ok(Some(numbers(alloc, text)?)),
+    }
+}
+
 /// The logs to mend.
 fn mend<'a>(alloc: Global, matches: &ArgMatches<'a>) -> Result<MendRequest<'a>, OptionsFault>
     requires { AreFoundAfter (codes "mend") (rows_of (found_of matches.now)) }
@@ -633,12 +664,27 @@ fn mend<'a>(alloc: Global, matches: &ArgMatches<'a>) -> Result<MendRequest<'a>, 
         (λ why. NamesLogsToMend (rows_of (found_of matches.now)) → why ≡ options.OutOfMemory) }
 {
     let is_initiator = is_initiator(matches)?;
+    let lost = lost_places(alloc, matches)?;
     let logs = log_source(alloc, matches)?;
     Ok(MendRequest {
         folder: given_text(matches, "out"),
         is_initiator,
+        lost,
         logs,
     })
+}
+
+/// What the guide that is asked for is on.
+fn guide_topic(matches: &ArgMatches) -> Result<GuideTopic, OptionsFault>
+    ensures found { IfOk result (HasTopic (rows_of (found_of matches.now))) }
+    ensures refused { IfErr result (λ why. NamesTopic (rows_of (found_of matches.now)) → ⊥) }
+{
+    match text(matches, "TOPIC") {
+        None => Ok(GuideTopic::Commands),
+        Some("questions") => Ok(GuideTopic::Questions),
+        Some("logs") => Ok(GuideTopic::Logs),
+        Some(_) => Err(OptionsFault::Topic),
+    }
 }
 
 // What is asked for after the command of this name, by what was found of the words.
@@ -664,6 +710,7 @@ fn found_request<'a>(
         "run" => Ok(Request::Run(run(matches))),
         "upgrade" => Ok(Request::Upgrade(rewrite(alloc, matches)?)),
         "mend" => Ok(Request::Mend(mend(alloc, matches)?)),
+        "guide" => Ok(Request::Guide(guide_topic(matches)?)),
         "version" => Ok(Request::Version),
         _ => unreachable!(),
     }

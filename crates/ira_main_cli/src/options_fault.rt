@@ -29,6 +29,8 @@ pub enum OptionsFault {
     NoNumbers,
     /// A value is neither of the two kinds of start.
     Start,
+    /// There is no guide on what is named.
+    Topic,
     /// A growth was refused.
     OutOfMemory,
 }
@@ -49,9 +51,10 @@ impl OptionsFault {
             OptionsFault::CaseWithoutQuestion | OptionsFault::CertificateWithoutQuestion => {
                 ErrorKind::MissingRequiredArgument
             }
-            OptionsFault::EmptyFolder | OptionsFault::NoNumbers | OptionsFault::Start => {
-                ErrorKind::ValueValidation
-            }
+            OptionsFault::EmptyFolder
+            | OptionsFault::NoNumbers
+            | OptionsFault::Start
+            | OptionsFault::Topic => ErrorKind::ValueValidation,
             OptionsFault::OutOfMemory => ErrorKind::OutOfMemory,
         }
     }
@@ -69,10 +72,11 @@ impl OptionsFault {
             OptionsFault::CutAndQuestion =>
                 "--at <N0,N1,..> and --question <Q> exclude one another",
             OptionsFault::NoNumbers => {
-                "--leads <P,..> and --at <N0,N1,..> are numbers with commas between them, as 2,3; \
-                or --leads any"
+                "--leads <P,..>, --lost <P,..> and --at <N0,N1,..> are numbers with commas between them, \
+                as 2,3; or --leads any"
             }
             OptionsFault::Start => "--start <S> is initiator or passive",
+            OptionsFault::Topic => "guide [TOPIC] is questions or logs",
             OptionsFault::OutOfMemory => "out of memory",
         }
     }

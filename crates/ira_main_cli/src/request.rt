@@ -3,6 +3,7 @@ use crate::decide_request::DecideRequest;
 use crate::draw_request::DrawRequest;
 use crate::each_request::EachRequest;
 use crate::explain_request::ExplainRequest;
+use crate::guide_topic::GuideTopic;
 use crate::logs_request::LogsRequest;
 use crate::mend_request::MendRequest;
 use crate::rewrite_request::RewriteRequest;
@@ -37,6 +38,8 @@ pub enum Request<'a> {
     Upgrade(RewriteRequest<'a>),
     /// To write of each log of a ring the longest beginning such that all are consistent.
     Mend(MendRequest<'a>),
+    /// To say what the commands are, or how questions or logs are written.
+    Guide(GuideTopic),
     /// To say which version of the program this is.
     Version,
 }

@@ -1,6 +1,6 @@
 use Rattle.std.proofs.Common.{◌≡◌, ◌∙◌, Err, List, [], ◌∷◌, Ok, Result, ℕ, ap, inl, inr, map, refl, subst, sym}
 use Rattle.ira_main_cli.specs.Request.{IsMadeOf, IsVersionLine}
-use Rattle.ira_main.specs.Serve.CommandOutcome.{decided, drawn, each, judged, mended, pairs, recorded, refused, shown}
+use Rattle.ira_main.specs.Serve.CommandOutcome.{decided, drawn, each, guided, judged, mended, pairs, recorded, refused, shown}
 use Rattle.ira_main.specs.Serve.CommandOutcome.{upgraded}
 use Rattle.ira_main.specs.Serve.CommandOutcome.{explained as explained_of_logs}
 use Rattle.ira_main.specs.Serve.Serves.{explained, with_words, without_words}
@@ -111,3 +111,8 @@ returns-in-Mend-clause-served g c =
     let made = subst (IsMadeOf (map (λ w. w.now) c.args.words.now)) c.in-Mend.is c.in-Ok.ensures.made in
     with_words (some_words _ _ _ made.first) refl (mended _ made (told_and_recorded _ _ _ _ _ _ _ _ _ _ c.mend_files-reply.ensures
     c.record_and_deliver-in-Mend.ensures))
+
+pub returns-in-Guide-clause-served : goal.returns-in-Guide-clause-served
+returns-in-Guide-clause-served g c =
+    let made = subst (IsMadeOf (map (λ w. w.now) c.args.words.now)) c.in-Guide.is c.in-Ok.ensures.made in
+    with_words (some_words _ _ _ made.first) refl (guided _ made refl c.print_guide.ensures)
