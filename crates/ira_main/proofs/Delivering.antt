@@ -1,15 +1,15 @@
 -- How replies reach the output and the shelf.
 use Rattle.std.proofs.Common.{◌≡◌, ℕ, List, Option, None, Some, Result, Ok, Err, inl, inr, refl, subst}
 use Rattle.std.specs.Borrow.{Bor}
-use Rattle.std.specs.Prelude.{MatchResult}
+use Rattle.std.specs.Prelude.{◌≢◌, MatchResult, codes}
 use Rattle.ira_event.specs.Sink.{SinkState}
 use Rattle.ira_commands.specs.Reply.{MadeFiles, Reply}
 use Rattle.ira_commands.specs.Reply.MadeFiles.{logs_of, no_files, one_text}
 use Rattle.ira_commands.specs.declared.command_fault.CommandFault.{CommandFault}
 use Rattle.ira_main_files.specs.Shelf.{Writing}
-use Rattle.ira_main.specs.Delivery.{KeepsReply, KeepsResult, KeepsText, PrintsReply, PrintsResult, RecordsResult, Tells}
-use Rattle.ira_main.specs.Delivery.{TellsAndKeeps, TellsAndRecords, outcome_of}
-use Rattle.ira_main.specs.Delivery.KeepsReply.{kept, printed, unprinted, unwritten}
+use Rattle.ira_main.specs.Delivery.{KeepsReply, KeepsResult, KeepsText, PrintsFile, PrintsReply, PrintsResult, RecordsResult}
+use Rattle.ira_main.specs.Delivery.{Tells, TellsAndKeeps, TellsAndRecords, outcome_of}
+use Rattle.ira_main.specs.Delivery.KeepsReply.{kept, printed, shown, unprinted, unwritten}
 use Rattle.ira_main.specs.Outcome.{Outcome}
 use Rattle.ira_main.specs.declared.program_fault.ProgramFault.{ProgramFault}
 use Rattle.ira_view_page.specs.declared.show_fault.ShowFault.TheVariants as show
@@ -26,41 +26,51 @@ module _ {S : Type 0} (writes : Writing S) (reply : Reply) (out out' : SinkState
   pub none_kept : (name : Option (Bor (List ℕ))) (old : S) (f : ProgramFault) → PrintsReply reply out out' (Err f)
       → KeepsReply writes name reply old old out out' (Err f)
   none_kept name old f (Ok v, took, is) =
-      printed (λ file text named fine one.
-      let e = subst (λ (fault : Option CommandFault). ◌≡◌ {A = Outcome} (Err f) (outcome_of reply.status fault)) fine is
+      printed (λ file text one.
+      let e = subst (λ (fault : Option CommandFault). ◌≡◌ {A = Outcome} (Err f) (outcome_of reply.status fault)) one.fine is
       in cc) refl (Ok v, took, is)
   none_kept name old f (Err why, took, is) = unprinted why took refl is
 
   -- where no name is given nothing is made
   pub nothing_kept : (name : Option (Bor (List ℕ))) (old : S) (outcome : Outcome) → name ≡ None
       → PrintsReply reply out out' outcome → KeepsReply writes name reply old old out out' outcome
-  nothing_kept name old outcome none told = printed (λ file text named fine is. cc) refl told
+  nothing_kept name old outcome none told = printed (λ file text is. let n = is.named in cc) refl told
+
+  -- where the output stands for a name, what is printed
+  pub file_shown : (name : Option (Bor (List ℕ))) (file : Bor (List ℕ)) (old : S) (outcome : Outcome) → name ≡ Some file
+      → file.now ≡ codes "-" → PrintsFile reply out out' outcome
+      → KeepsReply writes name reply old old out out' outcome
+  file_shown name file old outcome named dash (inl (text, fine, made, prints)) =
+      shown file text (record { named = named; fine = fine; made = made }) dash refl prints
+  file_shown name file old outcome named dash (inr (none, told)) =
+      printed (λ f text is. none text is.fine is.made) refl told
 
   -- with a name, what comes of its text, if there is one
   pub text_kept : (name : Option (Bor (List ℕ))) (file : Bor (List ℕ)) (files : MadeFiles) (old new : S) (status : Status)
-      → name ≡ Some file → reply.files ≡ files → PrintsReply reply out out' (Ok status)
+      → name ≡ Some file → file.now ≢ codes "-" → reply.files ≡ files → PrintsReply reply out out' (Ok status)
       → KeepsText writes file files old new (Ok tt) → KeepsReply writes name reply old new out out' (Ok status)
-  text_kept name file (one_text text) old new status named is (Ok v, took, end) wrote =
+  text_kept name file (one_text text) old new status named other is (Ok v, took, end) wrote =
       let ends = ended reply.status status reply.fault end in
-      kept file text named ends.0 is took wrote (let e = ends.1 in cc)
-  text_kept name file no_files old new status named is told wrote =
-      printed (λ f t n fine one. cc) wrote.0 told
-  text_kept name file (logs_of logs) old new status named is told wrote =
-      printed (λ f t n fine one. cc) wrote.0 told
-  text_kept name file (one_text text) old new status named is (Err show.Write, took, end) wrote = absurd cc
-  text_kept name file (one_text text) old new status named is (Err show.OutOfMemory, took, end) wrote = absurd cc
+      kept file text (record { named = named; fine = ends.0; made = is }) other took wrote (let e = ends.1 in cc)
+  text_kept name file no_files old new status named other is told wrote =
+      printed (λ f t one. let m = one.made in cc) wrote.0 told
+  text_kept name file (logs_of logs) old new status named other is told wrote =
+      printed (λ f t one. let m = one.made in cc) wrote.0 told
+  text_kept name file (one_text text) old new status named other is (Err show.Write, took, end) wrote = absurd cc
+  text_kept name file (one_text text) old new status named other is (Err show.OutOfMemory, took, end) wrote = absurd cc
 
   pub text_unkept : (name : Option (Bor (List ℕ))) (file : Bor (List ℕ)) (files : MadeFiles) (old new : S)
-      (status : Status) (f : ProgramFault) → name ≡ Some file → reply.files ≡ files
+      (status : Status) (f : ProgramFault) → name ≡ Some file → file.now ≢ codes "-" → reply.files ≡ files
       → PrintsReply reply out out' (Ok status) → KeepsText writes file files old new (Err f)
       → KeepsReply writes name reply old new out out' (Err f)
-  text_unkept name file (one_text text) old new status f named is (Ok v, took, end) wrote =
+  text_unkept name file (one_text text) old new status f named other is (Ok v, took, end) wrote =
       let ends = ended reply.status status reply.fault end in
-      unwritten file text wrote.0 named ends.0 is took wrote.1 (let e = wrote.2 in cc)
-  text_unkept name file (one_text text) old new status f named is (Err show.Write, took, end) wrote = absurd cc
-  text_unkept name file (one_text text) old new status f named is (Err show.OutOfMemory, took, end) wrote = absurd cc
-  text_unkept name file no_files old new status f named is told wrote = absurd (let e = wrote.1 in cc)
-  text_unkept name file (logs_of logs) old new status f named is told wrote = absurd (let e = wrote.1 in cc)
+      unwritten file text wrote.0 (record { named = named; fine = ends.0; made = is }) other took wrote.1
+      (let e = wrote.2 in cc)
+  text_unkept name file (one_text text) old new status f named other is (Err show.Write, took, end) wrote = absurd cc
+  text_unkept name file (one_text text) old new status f named other is (Err show.OutOfMemory, took, end) wrote = absurd cc
+  text_unkept name file no_files old new status f named other is told wrote = absurd (let e = wrote.1 in cc)
+  text_unkept name file (logs_of logs) old new status f named other is told wrote = absurd (let e = wrote.1 in cc)
 
 module _ (IsReply : Reply → Type 0) (IsFault : ProgramFault → Type 0) (r : Result Reply ProgramFault)
     (out out' : SinkState) (outcome : Outcome) where

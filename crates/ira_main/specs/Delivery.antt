@@ -1,5 +1,5 @@
 -- How replies reach the output and the shelf.
-use Rattle.std.specs.Prelude.{◌≡◌, ◌⊎◌, List, None, Option, Result, Ok, Err, Some, ℕ}
+use Rattle.std.specs.Prelude.{◌≡◌, ◌≢◌, ◌⊎◌, List, None, Option, Result, Ok, Err, Some, codes, ℕ}
 use Rattle.std.specs.Borrow.{Bor}
 use Rattle.ira_event.specs.Log.{Log}
 use Rattle.ira_event.specs.Sink.{SinkState}
@@ -10,7 +10,7 @@ use Rattle.ira_commands.specs.declared.command_fault.CommandFault.{CommandFault}
 use Rattle.ira_main_files.specs.Shelf.{MakesFile, Writing}
 use Rattle.ira_main_files.specs.declared.shelf_fault.ShelfFault.{ShelfFault}
 use Rattle.ira_main.specs.LogFiles.{StopsInLogs, WritesLogs}
-use Rattle.ira_main.specs.Outcome.{GivesNoAnswer, Outcome}
+use Rattle.ira_main.specs.Outcome.{GivesNoAnswer, Outcome, PrintsLine}
 use Rattle.ira_main.specs.ProgramFault.{write_fault}
 use Rattle.ira_main.specs.declared.program_fault.ProgramFault.{ProgramFault}
 use Rattle.ira_main.specs.declared.program_fault.ProgramFault.TheVariants.{CannotWriteAnswer, OutOfMemory, Refused}
@@ -40,22 +40,30 @@ abbrev pub Tells : (Reply → Type 0) → (ProgramFault → Type 0) → SinkStat
 Tells IsReply IsFault out out' outcome =
     ((reply : Reply) × IsReply reply × PrintsReply reply out out' outcome) ⊎ GivesNoAnswer IsFault out out' outcome
 
+-- the text of a reply is for a file of this name: it isn't refused
+pub record IsForFile (name : Option (Bor (List ℕ))) (reply : Reply) (file : Bor (List ℕ)) (text : List ℕ) : Type 0 where
+  pub named : name ≡ Some file
+  pub fine : reply.fault ≡ None
+  pub made : reply.files ≡ one_text text
+
 -- nothing of a reply goes to the file of this name: none is named, or it is refused, or it has no text for one
 abbrev pub MakesNoFile : Option (Bor (List ℕ)) → Reply → Type 0
-MakesNoFile name reply =
-    (file : Bor (List ℕ)) (text : List ℕ) → name ≡ Some file → reply.fault ≡ None → reply.files ≡ one_text text → ⊥
+MakesNoFile name reply = (file : Bor (List ℕ)) (text : List ℕ) → ¬ (IsForFile name reply file text)
 
 -- a reply was printed whole, and then its text was written to a new file of this name, or a fault of that is the outcome;
--- or nothing goes to a file. Or it wasn't printed whole, and the shelf is as it was
+-- or it goes to standard output, for which `-` stands, and was printed in place of all else; or there is none. Or the reply
+-- wasn't printed whole, and the shelf is as it was
 pub data KeepsReply {S : Type 0} (writes : Writing S) (name : Option (Bor (List ℕ))) (reply : Reply) (old new : S)
     (out out' : SinkState) (outcome : Outcome) : Type 0 where
-  kept : (file : Bor (List ℕ)) (text : List ℕ) → name ≡ Some file → reply.fault ≡ None → reply.files ≡ one_text text
+  kept : (file : Bor (List ℕ)) (text : List ℕ) → IsForFile name reply file text → file.now ≢ codes "-"
       → WroteOutput {T = Unit {0}} reply.out (Ok tt) out out' → MakesFile writes file.now text old new (Ok tt)
       → outcome ≡ Ok reply.status → KeepsReply writes name reply old new out out' outcome
-  unwritten : (file : Bor (List ℕ)) (text : List ℕ) (why : ShelfFault) → name ≡ Some file → reply.fault ≡ None
-      → reply.files ≡ one_text text → WroteOutput {T = Unit {0}} reply.out (Ok tt) out out'
+  unwritten : (file : Bor (List ℕ)) (text : List ℕ) (why : ShelfFault) → IsForFile name reply file text
+      → file.now ≢ codes "-" → WroteOutput {T = Unit {0}} reply.out (Ok tt) out out'
       → MakesFile writes file.now text old new (Err why) → outcome ≡ Err (write_fault file why)
       → KeepsReply writes name reply old new out out' outcome
+  shown : (file : Bor (List ℕ)) (text : List ℕ) → IsForFile name reply file text → file.now ≡ codes "-" → new ≡ old
+      → PrintsLine text reply.status out out' outcome → KeepsReply writes name reply old new out out' outcome
   printed : MakesNoFile name reply → new ≡ old → PrintsReply reply out out' outcome
       → KeepsReply writes name reply old new out out' outcome
   unprinted : (why : ShowFault) → WroteOutput {T = Unit {0}} reply.out (Err why) out out' → new ≡ old
@@ -95,6 +103,12 @@ KeepsText writes name (one_text text) old new (Ok _) = MakesFile writes name.now
 KeepsText writes name (one_text text) old new (Err f) =
     (why : ShelfFault) × MakesFile writes name.now text old new (Err why) × (f ≡ write_fault name why)
 KeepsText writes name files old new result = (new ≡ old) × (result ≡ Ok tt)
+
+-- the file of a reply was printed, if it has one and isn't refused, and else what it says
+abbrev pub PrintsFile : Reply → SinkState → SinkState → Outcome → Type 0
+PrintsFile reply out out' outcome =
+    ((text : List ℕ) × (reply.fault ≡ None) × (reply.files ≡ one_text text) × PrintsLine text reply.status out out' outcome)
+    ⊎ (((text : List ℕ) → reply.fault ≡ None → reply.files ≡ one_text text → ⊥) × PrintsReply reply out out' outcome)
 
 -- what comes of a reply, or of the fault in its place
 abbrev pub PrintsResult : Result Reply ProgramFault → SinkState → SinkState → Outcome → Type 0

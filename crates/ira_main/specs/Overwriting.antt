@@ -1,5 +1,5 @@
 -- Files of the input that the logs of a ring, or a new file, would be written to.
-use Rattle.std.specs.Prelude.{◌≡◌, ◌≢◌, ◌<◌, ℕ, All, List, ◌∷◌, Option, Some, None, length, slice_get}
+use Rattle.std.specs.Prelude.{◌≡◌, ◌≢◌, ◌<◌, ℕ, All, List, ◌∷◌, Option, Some, None, codes, length, slice_get}
 use Rattle.std.specs.Borrow.{Bor}
 use Rattle.ira_event.specs.Limits.{MAX_NODES}
 use Rattle.ira_main_files.specs.FileName.{file_name, log_name}
@@ -51,10 +51,10 @@ abbrev pub input_names : Option (Bor (List ℕ)) → List FileName → List (Lis
 input_names (Some question) logs = question.now ∷ names_of logs
 input_names None logs = names_of logs
 
--- the new file, if there is one, would be written over none of these
+-- the new file, if there is one, and not the output in its place, would be written over none of these
 abbrev pub KeepsFiles : {S : Type 0} → Reading S → S → Option (Bor (List ℕ)) → List (List ℕ) → Type 0
 KeepsFiles reads shelf written names =
-    (file : Bor (List ℕ)) → written ≡ Some file → ReplacesNone reads shelf file.now names
+    (file : Bor (List ℕ)) → written ≡ Some file → file.now ≢ codes "-" → ReplacesNone reads shelf file.now names
 
 -- it would be written over one of these, and the fault names this one
 pub record IsReplacing {S : Type 0} (reads : Reading S) (shelf : S) (written : Option (Bor (List ℕ)))

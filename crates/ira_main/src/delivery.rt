@@ -1,7 +1,7 @@
 ghost use Rattle.std.specs.Prelude.{◌≡◌};
 ghost use Rattle.ira_commands.specs.Reply.{made};
 ghost use Rattle.ira_main_files.specs.Shelf.{writing_by};
-ghost use Rattle.ira_main.specs.Delivery.{KeepsResult, KeepsText, PrintsReply, PrintsResult, RecordsResult, outcome_of};
+ghost use Rattle.ira_main.specs.Delivery.{KeepsResult, KeepsText, PrintsFile, PrintsReply, PrintsResult, RecordsResult, outcome_of};
 ghost use Rattle.ira_main.specs.Outcome.{PrintsLine};
 
 use crate::log_files::write_files;
@@ -13,6 +13,9 @@ use ira_main_files::Shelf;
 use ira_view::Status;
 use ira_view_page::ShowFault;
 use std::alloc::Allocator;
+
+/// The name that stands for the output where one for a file is due.
+pub(crate) const OUTPUT: &str = "-";
 
 /// What the program ends with after a reply: its status, or why it is refused.
 fn outcome<'a, A: Allocator + Clone>(reply: &Reply<A>) -> Result<Status, ProgramFault<'a>>
@@ -81,7 +84,24 @@ fn keep_text<'a, A: Allocator, F: Shelf>(
     }
 }
 
-/// Prints a reply, if there is one, and then makes its file, if it has a text for one and a name is given.
+/// Prints the file of a reply in place of what it says, where it has one.
+fn print_file<'a, A: Allocator + Clone, W: Sink>(
+    reply: &Reply<A>,
+    out: &mut W,
+) -> Result<Status, ProgramFault<'a>>
+    ensures { PrintsFile reply.now (W.state out.old) (W.state out.new) result }
+{
+    if reply.fault().is_some() {
+        return print(reply, out);
+    }
+    let Some(text) = reply.files().text() else {
+        return print(reply, out);
+    };
+    print_text(text, reply.status(), out)
+}
+
+/// Prints a reply, if there is one, and then makes its file, if it has a text for one and a name is given; `-` stands for
+/// the output.
 pub(crate) fn deliver_and_keep<'a, A: Allocator + Clone, F: Shelf, W: Sink>(
     reply: Result<Reply<A>, ProgramFault<'a>>,
     name: Option<&'a str>,
@@ -92,10 +112,13 @@ pub(crate) fn deliver_and_keep<'a, A: Allocator + Clone, F: Shelf, W: Sink>(
         shelf.new (W.state out.old) (W.state out.new) result }
 {
     let reply = reply?;
-    let status = print(&reply, out)?;
     let Some(name) = name else {
-        return Ok(status);
+        return print(&reply, out);
     };
+    if name == OUTPUT {
+        return print_file(&reply, out);
+    }
+    let status = print(&reply, out)?;
     keep_text(reply.files(), name, shelf)?;
     Ok(status)
 }

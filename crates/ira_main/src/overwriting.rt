@@ -6,6 +6,7 @@ ghost use Rattle.ira_main.specs.FilesRead.{names_of};
 ghost use Rattle.ira_main.specs.Overwriting.{IsReplacing, KeepsFiles, KeepsInput, Overwrites, Replaces, ReplacesNone, input_names};
 ghost use Rattle.ira_main.specs.declared.program_fault.ProgramFault.TheVariants.{OutOfMemory};
 
+use crate::delivery::OUTPUT;
 use crate::program_fault::ProgramFault;
 use ira_event::MAX_NODES;
 use ira_main_files::{FileEntry, FileName, TextSource};
@@ -102,6 +103,9 @@ pub(crate) fn keep_inputs<'a, A: Allocator, F: TextSource>(
     let Some(written) = written else {
         return Ok(());
     };
+    if written == OUTPUT {
+        return Ok(());
+    }
     match replaced_input(alloc, written, question, logs, shelf)? {
         Some(name) => Err(ProgramFault::WouldOverwrite(name)),
         None => Ok(()),
