@@ -21,7 +21,7 @@ from pictures import HERE, Ring
 
 EXAMPLES = os.path.realpath(os.path.join(HERE, '..', 'examples'))
 LOG, LOGS, EXPLAIN_LOG, EXPLAIN, EXPLAIN_QUESTION, EXPLAIN_CERT, SHOW, EVENTS, DRAW, DECIDE, CHECK, PAIRS, UPGRADE, \
-    MEND, RUN, PAGE, AS_JSON, LEADERS = range(18)
+    MEND, RUN, PAGE, AS_JSON, LEADERS, OVERVIEW = range(19)
 WITH_JSON = {LOGS, EXPLAIN_LOG, EXPLAIN, EXPLAIN_QUESTION, EXPLAIN_CERT, SHOW, EVENTS, DECIDE, CHECK, LEADERS}
 ALL = (0, 2 ** 64 - 1)
 TOLD = '''
@@ -29,10 +29,11 @@ const piece = it => ['h2', '.command', 'pre'].map(part => it.querySelector(part)
 const pieces = [...document.querySelectorAll('section section, .json')].map(piece);
 return [$('answer').textContent, $('fault').textContent, pieces];'''
 ASKS = '''
-const [command, values, files, done] = arguments, bytes = text => Uint8Array.from(atob(text), c => c.charCodeAt(0));
+const [values, files, count, done] = arguments, bytes = text => Uint8Array.from(atob(text), c => c.charCodeAt(0));
 const written = bytes => btoa(Array.from(bytes, byte => String.fromCharCode(byte)).join(''));
-send({values: [command, ...values.map(BigInt)], files: files.map(([name, text]) => ({name, text: bytes(text)}))})
-  .then(({status, parts}) => done([status, (parts || []).map(written)]), why => done([why.message]));'''
+send({values: values.map(BigInt), files: files.map(([name, text]) => ({name, text: bytes(text)})), count})
+  .then(({status, replies}) => done([status, (replies || []).map(parts => parts.map(written))]),
+    why => done([why.message]));'''
 
 
 FETCHES = '''
@@ -72,12 +73,17 @@ class Check:
     def ready(self):
         self.wait('return worker && !asked.size')
 
-    def ask(self, command, values, files):
+    def ask_all(self, values, files, count):
+        """A status, and the parts of so many replies."""
         files = [(name, base64.b64encode(text).decode()) for name, text in files]
-        arguments = [command, [str(value) for value in values], files]
-        status, *parts = self.browser.call('POST', '/execute/async', {'script': ASKS, 'args': arguments})
-        assert parts, status
-        return status, [base64.b64decode(part) for part in parts[0]]
+        arguments = [[str(value) for value in values], files, count]
+        status, *replies = self.browser.call('POST', '/execute/async', {'script': ASKS, 'args': arguments})
+        assert replies, status
+        return status, [[base64.b64decode(part) for part in parts] for parts in replies[0]]
+
+    def ask(self, command, values, files):
+        status, replies = self.ask_all([command, *values], files, 1)
+        return status, replies[0] if replies else []
 
     def run(self, words, files, wrote=None, stdin=None):
         """What the program prints of files in a folder of its own, and writes as one file, or as logs in a folder."""
@@ -105,6 +111,21 @@ class Check:
         for command, out in ((DRAW, 'out/ring.svg'), (PAGE, 'out/ring.html')):
             self.same(what, command, values, files, ['draw', *words, '--out', out, *names], out)
 
+    def overview(self, what, values, logs, given, moment):
+        """Holds the replies of one call against what the program prints and writes, command by command."""
+        names, of = [name for name, _ in logs], ['--question', 'q.ask']
+        commands = [(['logs'],), (['explain'],), (['decide', *of, '--out', 'out/q.cert'], 'out/q.cert'),
+                    (['explain', *of],), (['check', *of, '--cert', 'q.cert'],),
+                    (['explain', *of, '--cert', 'q.cert'],)][:2 + 2 * len(given)]
+        commands += [(['draw', *moment, '--out', 'out/ring.svg'], 'out/ring.svg'), (['show', *moment],)]
+        files = [*given, *logs]
+        wanted = [self.run([*words, *names], files, *wrote) for words, *wrote in commands]
+        values = [OVERVIEW, len(given), *ALL, *values]
+        found = self.ask_all(values, files, len(commands))
+        assert found == (wanted[0][0], [parts for _, parts in wanted]), (what, values, found, wanted)
+        assert self.ask(AS_JSON, values, files) == self.ask(OVERVIEW, [3, *values[2:]], files) == (4, []), what
+        self.answers += len(commands)
+
     def all_commands(self, what, logs):
         """All that can be asked of logs alone."""
         names = [name for name, _ in logs]
@@ -123,6 +144,8 @@ class Check:
         self.draws(what, logs, names, [], ALL)
         self.draws(what, logs, names, ['--from', '2', '--to', '4'], (2, 4))
         self.draws(what, logs, names, ['--at', ','.join('1' * len(logs))], [*ALL, 1] + [1] * len(logs))
+        self.overview(what, [], logs, [], [])
+        self.overview(what, [1] * (1 + len(logs)), logs, [], ['--at', ','.join('1' * len(logs))])
         ask(UPGRADE, [], 'upgrade', '--out', 'out')
         for start in ('passive', 'initiator'):
             ask(MEND, [int(start == 'initiator')], 'mend', '--start', start, '--out', 'out')
@@ -143,8 +166,10 @@ class Check:
         ask(SHOW, [2], 'show', *of)
         ask(EVENTS, [2, 0], 'show', '--events', *of, '--case', '0')
         self.draws(what, files, names, of, [*ALL, 2])
+        self.overview(what, [2], logs, files[:1], of)
         if cert is not None:
             files.insert(1, ('q.cert', cert))
+            self.overview(what, [], logs, files[:2], [])
             ask(CHECK, [], 'check', *of, '--cert', 'q.cert')
             ask(EXPLAIN_CERT, [], 'explain', *of, '--cert', 'q.cert')
 

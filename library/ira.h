@@ -41,7 +41,9 @@ enum ira_request {
                            * the seed, how many draws a node is given, the most records of a log, how many terms */
     IRA_PAGE,             /* as IRA_DRAW, a page to move in the picture */
     IRA_JSON,             /* before IRA_LOGS to IRA_EVENTS, IRA_DECIDE and IRA_CHECK: JSON in place of other lines */
-    IRA_LEADERS           /* before IRA_SHOW and IRA_EVENTS: how many nodes are to lead, and their places; any, with 0 */
+    IRA_LEADERS,          /* before IRA_SHOW and IRA_EVENTS: how many nodes are to lead, and their places; any, with 0 */
+    IRA_OVERVIEW          /* several of these, with a reply each, as crates/ira_web says: 0, 1 with a question, 2 with a
+                           * certificate too; the first and the last column, and a moment; these files, logs */
 };
 
 /* What comes of a request: a status of the program, or why there is none. */
@@ -64,9 +66,10 @@ enum ira_result {
  *
  * A result below 3 is the status of what comes of the request: `out` begins with its parts, one after another, and
  * `sizes` with how many they are and how many bytes each is. The parts are what the program would print on standard
- * output, what on standard error, and each file that it would write. A result of IRA_NO_ROOM comes only where `out` and
- * `sizes` have no room for these. From 3 on nothing of `out` and `sizes` counts. When IRA_OUT_OF_MEMORY and
- * IRA_NO_REQUEST come is not proved.
+ * output, what on standard error, and each file that it would write. Those of several replies stand one after another,
+ * in `sizes` too, and the status is that of the first. A result of IRA_NO_ROOM comes only where `out` and `sizes` have
+ * no room for these. From 3 on nothing of `out` and `sizes` counts. When IRA_OUT_OF_MEMORY and IRA_NO_REQUEST come is
+ * not proved.
  *
  * It keeps nothing between calls, so threads may call it side by side, each with memory of its own. */
 uint32_t ira_serve(void *lent, size_t lent_size, const uint64_t *values, size_t values_count, const uint8_t *bytes,
@@ -105,7 +108,8 @@ static inline void ira_free(struct ira_room *room) {
 }
 
 /* Asks with room that grows where it is too little, up to the system's memory: the result, which `room` has too, with
- * the parts. What isn't touched of the room costs nothing where the system gives pages as they are touched. */
+ * the parts of the first reply. What isn't touched of the room costs nothing where the system gives pages as they are
+ * touched. */
 static inline uint32_t ira_ask(struct ira_room *room, const uint64_t *values, size_t values_count,
                                const struct ira_file *files, size_t files_count) {
     size_t total = 0, at = 0, lent = room->lent_size, out = room->out_size, names = files_count * 2 * sizeof(size_t);

@@ -16,7 +16,7 @@ const compiled = new WebAssembly.Module(inPage ? Buffer.from(inPage, 'base64') :
 
 // The numbers of ira.h.
 export const [LOG, LOGS, EXPLAIN_LOG, EXPLAIN, EXPLAIN_QUESTION, EXPLAIN_CERT, SHOW, EVENTS, DRAW, DECIDE, CHECK, PAIRS,
-  UPGRADE, MEND, RUN, PAGE, JSON_LINES, LEADERS] = Array(18).keys();
+  UPGRADE, MEND, RUN, PAGE, JSON_LINES, LEADERS, OVERVIEW] = Array(19).keys();
 export const [YES, NO, REFUSED, OUT_OF_MEMORY, NO_REQUEST, NO_ROOM] = Array(6).keys();
 
 export const ALL = [0n, 2n ** 64n - 1n];

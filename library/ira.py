@@ -22,7 +22,7 @@ _serve.argtypes = [ctypes.c_void_p, ctypes.c_size_t] * 6
 
 # The numbers of ira.h.
 LOG, LOGS, EXPLAIN_LOG, EXPLAIN, EXPLAIN_QUESTION, EXPLAIN_CERT, SHOW, EVENTS, DRAW, DECIDE, CHECK, PAIRS, UPGRADE, \
-    MEND, RUN, PAGE, JSON, LEADERS = range(18)
+    MEND, RUN, PAGE, JSON, LEADERS, OVERVIEW = range(19)
 YES, NO, REFUSED, OUT_OF_MEMORY, NO_REQUEST, NO_ROOM = range(6)
 
 ALL = (0, 2 ** 64 - 1)

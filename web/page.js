@@ -57,14 +57,16 @@ function send(message) {
 }
 
 const [LOG, LOGS, EXPLAIN_LOG, EXPLAIN, EXPLAIN_QUESTION, EXPLAIN_CERT, SHOW, EVENTS, DRAW, DECIDE, CHECK, PAIRS,
-  UPGRADE, MEND, RUN, PAGE, AS_JSON, LEADERS] = Array(18).keys();
+  UPGRADE, MEND, RUN, PAGE, AS_JSON, LEADERS, OVERVIEW] = Array(19).keys();
 
-// The status of a command, and what it prints and writes.
-async function ask(values, files) {
-  const {status, parts} = await send({values, files});
+// The status of the first of so many commands, and what each prints and writes.
+async function askAll(values, files, count) {
+  const {status, replies} = await send({values, files, count});
   if (status > 2) throw new Error('The auditor has no such request.');
-  return {status, out: decoder.decode(parts[0]), err: decoder.decode(parts[1]), files: parts.slice(2)};
+  return replies.map(([out, err, ...files]) =>
+    ({status, out: decoder.decode(out), err: decoder.decode(err), files}));
 }
+const ask = async (values, files) => (await askAll(values, files, 1))[0];
 
 // ---- what is given ----
 let rings = new Map, chosen, logs = [], question = null, cert = null;
@@ -193,11 +195,9 @@ function asJson(line, values, files) {
   }), {once: true});
   return lines;
 }
-// A command that has an answer in words and as JSON, and perhaps files to save.
-async function answered(title, line, values, files, links = () => []) {
-  const answer = await ask(values, files);
-  return piece(title, line, answer, links(answer), asJson(line, values, files));
-}
+// What came of a command that has an answer in words and as JSON, and perhaps files to save.
+const answered = (title, line, answer, values, files, links) =>
+  piece(title, line, answer, links, asJson(line, values, files));
 
 // A picture in a tree of its own, in which its style stays.
 function picture(bytes, more) {
@@ -233,32 +233,43 @@ async function judge() {
   $('answer').textContent = '\u2026';
   await told(async () => {
     if (asked.size) await begin();
-    const add = made => isNow() && $('answers').append(made), isOne = logs.length == 1;
-    const names = namesOf(logs), moment = momentAsked();
-    const {status, out, err} = await ask([isOne ? LOG : LOGS], logs);
-    if (!isNow()) return;
-    $('judged').textContent = `$ ira ${isOne ? '<' : 'logs'} ${names}`;
-    $('answer').textContent = (out || err).trim() + (isOne ? ', by itself' : '');
-    $('answer').className = status ? 'bad' : 'yes';
-    if (isOne) return add(await answered('Why', `explain < ${names}`, [EXPLAIN_LOG], logs));
-    $('json').append(asJson(`logs ${names}`, [LOGS], logs));
-    add(await answered('Why', `explain ${names}`, [EXPLAIN], logs));
-    if (question) await answerQuestion(names, add);
+    const add = made => isNow() && $('answers').append(made), names = namesOf(logs);
+    const first = (line, {status, out, err}, more = '') => {
+      $('judged').textContent = `$ ira ${line}`;
+      $('answer').textContent = (out || err).trim() + more;
+      $('answer').className = status ? 'bad' : 'yes';
+    };
+    if (logs.length == 1) {
+      const answer = await ask([LOG], logs);
+      if (!isNow()) return;
+      first(`< ${names}`, answer, ', by itself');
+      return add(answered('Why', `explain < ${names}`, await ask([EXPLAIN_LOG], logs), [EXPLAIN_LOG], logs));
+    }
+    const moment = momentAsked(), at = moment ?? {values: [], files: []};
     const [from, to] = [number($('from').value, 0n), number($('to').value, 2n ** 64n - 1n)];
+    const shown = [from ?? 0n, to ?? 0n, ...at.values];
+    const given = [question, cert].filter(file => file), end = 2 + 2 * given.length;
+    const replies = await askAll([OVERVIEW, given.length, ...shown], [...given, ...logs], end + 2);
+    if (!isNow()) return;
+    const [answer, why] = replies, [drawn, page] = replies.slice(end), {status} = answer;
+    first(`logs ${names}`, answer);
+    $('json').append(asJson(`logs ${names}`, [LOGS], logs));
+    add(answered('Why', `explain ${names}`, why, [EXPLAIN], logs));
+    if (question) addQuestion(names, replies.slice(2, end), add);
     if (!moment) return fault('A moment is numbers with commas between them.');
     if (from == null || to == null) return fault('A column is a number.');
-    const files = [...moment.files, ...logs], shown = [from, to, ...moment.values];
+    const files = [...moment.files, ...logs], [svg] = drawn.files;
     const columns = `${$('from').value && `--from ${from} `}${$('to').value && `--to ${to} `}`;
     const line = kind => `draw ${moment.words}${columns}--out ring.${kind} ${names}`;
-    const drawn = await ask([DRAW, ...shown], files), [svg] = drawn.files;
     if (svg || drawn.err) add(piece('Picture', line('svg'), {...drawn, out: ''},
       svg && picture(svg, toMoveIn(line('html'), [PAGE, ...shown], files))));
     if (status) return;
     const leaders = leadersAsked();
     if (!leaders) return fault('Who is to lead are places with commas between them, or any.');
-    add(await answered('Who leads, and what is on its way', `show ${leaders.words}${moment.words}${names}`,
-      [...leaders.values, SHOW, ...moment.values], files));
-    add(await answered('An order of all events', `show --events ${moment.words}${names}`, [EVENTS, ...moment.values],
+    const looks = [...leaders.values, SHOW, ...moment.values], events = [EVENTS, ...moment.values];
+    add(answered('Who leads, and what is on its way', `show ${leaders.words}${moment.words}${names}`,
+      leaders.words ? await ask(looks, files) : page, looks, files));
+    add(answered('An order of all events', `show --events ${moment.words}${names}`, await ask(events, files), events,
       files));
   });
   if (isNow()) await told(() => answerEach(made => isNow() && $('answers').prepend(made)));
@@ -271,16 +282,15 @@ async function answerEach(add) {
   const out = each.map(({name, ring}) => `${shownName(name)}: ${ring.answer}`).join('');
   add(piece('Each folder', `logs --each ${namesOf(each)}`, {out}));
 }
-async function answerQuestion(names, add) {
-  const of = `--question ${quoted(question)}`, files = [question, ...logs];
-  add(await answered('The question', `decide ${of} --out question.cert ${names}`, [DECIDE], files,
-    ({files: [found]}) => found && tag('p', {}, 'Save: ', save('question.cert', found),
-      ', the certificate that no moment held it')));
-  add(await answered('The question, explained', `explain ${of} ${names}`, [EXPLAIN_QUESTION], files));
+function addQuestion(names, [decided, explained, checked, certified], add) {
+  const of = `--question ${quoted(question)}`, files = [question, ...logs], [found] = decided.files;
+  add(answered('The question', `decide ${of} --out question.cert ${names}`, decided, [DECIDE], files,
+    found && tag('p', {}, 'Save: ', save('question.cert', found), ', the certificate that no moment held it')));
+  add(answered('The question, explained', `explain ${of} ${names}`, explained, [EXPLAIN_QUESTION], files));
   if (!cert) return;
-  const line = `${of} --cert ${quoted(cert)} ${names}`, certified = [question, cert, ...logs];
-  add(await answered('The certificate', `check ${line}`, [CHECK], certified));
-  add(await answered('The certificate, explained', `explain ${line}`, [EXPLAIN_CERT], certified));
+  const line = `${of} --cert ${quoted(cert)} ${names}`, all = [question, cert, ...logs];
+  add(answered('The certificate', `check ${line}`, checked, [CHECK], all));
+  add(answered('The certificate, explained', `explain ${line}`, certified, [EXPLAIN_CERT], all));
 }
 
 // An archive of files, each at most 8 GB.

@@ -1,4 +1,5 @@
 pub mod Outputs
+pub mod Overviews
 pub mod Printed
 pub mod Runs
 pub mod Served

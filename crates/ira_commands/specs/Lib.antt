@@ -12,6 +12,7 @@ pub mod Judging
 pub mod LogsCommand
 pub mod Mend
 pub mod Output
+pub mod Overview
 pub mod Pairs
 pub mod Reply
 pub mod RingForm

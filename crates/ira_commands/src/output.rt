@@ -1,10 +1,9 @@
-ghost use Rattle.std.specs.Prelude.{IfOk};
-ghost use Rattle.ira_commands.specs.Output.{IsPrinted, WroteOutput, printed_by};
+ghost use Rattle.ira_commands.specs.Output.{WroteOutput, printed_by};
 ghost use Rattle.ira_commands.specs.Output.Printed.{all_events};
 
 use crate::json_lines::JsonLines;
 use ira_audit::Answer;
-use ira_event::{MemorySink, OutOfMemory, Sink, write_bytes};
+use ira_event::{MemorySink, Sink, write_bytes};
 use ira_view::{ShownRing, write_view};
 use ira_view_page::{PageText, ShowFault};
 use std::alloc::Allocator;
@@ -50,22 +49,6 @@ impl<A: Allocator + Clone> Output<A> {
                 differences,
             } => write_events(alloc.clone()?, ring, differences, sink),
             Output::Json(lines) => lines.write(sink),
-        }
-    }
-
-    /// All of it in memory.
-    pub fn into_text(self, alloc: A) -> Result<MemorySink<A>, OutOfMemory>
-        ensures { IfOk result (λ text. IsPrinted (printed_by self) text.bytes) }
-    {
-        match self {
-            Output::Text(text) => Ok(text),
-            lines => {
-                let mut text = MemorySink::new(alloc);
-                let Ok(()) = lines.write(&mut text) else {
-                    return Err(OutOfMemory);
-                };
-                Ok(text)
-            }
         }
     }
 }

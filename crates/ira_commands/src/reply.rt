@@ -144,19 +144,4 @@ impl<A: Allocator + Clone> Reply<A> {
     {
         &self.files
     }
-
-    /// What is printed on standard output, why it is refused, and the files that are made.
-    pub fn into_parts(self) -> (Output<A>, Option<CommandFault>, Files<A>)
-        ensures out { printed_by result.0 ≡ self.out }
-        ensures fault { result.1 ≡ self.fault }
-        ensures files { made result.2 ≡ self.files }
-    {
-        let Reply {
-            status: _,
-            out,
-            fault,
-            files,
-        } = self;
-        (out, fault, files)
-    }
 }

@@ -5,6 +5,7 @@ ghost use Rattle.ira_audit.specs.declared.judged.Judged.TheVariants.{Refused};
 ghost use Rattle.ira_view.specs.ShownRing.{IsPageOf};
 ghost use Rattle.ira_view.specs.Texts.{AreFiles, texts_of};
 ghost use Rattle.ira_commands.specs.Output.{AreLinesAfter};
+ghost use Rattle.ira_commands.specs.Overview.{page_form};
 ghost use Rattle.ira_commands.specs.Reply.{Prints};
 ghost use Rattle.ira_commands.specs.RingForm.{leaders_of, wants_page};
 ghost use Rattle.ira_commands.specs.RingLeaders.{AreDifferencesOf};
@@ -24,8 +25,8 @@ use ira_view::{
     Form, RingFault, ShownRing, Status, refused_html, refused_lines, ring_html, write_view,
 };
 use ira_view_draw::draw_refused;
-use ira_view_page::{NamedText, PageText};
-use ira_view_picture::DrawFault;
+use ira_view_page::{NamedText, Page, PageText};
+use ira_view_picture::{ColumnRange, DrawFault};
 use std::alloc::Allocator;
 
 /// Why there is no such moment.
@@ -114,6 +115,18 @@ fn tell_picture<A: Allocator + Clone>(
     }
 }
 
+/// A picture of a ring at these columns.
+fn tell_drawn<A: Allocator + Clone>(
+    alloc: A,
+    ring: &ShownRing<A>,
+    columns: ColumnRange,
+) -> Result<Reply<A>, OutOfMemory>
+    ensures { IfOk result (TellsRing (RingForm.Picture columns) ring.now) }
+{
+    let picture = ring.picture(alloc.clone()?, columns);
+    tell_picture(alloc, &Answer::Yes, picture)
+}
+
 /// A ring, whose logs are in files of these names, in a form, where lines come after these on who leads.
 fn tell_ring<A: Allocator + Clone>(
     alloc: A,
@@ -128,10 +141,7 @@ fn tell_ring<A: Allocator + Clone>(
 {
     match form {
         RingForm::Lines(lines) => tell_lines(alloc, lines, ring, differences, names),
-        RingForm::Picture(columns) => {
-            let picture = ring.picture(alloc.clone()?, columns);
-            tell_picture(alloc, &Answer::Yes, picture)
-        }
+        RingForm::Picture(columns) => tell_drawn(alloc, &ring, columns),
         RingForm::Html(columns) => {
             let page = ring_html(alloc.clone()?, &ring, &names, columns);
             tell_picture(alloc, &Answer::Yes, page)
@@ -224,6 +234,57 @@ pub(crate) fn show_ring<A: Allocator + Clone>(
         Judged::Refused(refused) => tell_refused(alloc, form, &refused, told),
         Judged::NoRing(reason) => {
             Reply::of_answer_as(alloc, form.of_answer(), &Answer::No(reason))
+        }
+    }
+}
+
+/// A picture of a ring at these columns, and what it looks like at its moment.
+fn tell_both<A: Allocator + Clone>(
+    alloc: A,
+    ring: &ShownRing<A>,
+    columns: ColumnRange,
+) -> Result<(Reply<A>, Reply<A>), OutOfMemory>
+    ensures { IfOk result (λ both. TellsRing (RingForm.Picture columns) ring.now both.0
+        × TellsRing page_form ring.now both.1) }
+{
+    let picture = tell_drawn(alloc.clone()?, ring, columns)?;
+    let none = Page::new(alloc.clone()?).finish()?;
+    let page = tell_page(alloc, ring, &none, Status::of_differences(none.bytes()))?;
+    Ok((picture, page))
+}
+
+/// The ring of logs at the moment that is asked for, of a question of this text where it is the first of one: a picture of
+/// it at these columns, and what it looks like.
+pub(crate) fn show_overview<A: Allocator + Clone>(
+    alloc: A,
+    columns: ColumnRange,
+    moment: &RingMoment<'_>,
+    question: &[u8],
+    judged: Judged<A>,
+) -> Result<(Reply<A>, Reply<A>), OutOfMemory>
+    requires { (texts : List (List ℕ)) × IsJudged texts judged }
+    ensures { (names texts : List (List ℕ)) → IsJudged texts judged → IfOk result (λ shown.
+        ShowsLogs A (RingForm.Picture columns) moment.now question.now names texts shown.0
+        × ShowsLogs A page_form moment.now question.now names texts shown.1) }
+{
+    match judged {
+        Judged::Good(logs) => match moment.ring(alloc.clone()?, logs, question) {
+            Ok(ring) => tell_both(alloc, &ring, columns),
+            Err(fault) => {
+                let picture = tell_fault(alloc.clone()?, Form::Words, fault)?;
+                Ok((picture, tell_fault(alloc, Form::Words, fault)?))
+            }
+        },
+        Judged::Refused(refused) => {
+            let form = RingForm::Picture(columns);
+            let picture = tell_refused(alloc.clone()?, form, &refused, b"")?;
+            let answer = Answer::No(refused.reason());
+            Ok((picture, Reply::of_answer_as(alloc, Form::Words, &answer)?))
+        }
+        Judged::NoRing(reason) => {
+            let answer = Answer::No(reason);
+            let picture = Reply::of_answer_as(alloc.clone()?, Form::Words, &answer)?;
+            Ok((picture, Reply::of_answer_as(alloc, Form::Words, &answer)?))
         }
     }
 }

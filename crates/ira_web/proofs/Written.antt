@@ -1,37 +1,69 @@
--- What is written of a reply.
-use Rattle.std.proofs.Common.{◌≡◌, ◌<◌, ◌≤◌, ℕ, List, [], ◌∷◌, ap, arith, inl, inr, length, map, refl, subst, sym, take}
-use Rattle.std.proofs.lemmas.List.{length-map}
-use Rattle.std.proofs.lemmas.List.Folds.{flat_map-map}
-use Rattle.std.specs.List.{flat_map}
-use Rattle.std.specs.Prelude.{slice_set}
-use Rattle.ira_event.specs.Sink.{Memory}
-use Rattle.ira_web.specs.Told.{Begins, HasNoRoom, IsTold}
+-- What is written of replies.
+use Rattle.std.proofs.Common.{◌≡◌, ◌∙◌, ◌-◌, ℕ, List, [], ◌++◌, ◌∷◌, Some, ap, append_assoc, arith, length, map, rules, sym}
+use Rattle.std.proofs.lemmas.Grind.{flat_map-append}
+use Rattle.std.proofs.lemmas.List.{append-nil, flat_map_more, length-append, map-append}
+use Rattle.std.specs.List.{AllZip, flat_map, slice_get}
+use Rattle.ira_commands.specs.Reply.{Reply}
+use Rattle.ira_view.specs.declared.status.Status.{Status}
+use Rattle.ira_web.specs.Told.{Adds, AddsReply, AreParts, Holds, TellsReplies}
+use Rattle.ira_web.specs.declared.told.Told.{Told}
 
--- the first item is set
-pub first_set : (xs : List ℕ) (x n : ℕ) → n < length xs → (n < length (slice_set xs 0 x)) × (take 1 (slice_set xs 0 x) ≡ x ∷ [])
-first_set [] x n below = absurd (omega (arith, below))
-first_set (y ∷ ys) x n below = (below, refl)
+-- the length of what was written behind a text
+pub grown : (before after old all more : List ℕ) → before ≡ old → after ≡ all → all ≡ old ++ more
+    → length after - length before ≡ length more
+grown before after old all more p q r = omega (arith, ap length p, ap length q, ap length r, length-append old more)
 
--- what is written of sinks is written of their bytes
-pub told : (parts : List Memory) (out sizes : List ℕ) → Begins (flat_map (λ part. part.bytes) parts) out
-    → Begins (length parts ∷ map (λ part. length part.bytes) parts) sizes → IsTold (map (λ part. part.bytes) parts) out sizes
-told parts out sizes wrote sized = (
-  subst (λ (all : List ℕ). Begins all out) (sym (flat_map-map (λ (part : List ℕ). part) (λ (part : Memory). part.bytes) parts)) wrote,
-  subst (λ (all : List ℕ). Begins all sizes) (λ i. sym (length-map parts (λ (part : Memory). part.bytes)) i ∷ sym (maps parts) i) sized,
+-- nothing was added
+pub adds_none : {A : Type 0} (told : Told A) → Adds [] told told
+adds_none told = (sym (append-nil told.text.bytes), sym (append-nil told.sizes.items))
+
+-- a part was
+pub adds_part : {A : Type 0} (part : List ℕ) (old new : Told A) → new.text.bytes ≡ old.text.bytes ++ part
+    → new.sizes.items ≡ old.sizes.items ++ length part ∷ [] → Adds (part ∷ []) old new
+adds_part part old new text sizes = (text ∙ ap (λ (t : List ℕ). old.text.bytes ++ t) (sym (append-nil part)), sizes)
+
+-- and then others
+pub adds_both : {A : Type 0} (ps qs : List (List ℕ)) (a b c : Told A) → Adds ps a b → Adds qs b c → Adds (ps ++ qs) a c
+adds_both ps qs a b c p q = (
+  q.0 ∙ ap (λ (t : List ℕ). t ++ flat_map (λ part. part) qs) p.0
+      ∙ append_assoc a.text.bytes (flat_map (λ part. part) ps) (flat_map (λ part. part) qs)
+      ∙ ap (λ (t : List ℕ). a.text.bytes ++ t) (sym (flat_map-append (λ (part : List ℕ). part) ps qs)),
+  q.1 ∙ ap (λ (t : List ℕ). t ++ map length qs) p.1 ∙ append_assoc a.sizes.items (map length ps) (map length qs)
+      ∙ ap (λ (t : List ℕ). a.sizes.items ++ t) (sym (map-append length ps qs)),
 )
-  where
-    maps : (ps : List Memory) → map length (map (λ part. part.bytes) ps) ≡ map (λ part. length part.bytes) ps
-    maps [] = refl
-    maps (p ∷ ps) = ap (λ w. length p.bytes ∷ w) (maps ps)
 
--- there are fewer bytes than those of the sinks, or too few lengths
-pub no_bytes : (parts : List Memory) (out sizes : List ℕ) → length out < length (flat_map (λ part. part.bytes) parts)
-    → HasNoRoom (map (λ part. part.bytes) parts) out sizes
-no_bytes parts out sizes below =
-    let all = flat_map-map (λ (part : List ℕ). part) (λ (part : Memory). part.bytes) parts in
-    inl (subst (λ (bytes : List ℕ). length out < length bytes) (sym all) below)
+-- their number was, and then they
+pub adds_reply : {A : Type 0} (n : ℕ) (parts : List (List ℕ)) (old begun new : Told A) → n ≡ length parts
+    → begun.text.bytes ≡ old.text.bytes → begun.sizes.items ≡ old.sizes.items ++ n ∷ [] → Adds parts begun new
+    → AddsReply parts old new
+adds_reply n parts old begun new is text sizes adds = (
+  adds.0 ∙ ap (λ (t : List ℕ). t ++ flat_map (λ part. part) parts) text,
+  adds.1 ∙ ap (λ (t : List ℕ). t ++ map length parts) sizes
+      ∙ append_assoc old.sizes.items (n ∷ []) (map length parts)
+      ∙ ap (λ (m : ℕ). old.sizes.items ++ m ∷ map length parts) is,
+)
 
-pub no_sizes : (parts : List Memory) (out sizes : List ℕ) → length sizes ≤ length parts
-    → HasNoRoom (map (λ part. part.bytes) parts) out sizes
-no_sizes parts out sizes few =
-    inr (subst (λ (n : ℕ). length sizes ≤ n) (sym (length-map parts (λ (part : Memory). part.bytes))) few)
+-- a reply was added to what is told
+pub holds_more : {A : Type 0} (replies : List (List (List ℕ))) (parts : List (List ℕ)) (old new : Told A)
+    → Holds replies old → AddsReply parts old new → Holds (replies ++ parts ∷ []) new
+holds_more replies parts old new holds adds = (
+  adds.0 ∙ ap (λ (t : List ℕ). t ++ flat_map (λ part. part) parts) holds.0
+      ∙ flat_map_more (λ (ps : List (List ℕ)). flat_map (λ part. part) ps) [] replies parts,
+  adds.1 ∙ ap (λ (t : List ℕ). t ++ length parts ∷ map length parts) holds.1
+      ∙ flat_map_more (λ (ps : List (List ℕ)). length ps ∷ map length ps) [] replies parts,
+)
+
+-- one more of each
+pub zip_push : {X Y : Type 0} (R : X → Y → Type 0) (xs : List X) (ys : List Y) (x : X) (y : Y) → AllZip R xs ys → R x y
+    → AllZip R (xs ++ x ∷ []) (ys ++ y ∷ [])
+zip_push R [] [] x y all is = (is, tt)
+zip_push R [] (z ∷ ys) x y all is = absurd all
+zip_push R (z ∷ xs) [] x y all is = absurd all
+zip_push R (z ∷ xs) (w ∷ ys) x y all is = (all.0, zip_push R xs ys x y all.1 is)
+
+-- the parts of replies, with the status of the first, are told of them
+pub tells : (replies : List Reply) (first : Reply) (status : Status) (parts : List (List (List ℕ)))
+    → slice_get replies 0 ≡ Some first → status ≡ first.status → AllZip AreParts replies parts
+    → TellsReplies replies (record { status = status; parts = parts })
+tells [] first status parts at is are = absurd (search rules)
+tells (reply ∷ more) first status parts at is are = (search rules, are)

@@ -3,6 +3,8 @@ use Rattle.std.specs.Prelude.{◌≡◌, ℕ, Bool, List, [], ◌++◌, ◌∷�
 use Rattle.ira_commands.specs.declared.logs_command.LogsCommand.{LogsCommand}
 use Rattle.ira_commands.specs.declared.logs_command.LogsCommand.TheVariants.{Answer, Check, Decide, Explain, ExplainCheck}
 use Rattle.ira_commands.specs.declared.logs_command.LogsCommand.TheVariants.{Expect, ExplainQuestion, Show}
+use Rattle.ira_commands.specs.declared.overview.OverviewQuestion.{OverviewQuestion}
+use Rattle.ira_commands.specs.declared.overview.OverviewQuestion.TheVariants.{Certified, Decided, NotAsked}
 use Rattle.ira_commands.specs.declared.ring_form.RingForm.{RingForm}
 use Rattle.ira_commands.specs.declared.ring_form.RingForm.TheVariants.{Html, Lines, Picture}
 use Rattle.ira_view.specs.declared.form.Form.{Form}
@@ -10,7 +12,7 @@ use Rattle.ira_view.specs.declared.form.Form.TheVariants.{Json, Words}
 use Rattle.ira_view_picture.specs.declared.column_range.ColumnRange.{ColumnRange}
 use Rattle.ira_web.specs.Spelling.{case_values, leaders_values, moment_values, run_values}
 use Rattle.ira_web.specs.declared.request.Request.{Request}
-use Rattle.ira_web.specs.declared.request.Request.TheVariants.{ExplainLog, Mend, OfLogs, OneLog, Pairs, Run, Upgrade}
+use Rattle.ira_web.specs.declared.request.Request.TheVariants.{AllOf, ExplainLog, Mend, OfLogs, OneLog, Pairs, Run, Upgrade}
 
 -- the number that says that lines of JSON are wanted, where they are
 abbrev pub json_values : Form → List ℕ
@@ -21,6 +23,12 @@ json_values Words = []
 abbrev pub lines_values : Bool → List ℕ
 lines_values false = 6 ∷ []
 lines_values true = 7 ∷ []
+
+-- the number of what an overview tells of a question
+abbrev pub question_value : OverviewQuestion → ℕ
+question_value NotAsked = 0
+question_value Decided = 1
+question_value Certified = 2
 
 -- columns from one to another
 abbrev pub AreColumns : ColumnRange → ℕ → ℕ → Type 0
@@ -52,6 +60,8 @@ abbrev pub HasValues : Request → List ℕ → Type 0
 HasValues OneLog values = values ≡ 0 ∷ []
 HasValues (ExplainLog form) values = values ≡ json_values form ++ 2 ∷ []
 HasValues (OfLogs command) values = HasCommandValues command values
+HasValues (AllOf overview) values = (from : ℕ) × (to : ℕ) × AreColumns overview.columns from to
+    × (values ≡ 18 ∷ question_value overview.question ∷ from ∷ to ∷ moment_values overview.moment)
 HasValues (Pairs nodes) values = values ≡ 11 ∷ nodes ∷ []
 HasValues Upgrade values = values ≡ 12 ∷ []
 HasValues (Mend false) values = values ≡ 13 ∷ 0 ∷ []

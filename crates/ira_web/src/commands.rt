@@ -5,13 +5,16 @@ ghost use Rattle.ira_commands.specs.Reply.{Reports};
 ghost use Rattle.ira_commands.specs.Upgrade.{UpgradesTexts};
 ghost use Rattle.ira_mend.specs.RecordedLogs.{HasRecorded};
 ghost use Rattle.ira_view.specs.Texts.{texts_of};
-ghost use Rattle.ira_web.specs.Serves.{AnswersFiles, AreCommandFiles};
+ghost use Rattle.ira_web.specs.Serves.{AnswersAll, AnswersFiles, AreCommandFiles, widest_command};
 
 use ira_audit::LogAudit;
-use ira_commands::{GivenFiles, LogsCommand, Reply, RingMoment, answer, mend_left, upgrade_taken};
+use ira_commands::{
+    GivenFiles, LogsCommand, Overview, OverviewQuestion, Reply, RingForm, RingMoment, answer,
+    answer_overview, mend_left, upgrade_taken,
+};
 use ira_event::OutOfMemory;
 use ira_mend::RecordedLogs;
-use ira_view::take_texts;
+use ira_view::{AskedFiles, Form, take_texts};
 use ira_view_page::NamedText;
 use std::alloc::{AllocError, Allocator};
 
@@ -131,4 +134,39 @@ pub(crate) fn answer_command<A: Allocator + Clone>(
         logs,
     };
     Ok(Some(answer(alloc, command, given, judged)?))
+}
+
+/// The command of an overview that has each of its files.
+fn widest_command<'v>(overview: &Overview<'v>) -> LogsCommand<'v>
+    ensures { result ≡ widest_command overview.now.question overview.now }
+{
+    match overview.question {
+        OverviewQuestion::NotAsked => {
+            LogsCommand::Show(RingForm::Picture(overview.columns), overview.moment)
+        }
+        OverviewQuestion::Decided => LogsCommand::Decide {
+            form: Form::Words,
+            certify: true,
+        },
+        OverviewQuestion::Certified => LogsCommand::Check { form: Form::Words },
+    }
+}
+
+/// What comes of the commands of an overview; nothing where a file that they have is missing.
+pub(crate) fn answer_all<A: Allocator + Clone>(
+    alloc: A,
+    overview: Overview<'_>,
+    files: &[NamedText<'_>],
+) -> Result<Option<Vec<Reply<A>, A>>, OutOfMemory>
+    ensures { IfOk result (λ served. IfSome served (λ replies. AnswersAll A overview.entry files.now replies.items)) }
+{
+    let Some((question, certificate, logs)) = split_files(&widest_command(&overview), files) else {
+        return Ok(None);
+    };
+    let judged = take_texts(alloc.clone()?, logs)?.judge()?;
+    let asked = AskedFiles {
+        logs,
+        question: &question,
+    };
+    Ok(Some(answer_overview(alloc, overview, asked, &certificate, judged)?))
 }

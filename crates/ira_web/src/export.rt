@@ -2,6 +2,7 @@ ghost use types.Logic.{sem};
 ghost use Rattle.std.specs.Prelude.{◌≡◌, IfOk, IfSome};
 ghost use Rattle.ira_lent.specs.Room.{lies_free};
 ghost use Rattle.ira_web.specs.Serves.{IsAnsweredAs, MayBeServed};
+ghost use Rattle.ira_web.specs.Told.{Holds, ToldReplies};
 
 use crate::files::read_files;
 use crate::request::Request;
@@ -54,9 +55,9 @@ fn serve_in(
 {
     let lent = Lent::new(room);
     match answer(&lent, values, bytes, lengths) {
-        Ok(Some(told)) => {
+        Ok(Some((status, told))) => {
             if told.tell(out, sizes) {
-                u32::from(told.status().number())
+                u32::from(status.number())
             } else {
                 NO_ROOM
             }
@@ -66,14 +67,15 @@ fn serve_in(
     }
 }
 
-/// What comes of the request of these values and files, in parts, if it is one.
+/// What comes of the request of these values and files, if it is one.
 fn answer<'a>(
     lent: &'a Lent,
     values: &[u64],
     bytes: &[u8],
     lengths: &[usize],
-) -> Result<Option<Told<&'a Lent>>, OutOfMemory>
-    ensures { IfOk result (λ answered. IfSome answered (IsAnsweredAs values.now lengths.now bytes.now)) }
+) -> Result<Option<(Status, Told<&'a Lent>)>, OutOfMemory>
+    ensures { IfOk result (λ answered. IfSome answered (λ told. (replies : ToldReplies)
+        × IsAnsweredAs values.now lengths.now bytes.now replies × (told.0 ≡ replies.status) × Holds replies.parts told.1)) }
 {
     let Some(request) = Request::of_values(values) else {
         return Ok(None);
@@ -81,8 +83,11 @@ fn answer<'a>(
     let Some(files) = read_files(lent, lengths, bytes)? else {
         return Ok(None);
     };
-    let Some(reply) = serve(lent, &request, &files)? else {
+    let Some(replies) = serve(lent, &request, &files)? else {
         return Ok(None);
     };
-    Ok(Some(Told::of_reply(lent, reply)?))
+    let Some(first) = replies.first() else {
+        return Ok(None);
+    };
+    Ok(Some((first.status(), Told::of_replies(lent, &replies)?)))
 }

@@ -1,8 +1,10 @@
 ghost use Rattle.std.specs.Prelude.{◌≡◌, ◌++◌, ◌∷◌, IfSome, length};
-ghost use Rattle.ira_web.specs.Request.{AreColumns, HasValues, json_values, lines_values};
+ghost use Rattle.ira_web.specs.Request.{AreColumns, HasValues, json_values, lines_values, question_value};
 ghost use Rattle.ira_web.specs.Spelling.{leaders_values, moment_values, run_values};
 
-use ira_commands::{AskedRun, LinesForm, LogsCommand, RingForm, RingLeaders, RingMoment};
+use ira_commands::{
+    AskedRun, LinesForm, LogsCommand, Overview, OverviewQuestion, RingForm, RingLeaders, RingMoment,
+};
 use ira_view::Form;
 use ira_view_picture::ColumnRange;
 
@@ -42,6 +44,8 @@ const PAGE: u64 = 15;
 const JSON: u64 = 16;
 
 const LEADERS: u64 = 17;
+
+const OVERVIEW: u64 = 18;
 
 // What begins a moment that isn't the end of the logs.
 const AT_CUT: u64 = 1;
@@ -99,6 +103,18 @@ fn columns(from: u64, to: u64) -> ColumnRange
     }
 }
 
+/// What an overview tells of a question by this number, if it is one of these.
+fn question_of(number: u64) -> Option<OverviewQuestion>
+    ensures { IfSome result (λ question. question_value question ≡ number) }
+{
+    match number {
+        0 => Some(OverviewQuestion::NotAsked),
+        1 => Some(OverviewQuestion::Decided),
+        2 => Some(OverviewQuestion::Certified),
+        _ => None,
+    }
+}
+
 /// What a page asks for.
 #[derive(Clone, Copy)]
 pub(crate) enum Request<'v> {
@@ -108,6 +124,8 @@ pub(crate) enum Request<'v> {
     ExplainLog { form: Form },
     /// A command on the logs of a ring.
     OfLogs(LogsCommand<'v>),
+    /// Several of these at once.
+    AllOf(Overview<'v>),
     /// The question whether two nodes of a ring of so many ever lead at once.
     Pairs(u64),
     /// The logs of a ring in version 2.
@@ -133,6 +151,9 @@ impl<'v> Request<'v> {
             [MEND, 1] => Some(Request::Mend(true)),
             [RUN, run @ ..] => Some(Request::Run(run_of(run)?)),
             [PAGE, from, to, moment @ ..] => Request::html(*from, *to, moment),
+            [OVERVIEW, question, from, to, moment @ ..] => {
+                Request::overview(*question, *from, *to, moment)
+            }
             [JSON, told @ ..] => Request::told(Form::Json, told),
             told => Request::told(Form::Words, told),
         }
@@ -215,5 +236,17 @@ impl<'v> Request<'v> {
     {
         let form = RingForm::Html(columns(from, to));
         Some(Request::OfLogs(LogsCommand::Show(form, moment_of(moment)?)))
+    }
+
+    /// An overview that tells this of a question, with a picture from one column to another, at the moment of these values,
+    /// if they are those of one.
+    fn overview(question: u64, from: u64, to: u64, moment: &'v [u64]) -> Option<Request<'v>>
+        ensures { IfSome result (λ request. HasValues request (OVERVIEW ∷ question ∷ from ∷ to ∷ moment.now)) }
+    {
+        Some(Request::AllOf(Overview {
+            question: question_of(question)?,
+            columns: columns(from, to),
+            moment: moment_of(moment)?,
+        }))
     }
 }

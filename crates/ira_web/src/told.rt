@@ -1,164 +1,144 @@
-ghost use Rattle.std.specs.Prelude.{◌≡◌, ◌<◌, ◌≤◌, ◌+◌, ◌++◌, ◌∷◌, IfOk, IsFalse, IsTrue, OnOk, length, map, take};
-ghost use Rattle.std.specs.List.{flat_map};
+ghost use Rattle.std.specs.Prelude.{◌≡◌, ◌<◌, ◌≤◌, ◌++◌, ◌∷◌, [], IfOk, IsFalse, IsTrue, List, OnOk, length, map, ℕ};
 ghost use Rattle.ira_event.specs.LogText.{log_text};
+ghost use Rattle.ira_commands.specs.Output.{IsPrinted, printed_by};
 ghost use Rattle.ira_commands.specs.Reply.{fault_text, file_texts, made};
-ghost use Rattle.ira_web.specs.Told.{Begins, HasNoRoom, IsTold, TellsReply};
+ghost use Rattle.ira_web.specs.Told.{Adds, AddsReply, AreParts, Begins, HasNoRoom, Holds, IsTold};
+ghost use Rattle.std.specs.List.{AllZip};
 
-use ira_commands::{CommandFault, Files, Reply};
-use ira_event::{Logs, MemorySink, OutOfMemory, WriteFault, write_bytes, write_log};
-use ira_view::Status;
+use ira_commands::{CommandFault, Files, Output, Reply};
+use ira_event::{Logs, MemorySink, OutOfMemory, write_bytes, write_log};
 use std::alloc::Allocator;
-use std::marker::Model;
 
-/// Writes how many parts there are, and how many bytes each of them is; whether there is room for that.
-fn write_lengths<A: Allocator>(parts: &[MemorySink<A>], lengths: &mut [usize]) -> bool
-    ensures fits { IsTrue result
-        → Begins (length parts.now ∷ map (λ part. length part.bytes) parts.now) lengths.new }
-    ensures full { IsFalse result → length lengths.new ≤ length parts.now }
+/// Copies all of it to the front of this room; whether that is enough.
+fn copy_into<T: Copy>(all: &[T], room: &mut [T]) -> bool
+    ensures fits { IsTrue result → Begins all.now room.new }
+    ensures full { IsFalse result → length room.new < length all.now }
 {
-    if parts.len() >= lengths.len() {
+    if room.len() < all.len() {
         return false;
     }
-    lengths[0] = parts.len();
-    for (k, part) in parts.iter().enumerate() {
-        lengths[k + 1] = part.bytes().len();
-    }
+    room[..all.len()].copy_from_slice(all);
     true
 }
 
-/// Writes a text from a place on.
-fn write_at(text: &[u8], out: &mut [u8], at: usize)
-    requires { at + length text.now ≤ length out.old }
-    ensures text { take (at + length text.now) out.new ≡ take at out.old ++ text.now }
-    ensures size { length out.new ≡ length out.old }
-{
-    out[at..at + text.len()].copy_from_slice(text);
-}
-
-/// Writes the parts one after another; whether there is room for them.
-fn write_parts<A: Allocator>(parts: &[MemorySink<A>], out: &mut [u8]) -> bool
-    ensures fits { IsTrue result → Begins (flat_map (λ part. part.bytes) parts.now) out.new }
-    ensures full { IsFalse result → length out.new < length (flat_map (λ part. part.bytes) parts.now) }
-{
-    let mut at = 0;
-    for part in parts {
-        let text = part.bytes();
-        if text.len() > out.len() - at {
-            return false;
-        }
-        write_at(text, out, at);
-        at += text.len();
-    }
-    true
-}
-
-/// A text in memory.
-fn kept<A: Allocator>(alloc: A, text: &[u8]) -> Result<MemorySink<A>, OutOfMemory>
-    ensures { IfOk result (λ sink. sink.bytes ≡ text.now) }
-{
-    let mut sink = MemorySink::new(alloc);
-    match write_bytes(text, &mut sink) {
-        Ok(()) => Ok(sink),
-        Err(WriteFault) => Err(OutOfMemory),
-    }
-}
-
-/// The line of a refusal; nothing where there is none.
-fn line_of<A: Allocator>(
-    alloc: A,
-    fault: Option<CommandFault>,
-) -> Result<MemorySink<A>, OutOfMemory>
-    ensures { IfOk result (λ line. line.bytes ≡ fault_text fault) }
-{
-    let mut line = MemorySink::new(alloc);
-    if let Some(fault) = fault {
-        let Ok(()) = fault.write(&mut line) else {
-            return Err(OutOfMemory);
-        };
-    }
-    Ok(line)
-}
-
-/// Adds the text of each log, in the order of the ring's places.
-fn add_logs<A: Allocator + Clone>(
-    alloc: A,
-    logs: &Logs<A>,
-    parts: &mut Vec<MemorySink<A>, A>,
-) -> Result<(), OutOfMemory>
-    ensures { OnOk result (map (λ part. part.bytes) parts.new.items
-        ≡ map (λ part. part.bytes) parts.old.items ++ map log_text logs.now) }
-{
-    for place in 0..logs.size().get() {
-        let mut text = MemorySink::new(alloc.clone()?);
-        let Ok(()) = write_log(logs.log(place), &mut text) else {
-            return Err(OutOfMemory);
-        };
-        parts.push(text)?;
-    }
-    Ok(())
-}
-
-/// Adds the text of each file.
-fn add_files<A: Allocator + Clone>(
-    alloc: A,
-    files: Files<A>,
-    parts: &mut Vec<MemorySink<A>, A>,
-) -> Result<(), OutOfMemory>
-    ensures { OnOk result (map (λ part. part.bytes) parts.new.items
-        ≡ map (λ part. part.bytes) parts.old.items ++ file_texts (made files)) }
+/// How many files there are.
+fn count<A: Allocator>(files: &Files<A>) -> usize
+    ensures number { result ≡ length (file_texts (made files.now)) }
+    ensures bound { result ≤ 255 }
 {
     match files {
-        Files::Nothing => Ok(()),
-        Files::Text(text) => Ok(parts.push(text)?),
-        Files::Page(page) => Ok(parts.push(kept(alloc, page.bytes())?)?),
-        Files::Logs(logs) => add_logs(alloc, &logs, parts),
-        Files::Run(run) => add_logs(alloc, run.logs(), parts),
+        Files::Nothing => 0,
+        Files::Text(_) | Files::Page(_) => 1,
+        Files::Logs(logs) => usize::from(logs.size().get()),
+        Files::Run(run) => usize::from(run.logs().size().get()),
     }
 }
 
-/// What comes of a request, in parts: what the program would print on standard output, what on standard error, and each
-/// file that it would write.
+/// What comes of a request: of each reply, one part after another, what the program would print on standard output, what
+/// on standard error, and each file that it would write.
 #[derive(Drop)]
 pub(crate) struct Told<A: Allocator> {
-    status: Status,
-    parts: Vec<MemorySink<A>, A>,
-}
-
-impl<A: Allocator> Model for Told<A> {
-    ghost use Rattle.std.specs.Prelude.{map};
-    ghost use Rattle.ira_web.specs.Told.{Told};
-
-    ghost Value = { Told };
-
-    ghost view = { λ r. record { status = r.status; parts = map (λ part. part.bytes) r.parts.items } };
+    text: MemorySink<A>,
+    /// How many parts each reply has, and how many bytes each of them is.
+    sizes: Vec<usize, A>,
 }
 
 impl<A: Allocator + Clone> Told<A> {
-    /// The parts of a reply.
-    pub(crate) fn of_reply(alloc: A, reply: Reply<A>) -> Result<Told<A>, OutOfMemory>
-        ensures { IfOk result (TellsReply reply) }
+    /// Adds a part.
+    fn add_text(&mut self, text: &[u8]) -> Result<(), OutOfMemory>
+        ensures { OnOk result (Adds (text.now ∷ []) self.old self.new) }
     {
-        let status = reply.status();
-        let (out, fault, files) = reply.into_parts();
-        let mut parts = Vec::with_capacity(alloc.clone()?, 2)?;
-        parts.push(out.into_text(alloc.clone()?)?)?;
-        parts.push(line_of(alloc.clone()?, fault)?)?;
-        add_files(alloc, files, &mut parts)?;
-        Ok(Told { status, parts })
+        let Ok(()) = write_bytes(text, &mut self.text) else {
+            return Err(OutOfMemory);
+        };
+        Ok(self.sizes.push(text.len())?)
     }
 
-    pub(crate) fn status(&self) -> Status
-        ensures { result ≡ self.now.status }
+    /// Adds what is printed on standard output.
+    fn add_out(&mut self, out: &Output<A>) -> Result<(), OutOfMemory>
+        ensures { OnOk result ((text : List ℕ) × IsPrinted (printed_by out.now) text × Adds (text ∷ []) self.old self.new) }
     {
-        self.status
+        let began = self.text.bytes().len();
+        let Ok(()) = out.write(&mut self.text) else {
+            return Err(OutOfMemory);
+        };
+        Ok(self.sizes.push(self.text.bytes().len() - began)?)
     }
 
-    /// Writes the parts one after another into `out`, and into `lengths` how many they are and how many bytes each is;
-    /// whether both have room.
+    /// Adds the line of a refusal; nothing where there is none.
+    fn add_fault(&mut self, fault: Option<CommandFault>) -> Result<(), OutOfMemory>
+        ensures { OnOk result (Adds (fault_text fault ∷ []) self.old self.new) }
+    {
+        let Some(fault) = fault else {
+            return self.add_text(b"");
+        };
+        let began = self.text.bytes().len();
+        let Ok(()) = fault.write(&mut self.text) else {
+            return Err(OutOfMemory);
+        };
+        Ok(self.sizes.push(self.text.bytes().len() - began)?)
+    }
+
+    /// Adds the text of each log, in the order of the ring's places.
+    fn add_logs(&mut self, logs: &Logs<A>) -> Result<(), OutOfMemory>
+        ensures { OnOk result (Adds (map log_text logs.now) self.old self.new) }
+    {
+        for place in 0..logs.size().get() {
+            let began = self.text.bytes().len();
+            let Ok(()) = write_log(logs.log(place), &mut self.text) else {
+                return Err(OutOfMemory);
+            };
+            self.sizes.push(self.text.bytes().len() - began)?;
+        }
+        Ok(())
+    }
+
+    /// Adds the text of each file.
+    fn add_files(&mut self, files: &Files<A>) -> Result<(), OutOfMemory>
+        ensures { OnOk result (Adds (file_texts (made files.now)) self.old self.new) }
+    {
+        match files {
+            Files::Nothing => Ok(()),
+            Files::Text(text) => self.add_text(text.bytes()),
+            Files::Page(page) => self.add_text(page.bytes()),
+            Files::Logs(logs) => self.add_logs(logs),
+            Files::Run(run) => self.add_logs(run.logs()),
+        }
+    }
+
+    /// Adds how many parts a reply has, and these.
+    fn add(&mut self, reply: &Reply<A>) -> Result<(), OutOfMemory>
+        ensures { OnOk result ((parts : List (List ℕ)) × AreParts reply.now parts × AddsReply parts self.old self.new) }
+    {
+        let files = reply.files();
+        self.sizes.push(2 + count(files))?;
+        self.add_out(reply.out())?;
+        self.add_fault(reply.fault())?;
+        self.add_files(files)
+    }
+
+    /// The parts of replies.
+    pub(crate) fn of_replies(alloc: A, replies: &[Reply<A>]) -> Result<Told<A>, OutOfMemory>
+        ensures { IfOk result (λ told. (parts : List (List (List ℕ))) × AllZip AreParts replies.now parts × Holds parts told) }
+    {
+        let mut told = Told {
+            text: MemorySink::new(alloc.clone()?),
+            sizes: Vec::new(alloc),
+        };
+        for reply in replies {
+            told.add(reply)?;
+        }
+        Ok(told)
+    }
+
+    /// Writes the parts one after another into `out`, and into `lengths` how many each reply has and how many bytes each
+    /// is; whether both have room.
     pub(crate) fn tell(&self, out: &mut [u8], lengths: &mut [usize]) -> bool
-        ensures fits { IsTrue result → IsTold self.now.parts out.new lengths.new }
-        ensures full { IsFalse result → HasNoRoom self.now.parts out.new lengths.new }
+        ensures fits { (replies : List (List (List ℕ))) → Holds replies self.now → IsTrue result
+            → IsTold replies out.new lengths.new }
+        ensures full { (replies : List (List (List ℕ))) → Holds replies self.now → IsFalse result
+            → HasNoRoom replies out.new lengths.new }
     {
-        write_lengths(&self.parts, lengths) && write_parts(&self.parts, out)
+        copy_into(&self.sizes, lengths) && copy_into(self.text.bytes(), out)
     }
 }

@@ -1,5 +1,5 @@
 use Rattle.ira_view.specs.Html.{IsRingHtml}
-use Rattle.ira_view.specs.ShownRing.{HasTooManyAt, IsPictureOf}
+use Rattle.ira_view.specs.ShownRing.{HasTooManyAt}
 use Rattle.ira_audit.specs.declared.answer.Answer.TheVariants.{Yes}
 use Rattle.ira_commands.proofs.Served.{if_ok}
 use Rattle.ira_commands.proofs.Shown.{draws}
@@ -10,21 +10,14 @@ returns-in-Lines g c =
     let differ = rw c.in-Lines.is at c.requires.differences in
     rw c.in-Lines.is (if_ok c.tell_lines.result (λ reply told. (c.args.differences, differ, told)) c.tell_lines.ensures)
 
-pub returns-in_ok-clone-in-Picture : goal.returns-in_ok-clone-in-Picture
-returns-in_ok-clone-in-Picture g c =
-    let ring = c.args.ring in
-    let from = c.in-Picture.columns.from in
-    let to = c.in-Picture.columns.to in
-    rw c.in-Picture.is (if_ok c.tell_picture.result (λ reply told.
-    draws Yes (IsPictureOf ring from to) (HasTooManyAt ring from to) c.picture-picture.result reply
-    (if_ok c.picture-picture.result (λ text is. is.printable) c.picture-picture.ensures.drawing)
-    c.picture-picture.ensures.drawing c.picture-picture.ensures.events told) c.tell_picture.ensures)
-
 pub returns-in_ok-clone-in-Html : goal.returns-in_ok-clone-in-Html
 returns-in_ok-clone-in-Html g c =
     let ring = c.args.ring in
     let from = c.in-Html.columns.from in
     let to = c.in-Html.columns.to in
-    rw c.in-Html.is (if_ok c.tell_picture-in-Html.result (λ reply told.
+    rw c.in-Html.is (if_ok c.tell_picture.result (λ reply told.
     draws Yes (IsRingHtml ring from to) (HasTooManyAt ring from to) c.ring_html-page.result reply
-    c.ring_html-page.ensures.printable c.ring_html-page.ensures.html c.ring_html-page.ensures.events told) c.tell_picture-in-Html.ensures)
+    c.ring_html-page.ensures.printable c.ring_html-page.ensures.html c.ring_html-page.ensures.events told) c.tell_picture.ensures)
+
+pub returns-in-Picture : goal.returns-in-Picture
+returns-in-Picture g c = rw c.in-Picture.is c.tell_drawn.ensures
