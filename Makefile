@@ -20,7 +20,7 @@ help:
 	@echo 'make test       tests and programs, built with no proof, and the checks that take minutes at most; without the kit'
 	@echo '                the checks alone. The last lines say what passed, what ran, and what was skipped and why'
 	@echo 'make checks     all checks, or those that are named: CHECKS="A B". They look at what no proof speaks of:'
-	@echo '    definitions docs/DEFINITIONS.md, the comments above the definitions'
+	@echo '    definitions each definition that docs/DEFINITIONS.md names, and its comment'
 	@echo '    names       what pages name: links, headings, items of code; crates without a user'
 	@echo '    weight      lines and words, none more than the budget in CONTRIBUTING.md says'
 	@echo '    sentences   each sentence of the views, in some expected output'

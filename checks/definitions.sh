@@ -1,71 +1,50 @@
 #!/bin/sh
-# The last column of the tables of docs/DEFINITIONS.md is made of the comments above the definitions that the column before it
-# names. This compares the page with what it makes, or writes it.
+# Each definition that docs/DEFINITIONS.md names is in the file that it names, below a comment that says it in words.
 #
-#     sh checks/definitions.sh [--write]
+#     sh checks/definitions.sh
 #
-# In that column a name with slashes is a file, below crates/ and without .antt, and others are definitions in the file before
-# them. The words of a file's head are those of a file of which none is named, and of a definition without words of its own.
+# In the last column of its tables a name with slashes is a file, below crates/ and without .antt, and others are definitions in
+# the file before them.
 
 cd "$(dirname "$0")/.." || exit 2
-page=docs/DEFINITIONS.md
-made=$(mktemp) || exit 2
-trap 'rm -f "$made"' EXIT
 
 awk '
-    # The comment above a definition, or the first one of the file where none is named. Whether it is there: is_there.
-    function words_of(path, name,    line, comment, is_open, part) {
-        comment = ""; is_open = 0; is_there = 0
+    # Whether the file has this definition, below a comment or in a file that begins with one; of no name, whether it does so.
+    function has_words(path, name,    line, is_above, at_head, part, number) {
         while ((getline line < path) > 0) {
+            number++
             if (line ~ /^--/) {
-                sub(/^-- ?/, "", line)
-                comment = is_open ? comment " " line : line
-                is_open = 1
+                is_above = 1
+                if (number == 1) at_head = 1
                 continue
             }
-            if (name == "" && comment != "") { is_there = 1; break }
-            if (line ~ /^(pub|abbrev) /) {
+            if (name != "" && line ~ /^(pub|abbrev) /) {
                 gsub(/(pub|abbrev|record|data) /, "", line)
                 split(line, part, /[ :({]/)
-                if (part[1] == name) { is_there = 1; break }
+                if (part[1] == name) { close(path); return is_above || at_head }
             }
-            comment = ""; is_open = 0
+            is_above = 0
         }
         close(path)
-        if (!is_there) { lacks("no " (name == "" ? "words" : name) " in " path); return "" }
-        if (comment == "") return words_of(path, "")
-        sub(/\.$/, "", comment)
-        gsub(/\|/, "\\|", comment)
-        return comment
+        return name == "" && at_head
     }
-    function add(text) { words = words (words == "" ? "" : "; ") text }
-    function lacks(what) { print FILENAME ":" FNR ": " what > "/dev/stderr"; failed = 1 }
-    function add_head() { if (path != "" && !has_named) add(words_of(path, "")) }
+    function test(path, name) {
+        named++
+        if (has_words(path, name)) return
+        print FILENAME ":" FNR ": no words of " (name == "" ? "the head" : name) " in " path
+        failed = 1
+    }
     BEGIN { FS = " [|] " }
-    /^\| / && NF == 4 && !/^\| Definition / {
-        words = ""; path = ""; has_named = 0
+    /^\| / && NF == 3 && !/^\| Definition / {
+        path = ""
         count = split($3, part, "`")
         for (i = 2; i <= count; i += 2) {
             if (part[i] ~ /\//) {
-                add_head()
-                path = "crates/" part[i] ".antt"; has_named = 0
+                path = "crates/" part[i] ".antt"
+                test(path, "")
             } else {
-                has_named = 1
-                add("`" part[i] "`: " words_of(path, part[i]))
+                test(path, part[i])
             }
         }
-        add_head()
-        print $1 " | " $2 " | " $3 " | " words " |"
-        next
     }
-    { print }
-    END { exit failed }' "$page" > "$made" || exit 1
-
-if [ "$1" = --write ]; then
-    cat "$made" > "$page"
-elif ! diff "$page" "$made"; then
-    echo "definitions: the comments say otherwise than $page: sh checks/definitions.sh --write"
-    exit 1
-else
-    echo 'definitions: as their comments say'
-fi
+    END { if (!failed) print "definitions: " named " files and definitions, each with words"; exit failed }' docs/DEFINITIONS.md

@@ -27,7 +27,7 @@ table() {
     echo '| Lines of | src | specs | proofs |'
     echo '|---|---|---|---|'
     cd crates || exit 2
-    layer 'logs, questions and certificates' ira_event ira_node ira_replay ira_order ira_pred ira_cand ira_cert* ira_elim ira_par ira_links
+    layer 'logs, questions and certificates' ira_event ira_node ira_replay ira_order ira_pred ira_cand ira_ask ira_cert* ira_elim ira_par ira_links
     layer 'laws of the algorithm' ira_safety ira_election
     layer audits ira_audit ira_mend
     layer runs ira_ring*

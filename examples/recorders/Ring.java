@@ -3,6 +3,7 @@ import java.io.Writer;
 import java.nio.charset.StandardCharsets;
 import java.nio.file.Files;
 import java.nio.file.Path;
+import java.nio.file.StandardOpenOption;
 import java.util.Random;
 import java.util.concurrent.BlockingQueue;
 import java.util.concurrent.LinkedBlockingQueue;
@@ -11,7 +12,7 @@ import java.util.concurrent.LinkedBlockingQueue;
  * An election on a ring of threads, recorded. Recorder is the first half: copy it.
  *
  * <p>{@code java Ring.java 4 7 DIR} runs 4 nodes with draws from seed 7; each link is a queue. Node I writes
- * DIR/I.log, as {@code ira} reads it.
+ * DIR/I.log, as {@code ira} reads it, and who leads DIR/leaders.
  */
 public class Ring {
 
@@ -19,9 +20,13 @@ public class Ring {
     static class Recorder implements AutoCloseable {
         private final Writer file;
         private int records;
+        private final int place;
+        private final Path leaders;
 
         Recorder(Path folder, int nodes, int place, boolean initiator) throws IOException {
             file = Files.newBufferedWriter(folder.resolve(place + ".log"), StandardCharsets.US_ASCII);
+            this.place = place;
+            leaders = folder.resolve("leaders");
             String start = initiator ? "initiator" : "passive";
             file.write("irlog 1\nnodes " + nodes + "\nplace " + place + "\nstart " + start + "\n");
         }
@@ -39,6 +44,11 @@ public class Ring {
             file.write(line + "\n");
             file.flush(); // A node that is killed leaves all it did, without the end line.
             records++;
+        }
+
+        /** Once the node takes itself for the leader: its place comes into a file for all nodes, which begins empty. */
+        void leads() throws IOException {
+            Files.writeString(leaders, place + "\n", StandardOpenOption.APPEND);
         }
 
         /** Writes the end line, without which the log counts as cut off. */
@@ -65,7 +75,8 @@ public class Ring {
                 log.passed("recv", m);
                 boolean equal = m.round == own.round && m.id == own.id;
                 if (equal && m.hop == nodes && !m.dirty) {
-                    break; // The node leads.
+                    log.leads();
+                    break;
                 } else if (equal && m.hop == nodes) {
                     own = choose(own.round + 1);
                 } else if (equal) {
@@ -95,6 +106,7 @@ public class Ring {
     public static void main(String[] words) throws IOException {
         int nodes = Integer.parseInt(words[0]);
         long seed = Long.parseLong(words[1]);
+        Files.writeString(Path.of(words[2], "leaders"), "");
         // Link I leads from node I to node I+1, the last one to node 0.
         var links = new java.util.ArrayList<BlockingQueue<Message>>();
         for (int i = 0; i < nodes; i++) {

@@ -3,6 +3,8 @@
 Each node has a recorder of its own, and calls it from one thread, each time after the step that the record
 tells of: `drew` once the ID is drawn, `sent` once the message is on the link, `received` once it is taken off.
 Where leaders may yield, the log is one of version 2, and has `yielded` and the two calls of resets besides.
+`leads`, once the node takes itself for the leader, is no record: its place comes into the file `leaders`, which is
+for all nodes, and which who starts the ring makes empty.
 """
 
 import os
@@ -17,6 +19,9 @@ class Recorder:
             os.path.join(folder, f"{place}.log"), "w", encoding="ascii", newline="\n", buffering=1
         )
         self.records = 0
+        self.place = place
+        self.leaders = os.path.join(folder, "leaders")
+        self.is_leader = False
         self.file.write(f"irlog {version}\n")
         self.file.write(f"nodes {nodes}\n")
         self.file.write(f"place {place}\n")
@@ -31,7 +36,11 @@ class Recorder:
     def received(self, round, id, hop, dirty):
         self.record(f"recv {round} {id} {hop} {bit(dirty)}")
 
+    def leads(self):
+        self.is_leader = True
+
     def yielded(self):
+        self.is_leader = False
         self.record("yield")
 
     def sent_reset(self, hop):
@@ -48,6 +57,9 @@ class Recorder:
         """Writes the end line, without which the log counts as cut off."""
         self.file.write(f"end {self.records}\n")
         self.file.close()
+        if self.is_leader:
+            with open(self.leaders, "a", encoding="ascii", newline="\n") as leaders:
+                leaders.write(f"{self.place}\n")
 
     def __enter__(self):
         return self

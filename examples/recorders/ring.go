@@ -2,7 +2,8 @@
 //
 //	go run ring.go 4 7 DIR
 //
-// runs 4 nodes with draws from seed 7; each link is a channel. Node I writes DIR/I.log, as `ira` reads it.
+// runs 4 nodes with draws from seed 7; each link is a channel. Node I writes DIR/I.log, as `ira` reads it, and who leads
+// DIR/leaders.
 package main
 
 import (
@@ -16,12 +17,14 @@ import (
 type Recorder struct {
 	file    *os.File
 	records int
+	place   int
+	leaders string
 	err     error
 }
 
 func NewRecorder(folder string, nodes, place int, initiator bool) *Recorder {
 	file, err := os.Create(fmt.Sprintf("%s/%d.log", folder, place))
-	r := &Recorder{file: file, records: -1, err: err} // The head is no record.
+	r := &Recorder{file, -1, place, folder + "/leaders", err} // The head is no record.
 	r.record("irlog 1\nnodes %d\nplace %d\nstart %s\n", nodes, place, map[bool]string{true: "initiator", false: "passive"}[initiator])
 	return r
 }
@@ -31,6 +34,19 @@ func (r *Recorder) Drew(id int) { r.record("draw %d\n", id) }
 // Passed takes the word "send" once the message is on the link, "recv" once it is taken off.
 func (r *Recorder) Passed(word string, m Message) {
 	r.record("%s %d %d %d %s\n", word, m.Round, m.ID, m.Hop, map[bool]string{true: "dirty", false: "clean"}[m.Dirty])
+}
+
+// Leads is called once the node takes itself for the leader: its place comes into a file for all nodes, which begins
+// empty.
+func (r *Recorder) Leads() {
+	leaders, err := os.OpenFile(r.leaders, os.O_APPEND|os.O_WRONLY, 0)
+	if err == nil {
+		_, err = fmt.Fprintf(leaders, "%d\n", r.place)
+		leaders.Close()
+	}
+	if r.err == nil {
+		r.err = err
+	}
 }
 
 // Close writes the end line, without which the log counts as cut off, and says what failed first.
@@ -72,7 +88,8 @@ func (n *node) run(initiator bool) error {
 		n.log.Passed("recv", m)
 		equal := m.Round == own.Round && m.ID == own.ID
 		if equal && m.Hop == n.nodes && !m.Dirty {
-			break // The node leads.
+			n.log.Leads()
+			break
 		} else if equal && m.Hop == n.nodes {
 			own = n.choose(own.Round + 1)
 		} else if equal {
@@ -101,6 +118,9 @@ func (n *node) send(m Message) {
 func main() {
 	nodes, _ := strconv.Atoi(os.Args[1])
 	seed, _ := strconv.ParseInt(os.Args[2], 10, 64)
+	if err := os.WriteFile(os.Args[3]+"/leaders", nil, 0o644); err != nil {
+		panic(err)
+	}
 	links := make([]chan Message, nodes) // Link I leads from node I to node I+1, the last one to node 0.
 	for i := range links {
 		links[i] = make(chan Message, 2*nodes)

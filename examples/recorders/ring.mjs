@@ -2,15 +2,20 @@
 //
 //     node ring.mjs 4 7 DIR
 //
-// runs 4 nodes with draws from seed 7; each link is a queue. Node I writes DIR/I.log, as `ira` reads it.
-import { closeSync, openSync, writeSync } from "node:fs";
+// runs 4 nodes with draws from seed 7; each link is a queue. Node I writes DIR/I.log, as `ira` reads it, and who leads
+// DIR/leaders.
+import { appendFileSync, closeSync, openSync, writeFileSync, writeSync } from "node:fs";
 
 /** Writes the log of one node, each line after the step that it tells of. */
 export class Recorder {
   #file;
   #records = -1; // The head is no record.
+  #place;
+  #leaders;
 
   constructor(folder, nodes, place, initiator) {
+    this.#place = place;
+    this.#leaders = `${folder}/leaders`;
     this.#file = openSync(`${folder}/${place}.log`, "w");
     this.#record(`irlog 1\nnodes ${nodes}\nplace ${place}\nstart ${initiator ? "initiator" : "passive"}`);
   }
@@ -22,6 +27,11 @@ export class Recorder {
   /** Takes the word "send" once the message is on the link, "recv" once it is taken off. */
   passed(word, { round, id, hop, dirty }) {
     this.#record(`${word} ${round} ${id} ${hop} ${dirty ? "dirty" : "clean"}`);
+  }
+
+  /** Once the node takes itself for the leader: its place comes into a file for all nodes, which begins empty. */
+  leads() {
+    appendFileSync(this.#leaders, `${this.#place}\n`);
   }
 
   /** Writes the end line, without which the log counts as cut off. */
@@ -80,7 +90,8 @@ async function run(nodes, initiator, draw, source, target, log) {
     } else if (order === 0 && m.dirty) {
       own = choose(own.round + 1);
     } else if (order === 0) {
-      break; // The node leads.
+      log.leads();
+      break;
     }
   }
   target.put(null);
@@ -99,6 +110,7 @@ function drawsOf(seed, nodes) {
 }
 
 const [nodes, seed, folder] = [Number(process.argv[2]), Number(process.argv[3]), process.argv[4]];
+writeFileSync(`${folder}/leaders`, "");
 const links = Array.from({ length: nodes }, () => new Link()); // Link I leads from node I to node I+1.
 await Promise.all(
   links.map((link, place) => {

@@ -2,11 +2,12 @@
 
     python3 ring.py --nodes 4 --seed 7 --out DIR
 
-Each node is a thread, each link a queue. Node I writes DIR/I.log. The logs are the same for the same words.
+Each node is a thread, each link a queue. Node I writes DIR/I.log, who leads DIR/leaders. The logs are the same for the same words.
 With `--terms T` there are T elections: each leader but the last one yields, and its reset begins the next term.
 """
 
 import argparse
+import os
 import queue
 import random
 import threading
@@ -62,7 +63,8 @@ class Node:
             elif message.dirty:
                 own = self.choose(message.round + 1)
             elif term == self.terms:
-                break  # The node leads.
+                self.log.leads()
+                break
             else:
                 own = None
                 self.log.yielded()
@@ -112,6 +114,7 @@ def main():
     if not 2 <= words.nodes <= 255 or words.initiators < 1 or words.terms < 1:
         parser.error("a ring has 2 to 255 nodes, an initiator, and a term")
 
+    open(os.path.join(words.out, "leaders"), "w").close()
     # Link I leads from node I to node I+1, the last one to node 0.
     links = [queue.SimpleQueue() for _ in range(words.nodes)]
     threads = [

@@ -1,17 +1,20 @@
 //! An election on a ring of threads, recorded. `Recorder` is the first half: copy it.
 //!
 //!     rustc --edition 2021 ring.rs && ./ring 4 7 DIR
-//! runs 4 nodes with draws from seed 7; each link is a channel. Node I writes DIR/I.log, as `ira` reads it.
+//! runs 4 nodes with draws from seed 7; each link is a channel. Node I writes DIR/I.log, as `ira` reads it, and who
+//! leads DIR/leaders.
 
 use std::io::{self, Write};
 use std::sync::mpsc::{Receiver, Sender, channel};
-use std::{env, fs::File, path::Path, process, thread};
+use std::{env, fs::File, path::{Path, PathBuf}, process, thread};
 
 /// The log of one node. One thread calls it, each time after the step that the record tells of. A record is handed
 /// to the system at once, so a node that is killed leaves all it did, without the end line.
 pub struct Recorder {
     file: File,
     records: u32,
+    place: u32,
+    leaders: PathBuf,
 }
 
 impl Recorder {
@@ -19,7 +22,7 @@ impl Recorder {
         let mut file = File::create(folder.join(format!("{place}.log")))?;
         let start = if initiator { "initiator" } else { "passive" };
         write!(file, "irlog 1\nnodes {nodes}\nplace {place}\nstart {start}\n")?;
-        Ok(Recorder { file, records: 0 })
+        Ok(Recorder { file, records: 0, place, leaders: folder.join("leaders") })
     }
 
     pub fn drew(&mut self, id: u32) -> io::Result<()> {
@@ -30,6 +33,12 @@ impl Recorder {
     pub fn passed(&mut self, word: &str, m: Message) -> io::Result<()> {
         let bit = if m.dirty { "dirty" } else { "clean" };
         self.record(format!("{word} {} {} {} {bit}\n", m.round, m.id, m.hop))
+    }
+
+    /// Once the node takes itself for the leader: its place comes into a file for all nodes, which begins empty.
+    pub fn leads(&mut self) -> io::Result<()> {
+        let mut leaders = File::options().append(true).open(&self.leaders)?;
+        leaders.write_all(format!("{}\n", self.place).as_bytes())
     }
 
     /// Writes the end line, without which the log counts as cut off.
@@ -71,7 +80,10 @@ impl Node {
                 Some(mine) if pair == mine && message.hop == self.nodes && message.dirty => {
                     own = Some(self.choose(message.round + 1)?);
                 }
-                Some(mine) if pair == mine && message.hop == self.nodes => break, // The node leads.
+                Some(mine) if pair == mine && message.hop == self.nodes => {
+                    self.log.leads()?;
+                    break;
+                }
                 _ => {
                     let dirty = message.dirty || own == Some(pair);
                     own = own.filter(|&mine| mine == pair);
@@ -103,6 +115,7 @@ fn main() -> io::Result<()> {
         eprintln!("ring NODES SEED DIR, 2 to 64 nodes");
         process::exit(2);
     };
+    File::create(Path::new(folder).join("leaders"))?;
     // Link I leads from node I to node I+1, the last one to node 0.
     let (targets, mut sources): (Vec<_>, Vec<_>) = (0..nodes).map(|_| channel()).unzip();
     sources.rotate_right(1);

@@ -2,10 +2,12 @@
 
     python3 ring_asyncio.py 4 7 DIR
 
-runs 4 nodes with draws from seed 7; each link is a connection, with a line a message. Node I writes DIR/I.log.
+runs 4 nodes with draws from seed 7; each link is a connection, with a line a message. Node I writes DIR/I.log, and
+who leads DIR/leaders.
 """
 
 import asyncio
+import os
 import random
 import sys
 
@@ -35,7 +37,8 @@ class Node:
             elif dirty:
                 own = await self.choose(round + 1)
             else:
-                break  # The node leads.
+                self.log.leads()
+                break
         self.target.close()  # The next node reads that the stream has ended.
         self.log.close()
 
@@ -60,6 +63,7 @@ async def link():
 
 
 async def main(nodes, seed, folder):
+    open(os.path.join(folder, "leaders"), "w").close()
     links = [await link() for _ in range(nodes)]  # Link I leads from node I to node I+1.
     ring = []
     for place in range(nodes):

@@ -1,23 +1,25 @@
 -- A log that is replayed while it is read.
-use Rattle.std.proofs.Common.{◌≡◌, ◌≢◌, ◌↔◌, ℕ, ◌+◌, List, [], ◌∷◌, ◌++◌, length, Result, Ok, refl, ap, subst, arith}
+use Rattle.std.proofs.Common.{◌≡◌, ◌≢◌, ◌↔◌, ℕ, ◌+◌, List, [], ◌∷◌, ◌++◌, length, Result, Ok, refl, ap, subst, sym, arith}
 use Rattle.std.proofs.Common.{append_assoc, length-append, Option, Some, None, true, false, ◌∙◌, inl, inr}
 use Rattle.std.specs.Option.{is_some}
 use Rattle.ira_event.specs.declared.event.Event.{Event}
+use Rattle.ira_event.specs.declared.load.Load.{Load}
 use Rattle.ira_event.specs.Log.{Log}
 use Rattle.ira_event.specs.LogText.{IsLogText}
 use Rattle.ira_event.specs.LogTextFault.{LogTextFault}
-use Rattle.ira_event.specs.Records.{RecordsLeft, ReadsRecord, HasRead}
+use Rattle.ira_event.specs.Records.{RecordsLeft, ReadsRecord}
 use Rattle.ira_event.proofs.EarlyFaults.{not_out_of_memory}
 use Rattle.ira_event.proofs.LogReading.{after_more}
 use Rattle.ira_event.specs.declared.out_of_memory.OutOfMemory.{OutOfMemory}
 use Rattle.ira_event.specs.declared.log_fault.LogFault.{LogFault}
 use Rattle.ira_event.specs.declared.log_fault.LogFault.TheVariants as fault
 use Rattle.ira_node.specs.declared.node_state.NodeState.{NodeState}
+use Rattle.ira_node.specs.NodeState.{free}
 use Rattle.ira_node.specs.NodeStep.{NodeStep}
 use Rattle.ira_node.specs.NodeStepFault.{NodeStepFault}
 use Rattle.ira_replay.specs.declared.replay_fault.ReplayFault.{ReplayFault}
 use Rattle.ira_audit.specs.LogTextAnswer as single
-use Rattle.ira_audit.specs.Replaying.{IsLogAnswer, LeadsOrStops}
+use Rattle.ira_audit.specs.Replaying.{HasKept, IsLogAnswer, LeadsOrStops}
 use Rattle.ira_replay.proofs.Along.{leads_further}
 use Rattle.ira_audit.specs.Report.{IsReportable}
 use Rattle.ira_audit.specs.declared.answer.Answer.{Answer}
@@ -70,25 +72,28 @@ module _ (nodes : ℕ) (first : NodeState) (events : List Event) (state after : 
 
 -- ---- events that are kept
 
--- the events that were read lead from the first state to this one, or stop at this fault
-pub record Keeping (version : ℕ) (text : List ℕ) (nodes : ℕ) (first : NodeState) (left : RecordsLeft)
-    (events : List Event) (state : NodeState) (position : ℕ) (first_fault : Option ReplayFault) : Type 0 where
-  pub read : HasRead text events left
-  pub same : left.version ≡ version
-  pub at : position ≡ length events
-  pub replay : LeadsOrStops nodes first events state first_fault
-
-pub keeping_more : (version : ℕ) (text : List ℕ) (nodes : ℕ) (first : NodeState) (old new : RecordsLeft)
-    (events : List Event) (state after : NodeState) (position : ℕ) (e : Event) (first_fault next : Option ReplayFault)
-    → ReadsRecord old new e → Keeping version text nodes first old events state position first_fault
+pub kept_more : (version : ℕ) (text : List ℕ) (nodes : ℕ) (first : NodeState) (old new : RecordsLeft)
+    (events : List Event) (state after : NodeState) (e : Event) (first_fault next : Option ReplayFault)
+    → ReadsRecord old new e → HasKept version text nodes first old events state first_fault
     → LeadsOrStops nodes first (events ++ e ∷ []) after next
-    → Keeping version text nodes first new (events ++ e ∷ []) after (position + 1) next
-keeping_more version text nodes first old new events state after position e first_fault next r h replay = record {
+    → HasKept version text nodes first new (events ++ e ∷ []) after next
+kept_more version text nodes first old new events state after e first_fault next r h replay = record {
   read = after_more text events old new e h.read r;
   same = r.version ∙ h.same;
-  at = omega (arith, h.at, length-append events (e ∷ []));
   replay = replay;
 }
+
+-- one more event that has a step
+pub kept_step : (version : ℕ) (text : List ℕ) (nodes : ℕ) (first : NodeState) (old new : RecordsLeft)
+    (events : List Event) (state after : NodeState) (e : Event) → ReadsRecord old new e
+    → HasKept version text nodes first old events state None → NodeStep nodes state e after
+    → HasKept version text nodes first new (events ++ e ∷ []) after None
+kept_step version text nodes first old new events state after e r h step =
+    kept_more version text nodes first old new events state after e None None r h
+    (leads_on nodes first events state after e None h.replay refl step)
+
+pub free_is : (s : NodeState) → s.owed ≡ None → free s.term s.phase ≡ s
+free_is s none = ap (λ (o : Option Load). record { phase = s.phase; owed = o; term = s.term }) (sym none)
 
 -- ---- the answer of the text
 

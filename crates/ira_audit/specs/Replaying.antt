@@ -2,6 +2,7 @@
 use Rattle.std.specs.Prelude.{◌≡◌, ◌⊎◌, ℕ, Bool, List, Option, MatchOption}
 use Rattle.ira_event.specs.declared.event.Event.{Event}
 use Rattle.ira_event.specs.Log.{Log}
+use Rattle.ira_event.specs.Records.{RecordsLeft, HasRead}
 use Rattle.ira_node.specs.NodeState.{first_state}
 use Rattle.ira_replay.specs.declared.replay_fault.ReplayFault.{ReplayFault}
 use Rattle.ira_replay.specs.LocalRun.{LeadsTo, StopsAt, IsLocalRun, IsFirstFault}
@@ -25,3 +26,11 @@ LeadsOrStops nodes first events state first_fault =
 abbrev pub ReplayGives : ℕ → Bool → List Event → Option ReplayFault → Type 0
 ReplayGives nodes initiator events first_fault = (t : NodeState)
     × LeadsOrStops nodes (first_state initiator) events t first_fault
+
+-- these events were read of a text of this version, this is left of it, and they lead from the first state to this one or
+-- stop at this fault
+pub record HasKept (version : ℕ) (text : List ℕ) (nodes : ℕ) (first : NodeState) (left : RecordsLeft)
+    (events : List Event) (state : NodeState) (first_fault : Option ReplayFault) : Type 0 where
+  pub read : HasRead text events left
+  pub same : left.version ≡ version
+  pub replay : LeadsOrStops nodes first events state first_fault

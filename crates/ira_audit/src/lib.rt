@@ -12,6 +12,7 @@ mod findings_writer;
 mod good_logs;
 mod judged;
 mod laws;
+mod link_lines;
 mod log_audit;
 mod order_search;
 mod partial_replay;

@@ -1,13 +1,18 @@
-ghost use Rattle.std.specs.Prelude.{◌≡◌, IfOk};
+ghost use Rattle.std.specs.Prelude.{◌≡◌, ◌<◌, ◌≤◌, ℕ, List, None, IfOk, OnOk, length};
 ghost use Rattle.ira_event.specs.LogText.{head_of};
 ghost use Rattle.ira_event.specs.LogTextFault.{RecordsRead};
 ghost use Rattle.ira_event.specs.Logs.{AreLogs};
 ghost use Rattle.ira_order.specs.FaultyEvent.{AreFirstFaultyEvents};
-ghost use Rattle.ira_audit.specs.Replaying.{ReplayGives};
+ghost use Rattle.ira_node.specs.declared.node_state.NodeState.{NodeState};
+ghost use Rattle.ira_audit.specs.Replaying.{HasKept, ReplayGives};
 ghost use Rattle.ira_audit.specs.RingAudit.{IsReading};
 
-use ira_event::{LogFault, NodeLog, OutOfMemory, PackedEvents, Records, RingSize, open_log};
-use ira_node::NodeState;
+use crate::link_lines::LinkLines;
+use ira_event::{
+    Event, Load, LogFault, Msg, NodeLog, OutOfMemory, PackedEvents, Records, RingSize, SentLine,
+    open_log,
+};
+use ira_node::{Handling, NodeState};
 use ira_order::{EventAt, FaultyEvent};
 use ira_replay::ReplayFault;
 use std::alloc::Allocator;
@@ -32,12 +37,23 @@ impl<A: Allocator> Model for ReplayedLog<A> {
 }
 
 impl<A: Allocator> ReplayedLog<A> {
-    /// The log of a text, or the text's fault. The log is replayed while it is read.
-    pub(crate) fn read(alloc: A, text: &[u8]) -> Result<ReplayedLog<A>, LogFault>
+    /// The log of a text, or the text's fault. The log is replayed while it is read, after that of the node before it.
+    pub(crate) fn read(
+        alloc: A,
+        text: &[u8],
+        link: &mut LinkLines<A>,
+    ) -> Result<ReplayedLog<A>, LogFault>
         ensures { IsReading text.now result }
     {
         let (head, records) = open_log(text)?;
-        let (events, first_fault) = read_and_replay(alloc, head.nodes, head.initiator, records)?;
+        link.go_on();
+        let (events, first_fault) = read_and_replay(
+            alloc,
+            head.nodes,
+            head.initiator,
+            records,
+            link,
+        )?;
         let log = NodeLog::of_records(head, events);
         Ok(ReplayedLog { log, first_fault })
     }
@@ -77,6 +93,7 @@ fn read_and_replay<A: Allocator>(
     nodes: RingSize,
     initiator: bool,
     records: Records<'_>,
+    link: &mut LinkLines<A>,
 ) -> Result<(PackedEvents<A>, Option<ReplayFault>), LogFault>
     requires { records.count ≡ 0 }
     ensures read { RecordsRead records.entry.version (λ found. found.0) result records.entry.rest }
@@ -85,19 +102,100 @@ fn read_and_replay<A: Allocator>(
     let mut records = records;
     let mut events = PackedEvents::with_room_for(alloc, &records)?;
     let mut state = NodeState::first(initiator);
-    let mut position = 0;
     let mut first_fault = None;
-    while let Some(event) = records.next_event()? {
-        position += 1;
+    loop {
+        if first_fault.is_none() && state.owed.is_none() {
+            read_known(nodes, &mut state, &mut records, &mut events, link)?;
+        }
+        let before = records.rest();
+        let Some(event) = records.next_event()? else {
+            return Ok((events, first_fault));
+        };
         if first_fault.is_none() {
             match state.advance(nodes, &event) {
                 Ok(()) => {}
-                Err(fault) => first_fault = Some(ReplayFault { position, fault }),
+                Err(fault) => {
+                    let position = records.count() as u32;
+                    first_fault = Some(ReplayFault { position, fault });
+                }
             }
         }
         events.push(event)?;
+        link.note(before, &records, &event)?;
     }
-    Ok((events, first_fault))
+}
+
+/// Reads and replays on while the next records are receipts of what the node before sent, each passed on at once or
+/// purged: nearly all records are, and the lines tell it without their numbers.
+#[inline(never)]
+fn read_known<A: Allocator>(
+    nodes: RingSize,
+    state: &mut NodeState,
+    records: &mut Records<'_>,
+    events: &mut PackedEvents<A>,
+    link: &mut LinkLines<A>,
+) -> Result<(), OutOfMemory>
+    requires { state.old.owed ≡ None }
+    ensures shorter { OnOk result (length records.new.rest ≤ length records.old.rest) }
+    ensures kept { OnOk result ((version : ℕ) (text : List ℕ) (first : NodeState)
+        → HasKept version text nodes first records.old events.old state.old None
+        → HasKept version text nodes first records.new events.new state.new None) }
+{
+    let phase = state.phase;
+    let known = link.known;
+    let mut received = link.received;
+    let mut sent = link.sent;
+    let lines: &mut [SentLine] = &mut link.lines;
+    let mut left = Records::new(records.version(), records.rest(), records.count());
+    while received < known
+        && let Some(line) = lines.get_mut(received)
+    {
+        let message = line.message();
+        match phase.handling(nodes, &message) {
+            Some(Handling::Passes) => {
+                if !left.next_receipt(line) {
+                    break;
+                }
+                events.push(Event::Got(Load::Msg(message)))?;
+                let passed = Load::Msg(Msg {
+                    hop: message.hop + 1,
+                    ..message
+                });
+                received += 1;
+                if !left.next_passed(line) {
+                    state.owed = Some(passed);
+                    break;
+                }
+                events.push(Event::Sent(passed))?;
+                sent = keep_sent(lines, sent, received - 1);
+            }
+            Some(Handling::Purges) => {
+                if !left.next_receipt(line) {
+                    break;
+                }
+                events.push(Event::Got(Load::Msg(message)))?;
+                received += 1;
+            }
+            None => break,
+        }
+    }
+    *records = left;
+    link.received = received;
+    link.sent = sent;
+    Ok(())
+}
+
+/// Puts the line that stands there where the next one that was sent has its place, unless that comes after it, and gives
+/// how many were sent.
+#[inline(always)]
+fn keep_sent(lines: &mut [SentLine], sent: usize, at: usize) -> usize
+    requires { at < length lines.old }
+{
+    if sent > at {
+        return sent;
+    }
+    lines.swap(sent, at);
+    sent + 1
 }
 
 /// The logs, and, where they are those of a ring, their first events without a step.

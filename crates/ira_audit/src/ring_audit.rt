@@ -8,6 +8,7 @@ ghost use Rattle.ira_audit.specs.Refusal.{IsRingReason, MatchRefusal};
 ghost use Rattle.ira_audit.specs.RingAudit.{HasTaken};
 
 use crate::judged::Judged;
+use crate::link_lines::LinkLines;
 use crate::order_search::{search_order, search_order_on_threads};
 use crate::reason::Reason;
 use crate::refusal::Refusal;
@@ -27,6 +28,8 @@ pub struct RingAudit<A: Allocator> {
     logs: Vec<ReplayedLog<A>, A>,
     /// What is wrong with the text after these.
     fault: Option<LogFault>,
+    /// What the last log's node sent, once there is one.
+    link: Option<LinkLines<A>>,
 }
 
 impl<A: Allocator> Model for RingAudit<A> {
@@ -45,6 +48,7 @@ impl<A: Allocator + Clone> RingAudit<A> {
         RingAudit {
             logs: Vec::new(alloc),
             fault: None,
+            link: None,
         }
     }
 
@@ -68,8 +72,14 @@ impl<A: Allocator + Clone> RingAudit<A> {
         if self.fault.is_some() {
             return Ok(());
         }
-        match ReplayedLog::read(self.logs.allocator().clone()?, text) {
+        let alloc = self.logs.allocator().clone()?;
+        let mut link = match self.link.take() {
+            Some(link) => link,
+            None => LinkLines::new(alloc.clone()?),
+        };
+        match ReplayedLog::read(alloc, text, &mut link) {
             Ok(log) => {
+                self.link = Some(link);
                 let kept = if self.are_all_there() {
                     log.without_events(self.logs.allocator().clone()?)
                 } else {
@@ -159,7 +169,7 @@ impl<A: Allocator + Clone> RingAudit<A> {
         ensures texts { (texts : List (List ℕ)) → HasTaken self texts
             → MatchRefusal result (λ found. AreLogTexts texts found.0) (IsRingReason texts) }
     {
-        let RingAudit { logs, fault } = self;
+        let RingAudit { logs, fault, .. } = self;
         if let Some(fault) = fault {
             let number = logs.len();
             return Err(Refusal::No(Reason::Log { number, fault }));

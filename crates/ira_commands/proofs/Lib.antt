@@ -1,3 +1,4 @@
+pub mod OneByOne
 pub mod Outputs
 pub mod Overviews
 pub mod Printed

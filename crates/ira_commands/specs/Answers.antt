@@ -5,7 +5,7 @@ use Rattle.ira_view_page.specs.declared.named_text.NamedText.{NamedText}
 use Rattle.ira_view.specs.Texts.{AreFiles, texts_of}
 use Rattle.ira_commands.specs.Check.{ChecksTexts}
 use Rattle.ira_commands.specs.Decide.{DecidesTexts, PrintsDecided}
-use Rattle.ira_commands.specs.Explain.{ExplainsCheck, ExplainsLogs}
+use Rattle.ira_commands.specs.Explain.{ExplainsAll, ExplainsCheck}
 use Rattle.ira_commands.specs.ExplainQuestion.{ExplainsFindings}
 use Rattle.ira_commands.specs.Given.{Given, IsFile}
 use Rattle.ira_commands.specs.Judging.{JudgesLogs}
@@ -24,8 +24,8 @@ AreAsked given asked = AreFiles given.names given.texts asked.logs.now × IsFile
 abbrev pub Answers : Type 0 → LogsCommand → Given → Reply → Type 0
 Answers A (Answer form) given reply = JudgesLogs (ReportsAs form) given.texts reply
 Answers A (Expect form expected) given reply = JudgesExpected form expected given.texts reply
-Answers A (Explain form) given reply = (files : List NamedText) × AreFiles given.names given.texts files
-    × JudgesLogs (ExplainsLogs A form files) (texts_of files) reply
+Answers A (Explain form) given reply =
+    (files : List NamedText) × AreFiles given.names given.texts files × ExplainsAll A form files reply
 Answers A (Decide form certify) given reply =
     DecidesTexts {A = A} (PrintsDecided form certify) given.question.text given.texts reply
 Answers A (ExplainQuestion form case) given reply = (asked : AskedFiles) × AreAsked given asked

@@ -1,5 +1,7 @@
 pub mod Answers
+pub mod Ask
 pub mod AskedRun
+pub mod Begun
 pub mod Check
 pub mod CommandFault
 pub mod Decide

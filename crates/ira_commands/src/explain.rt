@@ -1,19 +1,24 @@
-ghost use Rattle.std.specs.Prelude.{IfOk, option_map};
+ghost use Rattle.std.specs.Prelude.{◌≡◌, ◌↔◌, IfOk, IsTrue, codes, option_map};
 ghost use Rattle.ira_audit.specs.Judged.{IsJudged};
 ghost use Rattle.ira_audit.specs.Report.{IsReportable};
 ghost use Rattle.ira_view.specs.Texts.{texts_of};
 ghost use Rattle.ira_view_election.specs.Election.{standing_of};
-ghost use Rattle.ira_commands.specs.Explain.{ExplainsLog, ExplainsLogs};
-ghost use Rattle.ira_commands.specs.Judging.{JudgesLog, JudgesLogs};
+ghost use Rattle.ira_commands.specs.Explain.{AddsText, ExplainsAll, ExplainsBegun, ExplainsLog, ExplainsTexts, GoesOn};
+ghost use Rattle.ira_commands.specs.Judging.{JudgesLog};
 ghost use Rattle.ira_commands.specs.Reply.{ExplainsAs};
 
+use crate::begun::{breaks_off, log_texts, name_texts, take_left};
 use crate::reply::Reply;
-use ira_audit::Judged;
-use ira_event::{MemorySink, OutOfMemory};
-use ira_view::{Form, Status, View, explain_text, explain_texts, write_view_as};
+use ira_audit::{Answer, Judged, Refusal, write_report};
+use ira_event::{MemorySink, OutOfMemory, write_bytes};
+use ira_mend::greatest_beginning;
+use ira_view::{Form, Status, View, explain_text, explain_texts, take_texts, write_view_as};
 use ira_view_election::Election;
 use ira_view_page::NamedText;
 use std::alloc::Allocator;
+
+/// What stands above what is said of the rest of logs that break off.
+const HEADING: &[u8] = b"\nWhat is left, as far as it fits together:\n\n";
 
 /// An answer, and why it is so, in words or as JSON, with how the election stands where that is known.
 pub fn tell_view<'v, A: Allocator + Clone>(
@@ -45,7 +50,66 @@ pub fn explain_one<A: Allocator + Clone>(
     tell_view(alloc, form, &view, None)
 }
 
-/// The answer of the logs of a ring in these files, and why it is so.
+/// Writes the answer of the logs of a ring in these files, and why it is so.
+fn write_explained<A: Allocator + Clone>(
+    alloc: A,
+    form: Form,
+    logs: &[NamedText<'_>],
+    judged: &Judged<A>,
+    text: &mut MemorySink<A>,
+) -> Result<Answer, OutOfMemory>
+    requires { IsJudged (texts_of logs.now) judged.now }
+    ensures reportable { IfOk result IsReportable }
+    ensures text { IfOk result (λ answer. AddsText (ExplainsTexts A form logs.now answer) text.old text.new) }
+{
+    let ring = explain_texts(alloc.clone()?, logs, judged)?;
+    let Ok(()) = write_view_as(alloc, form, &ring.view, ring.election.as_ref(), text) else {
+        return Err(OutOfMemory);
+    };
+    Ok(ring.view.answer)
+}
+
+/// Writes what is said of the greatest consistent beginning of what is left of logs in these files.
+fn write_begun<A: Allocator + Clone>(
+    alloc: A,
+    logs: &[NamedText<'_>],
+    text: &mut MemorySink<A>,
+) -> Result<(), OutOfMemory>
+    ensures { IfOk result (λ done. AddsText (ExplainsBegun A logs.now) text.old text.new) }
+{
+    let Ok(()) = write_bytes(HEADING, text) else {
+        return Err(OutOfMemory);
+    };
+    let left = match take_left(alloc.clone()?, logs)?.gather(true) {
+        Ok(left) => left,
+        Err(Refusal::No(reason)) => {
+            let Ok(()) = write_report(&Answer::No(reason), text) else {
+                return Err(OutOfMemory);
+            };
+            return Ok(());
+        }
+        Err(Refusal::OutOfMemory) => return Err(OutOfMemory),
+    };
+    let begun = greatest_beginning(alloc.clone()?, &left)?;
+    let texts = log_texts(alloc.clone()?, &begun)?;
+    let named = name_texts(alloc.clone()?, logs, &texts)?;
+    let judged = take_texts(alloc.clone()?, &named)?.judge()?;
+    write_explained(alloc, Form::Words, &named, &judged, text)?;
+    Ok(())
+}
+
+/// Whether more is said than the answer and why it is so: in words, of texts that break off.
+fn goes_on(form: Form, answer: &Answer) -> bool
+    ensures { IsTrue result ↔ GoesOn form answer.now }
+{
+    match form {
+        Form::Json => false,
+        Form::Words => breaks_off(answer),
+    }
+}
+
+/// The answer of the logs of a ring in these files, and why it is so. In words, where the text of a log breaks off, the same of
+/// what is left of the logs, as far as it fits together.
 pub(crate) fn explain_all<A: Allocator + Clone>(
     alloc: A,
     form: Form,
@@ -53,8 +117,12 @@ pub(crate) fn explain_all<A: Allocator + Clone>(
     judged: &Judged<A>,
 ) -> Result<Reply<A>, OutOfMemory>
     requires { IsJudged (texts_of logs.now) judged.now }
-    ensures { IfOk result (JudgesLogs (ExplainsLogs A form logs.now) (texts_of logs.now)) }
+    ensures { IfOk result (ExplainsAll A form logs.now) }
 {
-    let ring = explain_texts(alloc.clone()?, logs, judged)?;
-    tell_view(alloc, form, &ring.view, ring.election.as_ref())
+    let mut text = MemorySink::new(alloc.clone()?);
+    let answer = write_explained(alloc.clone()?, form, logs, judged, &mut text)?;
+    if goes_on(form, &answer) {
+        write_begun(alloc, logs, &mut text)?;
+    }
+    Ok(Reply::printed(Status::of_answer(&answer), text))
 }

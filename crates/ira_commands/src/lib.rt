@@ -3,7 +3,9 @@
 #![tactic(auto)]
 
 mod answers;
+mod ask;
 mod asked_run;
+mod begun;
 mod check;
 mod command_fault;
 mod decide;
@@ -29,7 +31,9 @@ mod show;
 mod upgrade;
 
 pub use answers::answer;
+pub use ask::ask_sentence;
 pub use asked_run::AskedRun;
+pub use begun::take_left;
 pub use command_fault::CommandFault;
 pub use expected::Expected;
 pub use explain::{explain_one, tell_view};

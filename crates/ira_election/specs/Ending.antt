@@ -14,8 +14,8 @@ use Rattle.ira_safety.specs.Reaches.{Reaches, beginning}
 use Rattle.ira_safety.specs.TwoNodes.{one_elected}
 use Rattle.ira_election.specs.StandingStill.{IsEmptyLink}
 
--- but for node i all is at rest: no link holds a load, no node owes one, and each other one is passive, in node i's
--- term
+-- but for node i all is at rest: no link holds a load, no node owes one, and each other one is passive, in
+-- node i's term
 pub record IsOver (n i : ℕ) (c : Configuration) : Type 0 where
   pub empty : (j : ℕ) → j < n → c.link j ≡ []
   pub owes : (j : ℕ) → j < n → (c.state j).owed ≡ None
@@ -29,8 +29,7 @@ LeadersEndElections =
     → Reaches n (beginning initiators) run c → i < n → IsLeader (c.state i).phase → IsOver n i c
 
 -- at the cut node j, in this state, is at rest, where node i leads: its link holds no load and it owes none, and it
--- is in
--- the leader's term, and passive where it isn't node i
+-- is in the leader's term, and passive where it isn't node i
 pub record IsAtRest (logs : List Log) (cut : List ℕ) (i j : ℕ) (leader state : NodeState) : Type 0 where
   pub empty : IsEmptyLink logs cut j
   pub owes : state.owed ≡ None
@@ -45,7 +44,6 @@ ElectionsEndAtCuts =
     → IsAtRest logs cut i j leader.state state
 
 -- at a cut that isn't consistent a node may lead while its message is on its way: in the logs of two nodes of which
--- node
--- 0 is elected, after all its events and none of the other's
+-- node 0 is elected, after all its events and none of the other's
 abbrev pub LeadsBeforeTheEnd : Type 0
 LeadsBeforeTheEnd = Leads one_elected 0 3 × ¬ (IsEmptyLink one_elected (3 ∷ 0 ∷ []) 0)

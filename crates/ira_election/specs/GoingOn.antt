@@ -20,8 +20,7 @@ use Rattle.ira_safety.specs.Reaches.{Reaches, beginning}
 use Rattle.ira_election.specs.Ending.{IsOver}
 
 -- the load is past the limits of numbers: a message by its hop, or by the round after which the node would choose
--- again,
--- a reset by the term
+-- again, a reset by the term
 abbrev pub IsPastLimits : ℕ → NodeState → Load → Type 0
 IsPastLimits n s (Message m) =
     ((MAX_NUMBER ≤ m.hop) × (m.hop ≤ n)) ⊎ ((MAX_NUMBER ≤ m.round) × (s.phase ≡ Active m.round m.id))

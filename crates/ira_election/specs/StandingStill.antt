@@ -20,8 +20,7 @@ pub record IsStill (n : ℕ) (c : Configuration) : Type 0 where
   pub empty : (i : ℕ) → i < n → c.link i ≡ []
 
 -- of a ring of at least two nodes, one of which is an initiator, no run comes to a configuration that is still:
--- whatever
--- they draw, and however often leaders yield
+-- whatever they draw, and however often leaders yield
 abbrev pub NoRunStandsStill : Type 0
 NoRunStandsStill =
     (n : ℕ) (initiators : ℕ → Bool) (run : List (ℕ × Event)) (c : Configuration) (k : ℕ) → 2 ≤ n

@@ -9,10 +9,12 @@ pub mod LogReading
 pub mod LogTexts
 pub mod NextLines
 pub mod Numerals
+pub mod PassedOn
 pub mod Passing
 pub mod Pieces
 pub mod RecordLines
 pub mod Rest
+pub mod SameBytes
 pub mod ShortNumbers
 pub mod Spelled
 pub mod TextsAnswered

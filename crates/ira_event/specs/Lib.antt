@@ -18,6 +18,7 @@ pub mod Records
 pub mod Result
 pub mod RingSize
 pub mod Scan
+pub mod SentLine
 pub mod Sink
 pub mod StoredEvents
 pub mod Upgrade

@@ -1,12 +1,18 @@
-ghost use Rattle.std.specs.Prelude.{◌≡◌, ◌<◌, ◌≤◌, ◌↔◌, ◌==◌, IsTrue, codes, length, position};
+ghost use Rattle.std.specs.Prelude.{◌≡◌, ◌<◌, ◌≤◌, ◌↔◌, ◌==◌, IfSome, IsTrue, codes, length, position};
+ghost use Rattle.std.specs.Bool.{MatchBool};
 ghost use Rattle.ira_event.specs.LogTextFault.{BeginsAsRecord, BeginsWithWord, RestFault};
-ghost use Rattle.ira_event.specs.Records.{ReadsOn, IsUnread};
-ghost use Rattle.ira_event.specs.Limits.{MAX_RECORDS};
+ghost use Rattle.ira_event.specs.Records.{ReadsOn, ReadsRecord, RecordsLeft, IsUnread};
+ghost use Rattle.ira_event.specs.Limits.{MAX_NUMBER, MAX_RECORDS};
+ghost use Rattle.ira_event.specs.SentLine.{passed_on};
+ghost use Rattle.ira_event.specs.declared.event.Event.TheVariants.{Sent, Got};
+ghost use Rattle.ira_event.specs.declared.load.Load.TheVariants.{Msg as Message};
 
 use crate::event::Event;
 use crate::limits::MAX_RECORDS;
 use crate::log_fault::LogFault;
 use crate::log_line::{LogLine, scan_line};
+use crate::msg::Msg;
+use crate::sent_line::SentLine;
 use crate::short_record::scan_short_record;
 use std::marker::Model;
 
@@ -45,6 +51,21 @@ impl<'a> Records<'a> {
         }
     }
 
+    #[inline(always)]
+    pub fn version(&self) -> u8
+        ensures { result ≡ self.now.version }
+    {
+        self.version
+    }
+
+    /// What was not read yet.
+    #[inline(always)]
+    pub fn rest(&self) -> &'a [u8]
+        ensures { result.now ≡ self.now.rest }
+    {
+        self.rest
+    }
+
     /// How many bytes were not read yet.
     #[inline(always)]
     pub fn unread(&self) -> usize
@@ -76,6 +97,49 @@ impl<'a> Records<'a> {
             return Ok(Some(event));
         }
         self.next_line()
+    }
+
+    /// The message of the sending that was read last, from what was left before it. `None` where its line isn't short, or
+    /// is near the end of the text.
+    pub fn last_sent(&self, before: &[u8], message: Msg) -> Option<SentLine>
+        requires { (old : RecordsLeft) × (old.rest ≡ before.now) × ReadsRecord old self.now (Sent (Message message)) }
+        ensures { IfSome result (λ sent. sent ≡ message) }
+    {
+        SentLine::of_sending(before, before.len() - self.rest.len(), message)
+    }
+
+    /// Reads the receipt of the message, if its line comes next. False tells nothing of what comes.
+    #[inline(always)]
+    pub fn next_receipt(&mut self, sent: &SentLine) -> bool
+        ensures { MatchBool result (ReadsRecord self.old self.new (Got (Message sent.now))) (self.new ≡ self.old) }
+    {
+        if self.count < MAX_RECORDS
+            && let Some(after) = sent.skip_receipt(self.rest)
+        {
+            self.count += 1;
+            self.rest = after;
+            return true;
+        }
+        false
+    }
+
+    /// Reads the sending by which the message is passed on, if its line comes next; the message is then that one. False
+    /// tells nothing of what comes, and the message may be either.
+    #[inline(always)]
+    pub fn next_passed(&mut self, sent: &mut SentLine) -> bool
+        requires { sent.old.hop < MAX_NUMBER }
+        ensures read { MatchBool result (ReadsRecord self.old self.new (Sent (Message (passed_on sent.old))))
+            (self.new ≡ self.old) }
+        ensures passed { IsTrue result → sent.new ≡ passed_on sent.old }
+    {
+        if self.count < MAX_RECORDS
+            && let Some(after) = sent.skip_passed(self.rest)
+        {
+            self.count += 1;
+            self.rest = after;
+            return true;
+        }
+        false
     }
 
     /// The same of a line of any length. Apart from `next_event`, so that the room for the line is made only

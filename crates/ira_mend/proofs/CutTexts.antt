@@ -11,6 +11,8 @@ use Rattle.ira_event.specs.Log.{Log, IsLog}
 use Rattle.ira_event.specs.LogText.{AreRecords, IsHead, IsLogText, head_of, log_text}
 use Rattle.ira_event.specs.LogTextFault.{BeginsWithHead, BeginsWithNoHead, HasNoLineFeed}
 use Rattle.ira_event.specs.Logs.{AreLogs, EachLog}
+use Rattle.ira_event.specs.NextLine as next
+use Rattle.ira_event.specs.declared.log_fault.LogFault.TheVariants as fault
 use Rattle.ira_event.proofs.Pieces.{or_parts}
 use Rattle.ira_event.proofs.RecordLines.{end_is_one_line, record_is_one_line}
 use Rattle.ira_audit.specs.RingAnswer.{yes}
@@ -198,7 +200,7 @@ begun_text log text rest valid e =
             held = good.held;
             parts = pieces;
           };
-          cut = none;
+          cut = (fault.Cut, inl refl, next.cut none refl);
         }))
     past_head u parts (cut_none pieces) =
         let same : text ≡ log_text log = parts ∙ ap (λ w. head.lines ++ w) pieces ∙ sym head.parts in

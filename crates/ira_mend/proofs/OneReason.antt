@@ -1,15 +1,19 @@
 -- What is said of the texts that a crash left is one thing.
-use Rattle.std.proofs.Common.{◌≡◌, ◌<◌, ◌+◌, ℕ, List, [], ◌∷◌, ◌++◌, zero, suc, Bool, true, false, Some, inl, inr}
-use Rattle.std.proofs.Common.{refl, sym, ap, subst, ◌∙◌, arith, take, append_assoc}
+use Rattle.std.proofs.Common.{◌≡◌, ◌<◌, ◌⊎◌, ◌+◌, ℕ, List, [], ◌∷◌, ◌++◌, zero, suc, Bool, true, false, Some, inl, inr}
+use Rattle.std.proofs.Common.{refl, sym, ap, subst, ◌∙◌, arith, take, append_assoc, length}
 use Rattle.std.specs.Prelude.{codes, slice_get}
 use Rattle.std.proofs.lemmas.Bool.{cases_lt}
 use Rattle.std.proofs.lemmas.Option.{same_Some}
+use Rattle.ira_event.specs.Limits.{MAX_RECORDS}
 use Rattle.ira_event.specs.declared.event.Event.{Event}
+use Rattle.ira_event.specs.declared.log_fault.LogFault.{LogFault}
 use Rattle.ira_event.specs.declared.log_fault.LogFault.TheVariants as fault
 use Rattle.ira_event.specs.declared.log_head.LogHead.{LogHead}
 use Rattle.ira_event.specs.Log.{Log}
 use Rattle.ira_event.specs.LogText.{AreRecords, IsLogText, IsRecord, head_of}
-use Rattle.ira_event.specs.LogTextFault.{BeginsWithHead, HasNoLineFeed, LogTextFault}
+use Rattle.ira_event.specs.LogTextFault.{BeginsWithHead, HasNoLineFeed, LineFault, LogTextFault, RestFault, no_line}
+use Rattle.ira_event.specs.LogTextFault.{other_count, out_of_range, too_many, trailing}
+use Rattle.ira_event.specs.NextLine as next
 use Rattle.ira_event.specs.Logs.{AreLogs, HeadFaultOf}
 use Rattle.ira_event.proofs.Gathering.{no-fault, one-fault}
 use Rattle.ira_event.proofs.Heads.{begins-again, head_says}
@@ -19,10 +23,10 @@ use Rattle.ira_event.proofs.RecordLines.{record_is_one_line, record_same}
 use Rattle.ira_audit.specs.declared.reason.Reason.{Reason}
 use Rattle.ira_audit.specs.declared.reason.Reason.TheVariants as reason
 use Rattle.ira_mend.specs.Laws.{LeftTextsAreOne, NoReasonAgainstARing, RecordedReasonsAreOne}
-use Rattle.ira_mend.specs.RecordedLogs.{AreLeftTexts, IsCutHead, IsFirstFault, IsFirstNotLeft, IsLeftText, IsLost}
-use Rattle.ira_mend.specs.RecordedLogs.{IsRecordedText, LeftTextsFrom, RecordsLog, empty_log}
+use Rattle.ira_mend.specs.RecordedLogs.{AreLeftTexts, BreaksOff, BreaksOffAfter, IsCutHead, IsFirstFault}
+use Rattle.ira_mend.specs.RecordedLogs.{IsFirstNotLeft, IsLeftText, IsLost, IsRecordedText, LeftTextsFrom, RecordsLog, empty_log}
 use Rattle.ira_mend.specs.RecordedLogs.{no_log, no_ring, none}
-use Rattle.ira_mend.proofs.RecordedTexts.{cut_fault}
+use Rattle.ira_mend.proofs.RecordedTexts.{cut_fault, goes_on}
 
 -- ---- one text
 
@@ -54,32 +58,72 @@ heads_same text h g r q a b =
 front : (a b c d x : List ℕ) → a ≡ b ++ codes "\n" ++ c → a ++ x ≡ d → b ++ codes "\n" ++ (c ++ x) ≡ d
 front a b c d x p q = sym (append_assoc (b ++ codes "\n") c x) ∙ ap (λ w. w ++ x) (sym p) ∙ q
 
--- lines of records, and then a piece of a line, are those of one list of events
-pieces_same : (r q x y : List ℕ) (es fs : List Event) → AreRecords r es → AreRecords q fs → HasNoLineFeed x
-    → HasNoLineFeed y → r ++ x ≡ q ++ y → es ≡ fs
-pieces_same r q x y [] [] a b c d e = refl
-pieces_same r q x y [] (f ∷ fs) a b c d e =
+-- lines of records, and then pieces of lines, or as many, are those of one list of events
+pieces_same : (r q x y : List ℕ) (es fs : List Event) → AreRecords r es → AreRecords q fs → (length es ≡ length fs)
+    ⊎ (HasNoLineFeed x × HasNoLineFeed y) → r ++ x ≡ q ++ y → es ≡ fs
+pieces_same r q x y [] [] a b ends e = refl
+pieces_same r q x y [] (f ∷ fs) a b (inl same) e = absurd (omega (arith, same))
+pieces_same r q x y [] (f ∷ fs) a b (inr pieces) e =
     let there : b.0 ++ codes "\n" ++ (b.1 ++ y) ≡ x = front q b.0 b.1 x y b.2 (sym e ∙ ap (λ w. w ++ x) a) in
-    absurd (line_has_feed b.0 (b.1 ++ y) (subst (λ t. HasNoLineFeed t) (sym there) c))
-pieces_same r q x y (f ∷ fs) [] a b c d e =
+    absurd (line_has_feed b.0 (b.1 ++ y) (subst (λ t. HasNoLineFeed t) (sym there) pieces.0))
+pieces_same r q x y (f ∷ fs) [] a b (inl same) e = absurd (omega (arith, same))
+pieces_same r q x y (f ∷ fs) [] a b (inr pieces) e =
     let there : a.0 ++ codes "\n" ++ (a.1 ++ x) ≡ y = front r a.0 a.1 y x a.2 (e ∙ ap (λ w. w ++ y) b) in
-    absurd (line_has_feed a.0 (a.1 ++ x) (subst (λ t. HasNoLineFeed t) (sym there) d))
-pieces_same r q x y (f ∷ fs) (h ∷ hs) a b c d e =
+    absurd (line_has_feed a.0 (a.1 ++ x) (subst (λ t. HasNoLineFeed t) (sym there) pieces.1))
+pieces_same r q x y (f ∷ fs) (h ∷ hs) a b ends e =
     let lines = line_same a.0 b.0 (a.1 ++ x) (b.1 ++ y) (record_is_one_line a.0 f a.3) (record_is_one_line b.0 h b.3)
     (front r a.0 a.1 (q ++ y) x a.2 e ∙ sym (front q b.0 b.1 (q ++ y) y b.2 refl)) in
     let first : f ≡ h = record_same b.0 f h (subst (λ t. IsRecord t f) lines.0 a.3) b.3 in
-    let others : fs ≡ hs = pieces_same a.1 b.1 x y fs hs a.4 b.4 c d lines.1 in
+    let others : fs ≡ hs = pieces_same a.1 b.1 x y fs hs a.4 b.4 (fewer ends) lines.1 in
     cc
+  where
+    fewer : (length (f ∷ fs) ≡ length (h ∷ hs)) ⊎ (HasNoLineFeed x × HasNoLineFeed y) → (length fs ≡ length hs)
+        ⊎ (HasNoLineFeed x × HasNoLineFeed y)
+    fewer (inl same) = inl (omega (arith, same))
+    fewer (inr pieces) = inr pieces
+
+-- a line breaks a text off where it is a record too many
+too_many_line : (v k : ℕ) (line more : List ℕ) (f : LogFault) → LineFault v k line more f → BreaksOff f
+    → (k ≡ MAX_RECORDS) × (f ≡ fault.TooMany)
+too_many_line v k line more f (too_many many begins is) off = (many, is)
+too_many_line v k line more f (no_line few no_record no_end is) off =
+    absurd (goes_on (fault.Line (k + 5)) (λ e. cc) (λ e. cc) (subst BreaksOff is off))
+too_many_line v k line more f (out_of_range e few held is_record bad is) off =
+    absurd (goes_on (fault.Range (k + 5)) (λ e. cc) (λ e. cc) (subst BreaksOff is off))
+too_many_line v k line more f (other_count n is_end other is) off =
+    absurd (goes_on fault.Count (λ e. cc) (λ e. cc) (subst BreaksOff is off))
+too_many_line v k line more f (trailing is_end some is) off =
+    absurd (goes_on fault.Trailing (λ e. cc) (λ e. cc) (subst BreaksOff is off))
+
+rest_after : (v k : ℕ) (rest : List ℕ) (f : LogFault) → BreaksOff f → RestFault v k rest f
+    → (HasNoLineFeed rest × (f ≡ fault.Cut)) ⊎ ((k ≡ MAX_RECORDS) × (f ≡ fault.TooMany))
+rest_after v k rest f off (next.cut piece is) = inl (piece, is)
+rest_after v k rest f off (next.at_line line more parts whole bad) = inr (too_many_line v k line more f bad off)
+
+-- two texts that break off with one fault
+both_break_off : (v w k m : ℕ) (x y : List ℕ) (a : BreaksOffAfter v k x) (b : BreaksOffAfter w m y) → a.0 ≡ b.0
+    → (k ≡ m) ⊎ (HasNoLineFeed x × HasNoLineFeed y)
+both_break_off v w k m x y a b same = go (rest_after v k x a.0 a.1 a.2) (rest_after w m y b.0 b.1 b.2)
+  where
+    go : (HasNoLineFeed x × (a.0 ≡ fault.Cut)) ⊎ ((k ≡ MAX_RECORDS) × (a.0 ≡ fault.TooMany))
+        → (HasNoLineFeed y × (b.0 ≡ fault.Cut)) ⊎ ((m ≡ MAX_RECORDS) × (b.0 ≡ fault.TooMany))
+        → (k ≡ m) ⊎ (HasNoLineFeed x × HasNoLineFeed y)
+    go (inl p) (inl q) = inr (p.0, q.0)
+    go (inr p) (inr q) = inl (p.0 ∙ sym q.0)
+    go (inl p) (inr q) = (let e : fault.Cut ≡ fault.TooMany = sym p.1 ∙ same ∙ q.1 in cc)
+    go (inr p) (inl q) = (let e : fault.TooMany ≡ fault.Cut = sym p.1 ∙ same ∙ q.1 in cc)
 
 logs_same : (text : List ℕ) (a b : Log) → IsRecordedText text a → IsRecordedText text b → a ≡ b
 logs_same text a b (inl x) (inl y) = one_log text a b x y
-logs_same text a b (inl x) (inr y) = absurd (log_or_fault text a fault.Cut x (cut_fault text b y))
-logs_same text a b (inr x) (inl y) = absurd (log_or_fault text b fault.Cut y (cut_fault text a x))
+logs_same text a b (inl x) (inr y) = absurd (log_or_fault text a y.cut.0 x (cut_fault text b y))
+logs_same text a b (inr x) (inl y) = absurd (log_or_fault text b x.cut.0 y (cut_fault text a x))
 logs_same text a b (inr x) (inr y) =
     let head = heads_same text (head_of a) (head_of b) x.lines y.lines x.head y.head in
+    let ends = both_break_off a.version b.version (length a.events) (length b.events) x.piece y.piece x.cut y.cut
+    (one_fault text x.cut.0 y.cut.0 (cut_fault text a x) (cut_fault text b y)) in
     let events : a.events ≡ b.events =
     pieces_same x.records.records y.records.records x.piece y.piece a.events b.events x.records.records_are
-    y.records.records_are x.cut y.cut (sym x.records.parts ∙ head.1 ∙ y.records.parts) in
+    y.records.records_are ends (sym x.records.parts ∙ head.1 ∙ y.records.parts) in
     λ j. record {
       version = (head.0 j).version;
       nodes = (head.0 j).nodes;

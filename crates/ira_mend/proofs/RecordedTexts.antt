@@ -12,7 +12,7 @@ use Rattle.ira_event.specs.declared.log_fault.LogFault.TheVariants as fault
 use Rattle.ira_event.specs.declared.log_head.LogHead.{LogHead}
 use Rattle.ira_event.specs.Log.{Log, IsLog}
 use Rattle.ira_event.specs.LogText.{head_of, log_text, record_text, start_word}
-use Rattle.ira_event.specs.LogTextFault.{BeginsWithHead, BeginsWithNoHead, BeginsWithRecords, HasNoLineFeed, LineFault}
+use Rattle.ira_event.specs.LogTextFault.{BeginsWithHead, BeginsWithNoHead, BeginsWithRecords, LineFault}
 use Rattle.ira_event.specs.LogTextFault.{LogTextFault, OpeningFault, RecordsFault, RestFault, no_head, past_head, no_line}
 use Rattle.ira_event.specs.LogTextFault.{other_count, out_of_range, too_many, trailing}
 use Rattle.ira_event.specs.NextLine.{at_line, cut}
@@ -20,7 +20,7 @@ use Rattle.ira_event.specs.Records.{HasRead, IsAtEnd, ReadsOn, ReadsRecord, Reco
 use Rattle.ira_event.proofs.LogAnswers.{log_of, log_or_fault, log_read, one_fault, opening_fault}
 use Rattle.ira_event.proofs.LogReading.{after_all}
 use Rattle.std.proofs.lemmas.Fmt.{length-decimal-le}
-use Rattle.ira_mend.specs.RecordedLogs.{AreLeftTexts, HasHeadOfLog, HasNoLog, HasReadLines, HasRecorded, IsCutText}
+use Rattle.ira_mend.specs.RecordedLogs.{AreLeftTexts, BreaksOff, BreaksOffAfter, HasHeadOfLog, HasNoLog, HasReadLines, HasRecorded, IsCutText}
 use Rattle.ira_mend.specs.RecordedLogs.{IsFirstFault, IsLeftText, IsLost, IsNotLeft, IsRecordOf, IsRecordedReason}
 use Rattle.ira_mend.specs.RecordedLogs.{IsRecordedText, LeftTextsFrom, ReadsWholeLine, RecordsLog, SaysLost, empty_log}
 use Rattle.ira_mend.specs.RecordedLogs.{is_lost, no_log}
@@ -35,20 +35,10 @@ use Rattle.ira_mend.specs.declared.recorded_log.RecordedLog.TheVariants as taken
 
 -- ---- reading on
 
-no_cut_line : (v k : ℕ) (line more : List ℕ) → LineFault v k line more fault.Cut → ⊥
-no_cut_line v k line more (too_many many begins is) = absurd cc
-no_cut_line v k line more (no_line few no_record no_end is) = absurd cc
-no_cut_line v k line more (out_of_range e few held is_record bad is) = absurd cc
-no_cut_line v k line more (other_count n is_end other is) = absurd cc
-no_cut_line v k line more (trailing is_end some is) = absurd cc
-
-cut_piece : (v k : ℕ) (rest : List ℕ) → RestFault v k rest fault.Cut → HasNoLineFeed rest
-cut_piece v k rest (cut none is) = none
-cut_piece v k rest (at_line line more parts whole bad) = absurd (no_cut_line v k line more bad)
-
--- no complete line follows
-pub reads_to_cut : (old new : RecordsLeft) → ReadsOn old new (Err fault.Cut) → ReadsWholeLine old new (Ok None)
-reads_to_cut old new read = (inr (cut_piece old.version old.count old.rest read.0), read.1)
+-- the text breaks off
+pub reads_to_end : (old new : RecordsLeft) (f : LogFault) → BreaksOff f → ReadsOn old new (Err f)
+    → ReadsWholeLine old new (Ok None)
+reads_to_end old new f off read = (inr (f, off, read.0), read.1)
 
 pub reads_on : (old new : RecordsLeft) (r : Option Event) → ReadsOn old new (Ok r) → ReadsWholeLine old new (Ok r)
 reads_on old new (Some e) read = read
@@ -60,19 +50,26 @@ read_whole old new (Some x) e h is = (let same : x ≡ e = cc in subst (ReadsRec
 read_whole old new None e h is = absurd cc
 
 read_last : (old new : RecordsLeft) (r : Option Event) → ReadsWholeLine old new (Ok r) → r ≡ None → IsAtEnd old
-    ⊎ HasNoLineFeed old.rest
+    ⊎ BreaksOffAfter old.version old.count old.rest
 read_last old new (Some x) h is = absurd cc
 read_last old new None h is = h.0
 
--- an end line follows, or no complete line
+-- an end line follows, or the text breaks off
 pub lines_read : (text : List ℕ) (events : List Event) (old new : RecordsLeft) (r : Option Event)
     → HasRead text events old → ReadsWholeLine old new (Ok r) → r ≡ None → HasReadLines old.version text events
 lines_read text events old new r read h is = elim (read_last old new r h is) [
   | inl end ↦
       let all = after_all text events old read end in
       record { tail = all.end ++ codes "\n"; begins = all.begins; ends = inl (all.end, all.end_is, refl) }
-  | inr piece ↦ record { tail = old.rest; begins = read.0; ends = inr piece }
+  | inr off ↦
+      let after = subst (λ (k : ℕ). BreaksOffAfter old.version k old.rest) (sym read.1) off in
+      record { tail = old.rest; begins = read.0; ends = inr after }
 ]
+
+-- any other fault
+pub goes_on : (f : LogFault) → f ≢ fault.Cut → f ≢ fault.TooMany → ¬ (BreaksOff f)
+goes_on f no_piece not_many (inl e) = no_piece e
+goes_on f no_piece not_many (inr e) = not_many e
 
 -- ---- the log of a text
 
@@ -100,39 +97,43 @@ lines_recorded text head rest events few a b = elim b.ends [
   | inr piece ↦ inr (record { few = few; lines = rest; head = a; piece = b.tail; records = b.begins; cut = piece })
 ]
 
-pub opening_recorded : (text : List ℕ) (f : LogFault) → OpeningFault text f → LogTextFault text f × (f ≢ fault.Cut)
-opening_recorded text f bad = (opening_fault text f bad, other f bad)
+pub opening_recorded : (text : List ℕ) (f : LogFault) → OpeningFault text f → LogTextFault text f × ¬ (BreaksOff f)
+opening_recorded text f bad = (opening_fault text f bad, other bad)
   where
-    other : (f : LogFault) → OpeningFault text f → f ≢ fault.Cut
-    other f (inl long) e = (let is : f ≡ fault.TooLong = long.1 in cc)
-    other f (inr none) e = (let is : f ≡ fault.Head = none.2 in cc)
+    other : OpeningFault text f → ¬ (BreaksOff f)
+    other (inl long) off = goes_on fault.TooLong (λ e. cc) (λ e. cc) (subst BreaksOff long.1 off)
+    other (inr none) off = goes_on fault.Head (λ e. cc) (λ e. cc) (subst BreaksOff none.2 off)
 
 pub lines_not_recorded : (text : List ℕ) (head : LogHead) (rest : List ℕ) (v : ℕ) (f : LogFault)
     → length text ≤ MAX_TEXT → BeginsWithHead text head rest → v ≡ head.version → (f ≡ fault.OutOfMemory)
-    ⊎ (RecordsFault v rest f × (f ≢ fault.Cut)) → (f ≡ fault.OutOfMemory) ⊎ (LogTextFault text f × (f ≢ fault.Cut))
+    ⊎ (RecordsFault v rest f × ¬ (BreaksOff f)) → (f ≡ fault.OutOfMemory) ⊎ (LogTextFault text f × ¬ (BreaksOff f))
 lines_not_recorded text head rest v f few a same (inl full) = inl full
 lines_not_recorded text head rest v f few a same (inr bad) =
     inr (inr (few, past_head head rest a (subst (λ (w : ℕ). RecordsFault w rest f) same bad.0)), bad.1)
 
 -- ---- texts that are taken one by one
 
--- a text that is cut has that fault
-pub cut_fault : (text : List ℕ) (log : Log) → IsCutText text log → LogTextFault text fault.Cut
+-- a text that breaks off has that fault
+pub cut_fault : (text : List ℕ) (log : Log) (is : IsCutText text log) → LogTextFault text is.cut.0
 cut_fault text log is = inr (
   is.few,
   past_head (head_of log) is.lines is.head (record {
     events = log.events;
     rest = is.piece;
     begins = is.records;
-    fault = cut is.cut refl;
+    fault = is.cut.2;
   }),
 )
 
 -- what has another fault records no log
-pub not_recorded : (text : List ℕ) (log : Log) (f : LogFault) → LogTextFault text f → f ≢ fault.Cut
+pub not_recorded : (text : List ℕ) (log : Log) (f : LogFault) → LogTextFault text f → ¬ (BreaksOff f)
     → IsRecordedText text log → ⊥
 not_recorded text log f bad other (inl whole) = log_or_fault text log f whole bad
-not_recorded text log f bad other (inr is) = other (one_fault text f fault.Cut bad (cut_fault text log is))
+not_recorded text log f bad other (inr is) =
+    other (subst BreaksOff (sym (one_fault text f is.cut.0 bad (cut_fault text log is))) is.cut.1)
+
+pub head_goes_on : ¬ (BreaksOff fault.Head)
+head_goes_on = goes_on fault.Head (λ e. cc) (λ e. cc)
 
 no_head_line : (v k : ℕ) (line more : List ℕ) → LineFault v k line more fault.Head → ⊥
 no_head_line v k line more (too_many many begins is) = absurd cc
@@ -233,7 +234,7 @@ module _ {A : Type 0} where
   no_log_of : (text : List ℕ) (r : RecordedLog A) → IsRecordOf text r → (log : Log) → IsRecordedText text log
       → ((l : Log) → r ≡ taken.Log l → ⊥) → ⊥
   no_log_of text (taken.Log l) of log is none = none l refl
-  no_log_of text (taken.Short bytes) of log is none = not_recorded text log fault.Head of.1 (λ e. absurd cc) is
+  no_log_of text (taken.Short bytes) of log is none = not_recorded text log fault.Head of.1 head_goes_on is
   no_log_of text (taken.Faulty f) of log is none = not_recorded text log f of.0 of.1 is
 
   -- a log that was taken is recorded
@@ -261,7 +262,7 @@ module _ {A : Type 0} where
 
   -- of each text it is said whether it begins with no head
   lost_said : (text : List ℕ) (r : RecordedLog A) → IsRecordOf text r → SaysLost text (is_lost r)
-  lost_said text (taken.Log log) of = (λ no. cc, λ bad. absurd (not_recorded text log fault.Head bad (λ e. cc) of))
+  lost_said text (taken.Log log) of = (λ no. cc, λ bad. absurd (not_recorded text log fault.Head bad head_goes_on of))
   lost_said text (taken.Short bytes) of = (λ yes. of.1, λ bad. refl)
   lost_said text (taken.Faulty f) of = go f of.0
     where

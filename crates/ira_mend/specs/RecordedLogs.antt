@@ -1,5 +1,5 @@
 -- What a crash left of the texts of a ring's logs.
-use Rattle.std.specs.Prelude.{◌≡◌, ◌≢◌, ◌<◌, ◌≤◌, ◌↔◌, ◌⊎◌, ℕ, suc, Bool, true, false, IsTrue, List, [], ◌∷◌, ◌++◌, Option, Some, None}
+use Rattle.std.specs.Prelude.{◌≡◌, ◌<◌, ◌≤◌, ◌↔◌, ◌⊎◌, ℕ, suc, Bool, true, false, IsTrue, List, [], ◌∷◌, ◌++◌, Option, Some, None}
 use Rattle.std.specs.Prelude.{Result, Ok, Err, codes, length, slice_get, take, ⊤}
 use Rattle.std.specs.List.{AllZip}
 use Rattle.ira_event.specs.Limits.{MAX_TEXT}
@@ -7,12 +7,12 @@ use Rattle.ira_event.specs.declared.event.Event.{Event}
 use Rattle.ira_event.specs.declared.head_fault.HeadFault.{HeadFault}
 use Rattle.ira_event.specs.declared.head_fault.HeadFault.TheVariants.{Number}
 use Rattle.ira_event.specs.declared.log_fault.LogFault.{LogFault}
-use Rattle.ira_event.specs.declared.log_fault.LogFault.TheVariants.{Cut, Head, OutOfMemory}
+use Rattle.ira_event.specs.declared.log_fault.LogFault.TheVariants.{Cut, Head, OutOfMemory, TooMany}
 use Rattle.ira_event.specs.declared.log_head.LogHead.{LogHead}
 use Rattle.ira_event.specs.Log.{Log, IsLog}
 use Rattle.ira_event.specs.LogText.{IsEnd, IsLogText, head_of, log_text}
-use Rattle.ira_event.specs.LogTextFault.{BeginsWithHead, BeginsWithNoHead, BeginsWithRecords, HasNoLineFeed}
-use Rattle.ira_event.specs.LogTextFault.{LogTextFault, RecordsFault, RestFault}
+use Rattle.ira_event.specs.LogTextFault.{BeginsWithHead, BeginsWithNoHead, BeginsWithRecords, LogTextFault, RecordsFault}
+use Rattle.ira_event.specs.LogTextFault.{RestFault}
 use Rattle.ira_event.specs.Logs.{HeadFaultOf}
 use Rattle.ira_event.specs.Records.{IsAtEnd, ReadsRecord, RecordsLeft}
 use Rattle.ira_audit.specs.declared.reason.Reason.{Reason}
@@ -20,20 +20,28 @@ use Rattle.ira_audit.specs.declared.reason.Reason.TheVariants as reason
 use Rattle.ira_mend.specs.declared.recorded_log.RecordedLog.{RecordedLog}
 use Rattle.ira_mend.specs.declared.recorded_log.RecordedLog.TheVariants as taken
 
--- the text is the log's head and the lines of its records, all within the limits, and nothing more or a piece of a line
+-- the fault of a text that ends within its records, or has more of them than a log may have
+abbrev pub BreaksOff : LogFault → Type 0
+BreaksOff f = (f ≡ Cut) ⊎ (f ≡ TooMany)
+
+-- after this many records of the version comes nothing, a piece of a line, or a record too many
+abbrev pub BreaksOffAfter : ℕ → ℕ → List ℕ → Type 0
+BreaksOffAfter version k rest = (f : LogFault) × BreaksOff f × RestFault version k rest f
+
+-- the text is the log's head and the lines of its records, all within the limits, and breaks off
 pub record IsCutText (text : List ℕ) (log : Log) : Type 0 where
   pub few : length text ≤ MAX_TEXT
   pub lines : List ℕ
   pub head : BeginsWithHead text (head_of log) lines
   pub piece : List ℕ
   pub records : BeginsWithRecords log.version lines log.events piece
-  pub cut : HasNoLineFeed piece
+  pub cut : BreaksOffAfter log.version (length log.events) piece
 
--- the text is that of the log, or begins so and is cut
+-- the text is that of the log, or begins so and breaks off
 abbrev pub IsRecordedText : List ℕ → Log → Type 0
 IsRecordedText text log = IsLogText text log ⊎ IsCutText text log
 
--- the first of the texts that is that of a log, or begins so and is cut, is of this log
+-- the first of the texts that is that of a log, or begins so and breaks off, is of this log
 pub record RecordsLog (texts : List (List ℕ)) (log : Log) : Type 0 where
   pub number : ℕ
   pub text : List ℕ
@@ -118,36 +126,37 @@ SaysLost text is_lost = IsTrue is_lost ↔ LogTextFault text Head
 
 -- What follows helps to say what was taken.
 
--- reading on gave the next record's event, none at the end line or where no complete line follows, or another fault of
--- what is left; where it gave no event nothing more was read
+-- reading on gave the next record's event, none at the end line or where the text breaks off, or another fault of what is
+-- left; where it gave no event nothing more was read
 abbrev pub ReadsWholeLine : RecordsLeft → RecordsLeft → Result (Option Event) LogFault → Type 0
 ReadsWholeLine old new (Ok (Some e)) = ReadsRecord old new e
-ReadsWholeLine old new (Ok None) = (IsAtEnd old ⊎ HasNoLineFeed old.rest) × (new ≡ old)
-ReadsWholeLine old new (Err f) = RestFault old.version old.count old.rest f × (f ≢ Cut) × (new ≡ old)
+ReadsWholeLine old new (Ok None) = (IsAtEnd old ⊎ BreaksOffAfter old.version old.count old.rest) × (new ≡ old)
+ReadsWholeLine old new (Err f) = RestFault old.version old.count old.rest f × ¬ (BreaksOff f) × (new ≡ old)
 
--- the text is the lines of these events, all of this version and within the limits, and then their end line, or nothing
--- more or a piece of a line
+-- the text is the lines of these events, all of this version and within the limits, and then their end line, or it breaks
+-- off
 pub record HasReadLines (version : ℕ) (text : List ℕ) (events : List Event) : Type 0 where
   pub tail : List ℕ
   pub begins : BeginsWithRecords version text events tail
-  pub ends : ((end : List ℕ) × IsEnd end (length events) × (tail ≡ end ++ codes "\n")) ⊎ HasNoLineFeed tail
+  pub ends : ((end : List ℕ) × IsEnd end (length events) × (tail ≡ end ++ codes "\n"))
+      ⊎ BreaksOffAfter version (length events) tail
 
 -- a reader of what stands after a head answered its events, its fault, or that memory ran out
 abbrev pub AreReadLines : {X : Type 0} → ℕ → (X → List Event) → Result X LogFault → List ℕ → Type 0
 AreReadLines version view (Ok v) text = HasReadLines version text (view v)
-AreReadLines version view (Err f) text = (f ≡ OutOfMemory) ⊎ (RecordsFault version text f × (f ≢ Cut))
+AreReadLines version view (Err f) text = (f ≡ OutOfMemory) ⊎ (RecordsFault version text f × ¬ (BreaksOff f))
 
 -- what reading a text gave: the log, cut or not, or the fault, or out of memory
 abbrev pub IsRecordedReading : List ℕ → Result Log LogFault → Type 0
 IsRecordedReading text (Ok log) = IsRecordedText text log
-IsRecordedReading text (Err f) = (f ≡ OutOfMemory) ⊎ (LogTextFault text f × (f ≢ Cut))
+IsRecordedReading text (Err f) = (f ≡ OutOfMemory) ⊎ (LogTextFault text f × ¬ (BreaksOff f))
 
 -- what was taken of a text: its log, cut or not; its bytes, where it is short and begins with no head; or its fault, which
--- isn't that it is cut, and where it begins with no head it is longer than any
+-- isn't that it breaks off, and where it begins with no head it is longer than any
 abbrev pub IsRecordOf : {A : Type 0} → List ℕ → RecordedLog A → Type 0
 IsRecordOf text (taken.Log log) = IsRecordedText text log
 IsRecordOf text (taken.Short bytes) = (text ≡ bytes.items) × LogTextFault text Head
-IsRecordOf text (taken.Faulty f) = LogTextFault text f × (f ≢ Cut) × (f ≡ Head → 100 < length text)
+IsRecordOf text (taken.Faulty f) = LogTextFault text f × ¬ (BreaksOff f) × (f ≡ Head → 100 < length text)
 
 -- whether that text begins with no head
 abbrev pub is_lost : {A : Type 0} → RecordedLog A → Bool

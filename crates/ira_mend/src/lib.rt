@@ -14,5 +14,5 @@ pub use laws::{
     mended_runs_are_runs, mending_keeps_whole_pasts,
 };
 pub use mend_fault::MendFault;
-pub use mending::mend;
+pub use mending::{greatest_beginning, mend};
 pub use recorded_logs::RecordedLogs;

@@ -1,7 +1,7 @@
 ghost use Rattle.std.specs.Prelude.{◌≡◌, ◌≤◌, IfOk, length};
 ghost use Rattle.ira_mend.specs.Beginning.{AreBegun, begun};
 ghost use Rattle.ira_mend.specs.Longest.{events_kept};
-ghost use Rattle.ira_mend.specs.Mended.{IsMending};
+ghost use Rattle.ira_mend.specs.Mended.{IsGreatestOf, IsMending};
 ghost use Rattle.ira_order.specs.Cut.{IsCut};
 
 use crate::beginning::Beginning;
@@ -55,13 +55,23 @@ fn begin_logs<A: Allocator + Clone>(
 }
 
 /// The greatest consistent beginning of the logs of a ring: of each log the longest beginning such that on each link the
-/// receipts are no more than the sendings. A receipt in it that is of another message than its sending is a fault; what
-/// stands after the beginnings isn't looked at.
+/// receipts are no more than the sendings.
+pub fn greatest_beginning<A: Allocator + Clone>(
+    alloc: A,
+    logs: &Logs<A>,
+) -> Result<Logs<A>, OutOfMemory>
+    ensures { IfOk result (IsGreatestOf logs.now) }
+{
+    let kept = longest_beginnings(alloc.clone()?, logs)?;
+    Ok(begin_logs(alloc, logs, &kept)?)
+}
+
+/// The greatest consistent beginning, if it matches: a receipt in it that is of another message than its sending is a
+/// fault. What stands after the beginnings isn't looked at.
 pub fn mend<A: Allocator + Clone>(alloc: A, logs: &Logs<A>) -> Result<Logs<A>, MendFault>
     ensures { IsMending logs.now result }
 {
-    let kept = longest_beginnings(alloc.clone()?, logs)?;
-    let mended = begin_logs(alloc, logs, &kept)?;
+    let mended = greatest_beginning(alloc, logs)?;
     match_links(&mended)?;
     Ok(mended)
 }

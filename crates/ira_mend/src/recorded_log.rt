@@ -19,7 +19,7 @@ const MOST_OF_HEAD: usize = 100;
 /// What is taken of a log's text.
 #[derive(Drop)]
 pub(crate) enum RecordedLog<A: Allocator> {
-    /// The log, as far as its complete lines go.
+    /// The log, as far as its records go and no further than a log may have them.
     Log(NodeLog<A>),
     /// The bytes of a short text that begins with no head.
     Short(Vec<u8, A>),
@@ -27,19 +27,20 @@ pub(crate) enum RecordedLog<A: Allocator> {
     Faulty(LogFault),
 }
 
-/// The event of the next record, `None` where the end line follows and ends the text or the text is cut, or another fault
-/// of what follows.
+/// The event of the next record, `None` where the end line follows and ends the text or the text breaks off, or another
+/// fault of what follows.
 fn next_whole_line(records: &mut Records<'_>) -> Result<Option<Event>, LogFault>
     ensures { ReadsWholeLine records.old records.new result }
 {
     match records.next_event() {
         Ok(read) => Ok(read),
         Err(LogFault::Cut) => Ok(None),
+        Err(LogFault::TooMany) => Ok(None),
         Err(fault) => Err(fault),
     }
 }
 
-/// The events of all complete record lines, none of which was read yet, where an end line follows or the text is cut.
+/// The events of all complete record lines, none of which was read yet, where an end line follows or the text breaks off.
 fn read_lines<A: Allocator>(alloc: A, records: Records<'_>) -> Result<PackedEvents<A>, LogFault>
     requires { records.count ≡ 0 }
     ensures { AreReadLines records.entry.version (λ events. events) result records.entry.rest }
@@ -52,7 +53,7 @@ fn read_lines<A: Allocator>(alloc: A, records: Records<'_>) -> Result<PackedEven
     Ok(events)
 }
 
-/// The log of a text, or of the complete lines of one that is cut; or the text's fault.
+/// The log of a text, or of the whole records of one that breaks off; or the text's fault.
 fn read_recorded<A: Allocator>(alloc: A, text: &[u8]) -> Result<NodeLog<A>, LogFault>
     ensures { IsRecordedReading text.now result }
 {

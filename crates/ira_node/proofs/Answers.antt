@@ -36,7 +36,7 @@ Judged n s e r = MatchResult r (λ t. NodeStep n s e t) (λ f. NodeStepFault n s
 greater_means : (m : Msg) (round id : ℕ) → is_greater m round id ≡ true → IsGreater m round id
 greater_means m round id h = grind (arith, nat_tests)
 
-less_means : (m : Msg) (round id : ℕ) → is_less m round id ≡ true → IsLess m round id
+pub less_means : (m : Msg) (round id : ℕ) → is_less m round id ≡ true → IsLess m round id
 less_means m round id h = grind (arith, nat_tests)
 
 equal_means : (m : Msg) (round id : ℕ) → is_greater m round id ≡ false → is_less m round id ≡ false → IsEqual m round id

@@ -1,3 +1,4 @@
+pub mod Handling
 pub mod Laws
 pub mod Msg
 pub mod NodeState

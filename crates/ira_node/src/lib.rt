@@ -3,12 +3,14 @@
 //! Computation 88, 1990).
 #![tactic(auto)]
 
+mod handling;
 mod laws;
 mod node_state;
 mod phase;
 mod step_fault;
 mod wanted;
 
+pub use handling::Handling;
 pub use laws::{
     a_step_or_a_fault, no_step_beside_a_fault, numbers_stay_recordable, one_fault, one_next_state,
     raised_hop_is_recordable, sendings_are_recordable, version_1_has_no_resets,

@@ -6,7 +6,7 @@ use Rattle.ira_par.specs.declared.unsound_section.UnsoundSection.{UnsoundSection
 use Rattle.ira_par.specs.CandidateTable.{AreBelow}
 use Rattle.ira_par.specs.Task.{Task, IsFoundFor}
 
--- for how many places there are counters, and the first section in whose range a fault was found
+-- for how many places there is room, and the first section in whose range a fault was found
 pub record Share : Type 0 where
   pub places : ℕ
   pub found : Option UnsoundSection

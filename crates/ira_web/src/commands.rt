@@ -3,17 +3,15 @@ ghost use Rattle.ira_commands.specs.Judging.{JudgesLog};
 ghost use Rattle.ira_commands.specs.Mend.{MendsTexts};
 ghost use Rattle.ira_commands.specs.Reply.{Reports};
 ghost use Rattle.ira_commands.specs.Upgrade.{UpgradesTexts};
-ghost use Rattle.ira_mend.specs.RecordedLogs.{HasRecorded};
 ghost use Rattle.ira_view.specs.Texts.{texts_of};
 ghost use Rattle.ira_web.specs.Serves.{AnswersAll, AnswersFiles, AreCommandFiles, widest_command};
 
 use ira_audit::LogAudit;
 use ira_commands::{
     GivenFiles, LogsCommand, Overview, OverviewQuestion, Reply, RingForm, RingMoment, answer,
-    answer_overview, mend_left, upgrade_taken,
+    answer_overview, mend_left, take_left, upgrade_taken,
 };
 use ira_event::OutOfMemory;
-use ira_mend::RecordedLogs;
 use ira_view::{AskedFiles, Form, take_texts};
 use ira_view_page::NamedText;
 use std::alloc::{AllocError, Allocator};
@@ -37,20 +35,6 @@ pub(crate) fn upgrade<A: Allocator + Clone>(
 {
     let audit = take_texts(alloc.clone()?, logs)?;
     upgrade_taken(alloc, audit)
-}
-
-/// What is left of logs, of which these are the texts.
-fn take_left<A: Allocator + Clone>(
-    alloc: A,
-    texts: &[NamedText<'_>],
-) -> Result<RecordedLogs<A>, OutOfMemory>
-    ensures { IfOk result (λ recorded. HasRecorded recorded (texts_of texts.now)) }
-{
-    let mut recorded = RecordedLogs::new(alloc);
-    for file in texts {
-        recorded.take(file.text)?;
-    }
-    Ok(recorded)
 }
 
 /// Of what is left of the logs of a ring the longest beginnings such that all are consistent.

@@ -1,12 +1,12 @@
 use Rattle.std.proofs.Common.{length}
 use Rattle.ira_node.specs.NodeState.{first_state}
-use Rattle.ira_audit.proofs.Replaying.{Keeping}
+use Rattle.ira_audit.specs.Replaying.{HasKept}
 use Rattle.ira_audit.proofs.replayed_log.read_and_replay.Given as goal
 
-abbrev pub invariant-loop-events : goal.invariant-loop-events
-invariant-loop-events g l =
-    Keeping l.fn.records.version l.fn.records.rest l.nodes (first_state l.initiator) l.records l.events l.state
-    l.position l.first_fault
+abbrev pub invariant-loop-state : goal.invariant-loop-state
+invariant-loop-state g l =
+    HasKept l.fn.records.version l.fn.records.rest l.nodes (first_state l.initiator) l.records l.events l.state
+    l.first_fault
 
-abbrev pub decreases-loop-events : goal.decreases-loop-events
-decreases-loop-events g l = length l.records.rest
+abbrev pub decreases-loop-state : goal.decreases-loop-state
+decreases-loop-state g l = length l.records.rest

@@ -1,31 +1,34 @@
-use Rattle.std.proofs.Common.{◌≡◌, IfOk, None, Option, Some, ap, subst}
-use Rattle.std.specs.Borrow.{Bor}
-use Rattle.std.specs.Option.{option_copied, option_map}
-use Rattle.ira_audit.proofs.TextRuns.{yes_runs}
-use Rattle.ira_view_election.specs.Election.{Standing, standing_of}
-use Rattle.ira_view_election.specs.declared.election.Election.{Election}
-use Rattle.ira_view.specs.Texts.{texts_of}
-use Rattle.ira_commands.proofs.Served.{if_ok}
-use Rattle.ira_commands.specs.Reply.{ExplainsAs}
+use Rattle.std.proofs.Common.{◌≡◌, ◌∙◌, ◌++◌, List, ℕ, ap, append_assoc, false, true}
+use Rattle.ira_event.specs.Sink.{Memory}
+use Rattle.ira_view.specs.declared.status.Status.{Status}
+use Rattle.ira_commands.specs.Explain.ExplainsAll.{alone, goes_on}
+use Rattle.ira_commands.specs.Reply.{Reply, printed}
 use Rattle.ira_commands.proofs.explain.explain_all.Goals as goal
+use Rattle.ira_commands.proofs.explain.explain_all.Goals.{else-goes_on, then-goes_on+in_ok-write_begun}
 
--- how an election stands that is lent
-lent : {A : Type 0} (borrowed : Option (Bor (Election A))) (election : Option (Election A))
-    → option_copied borrowed ≡ election
-    → option_map (λ e. standing_of e.now) borrowed ≡ option_map standing_of election
-lent (Some e) election is = ap (option_map standing_of) is
-lent None election is = ap (option_map standing_of) is
+-- what is printed, after a sink took it
+told : (reply : Reply) (status other : Status) (bytes text : List ℕ) → reply ≡ printed status bytes → status ≡ other
+    → bytes ≡ text → reply ≡ printed other text
+told reply status other bytes text is same so =
+    is ∙ ap (λ (s : Status). printed s bytes) same ∙ ap (λ (t : List ℕ). printed other t) so
 
 pub returns : goal.returns
 returns g c =
-    let ring = c.in_ok-ring.ring in
-    let view = ring.view in
-    let tells = subst (λ (known : Option Standing). IfOk c.tell_view.result
-    (ExplainsAs c.args.form view.explanation known view.answer))
-    (lent c.as_ref.result ring.election c.as_ref.ensures.value) c.tell_view.ensures in
-    if_ok c.tell_view.result (λ reply told. record {
-      answer = view.answer;
-      judged = c.in_ok-ring.ensures.answer;
-      runs = yes_runs (texts_of c.args.logs.now) view.answer c.in_ok-ring.ensures.answer;
-      told = (view.explanation, _, c.args.judged.now, c.requires, c.in_ok-ring.ensures.explained, told);
-    }) tells
+    let answer = c.in_ok-answer.answer in
+    let wrote = c.in_ok-answer.ensures.text in
+    let first : c.write_explained.new.text.bytes ≡ wrote.0 = wrote.2
+    ∙ ap (λ (m : Memory). m.bytes ++ wrote.0) c.new-text.ensures in
+    elim c.if-goes_on.branch [
+      | then-goes_on+in_ok-write_begun w ↦
+          let more = w.in_ok-write_begun.ensures in
+          goes_on answer wrote.0 more.0 wrote.1 (c.goes_on.ensures.0 w.if-goes_on.true) more.1
+          (told c.printed.result c.of_answer.result _ c.if-goes_on.text.bytes (wrote.0 ++ more.0) c.printed.ensures
+          c.of_answer.ensures (ap (λ (m : Memory). m.bytes) w.text-is ∙ more.2
+          ∙ ap (λ (t : List ℕ). t ++ more.0) first))
+      | else-goes_on w ↦
+          alone answer wrote.0 wrote.1
+          (λ on. (let yes : c.goes_on.result ≡ true = c.goes_on.ensures.1 on in
+          let no : c.goes_on.result ≡ false = w.if-goes_on.false in cc))
+          (told c.printed.result c.of_answer.result _ c.if-goes_on.text.bytes wrote.0 c.printed.ensures
+          c.of_answer.ensures (ap (λ (m : Memory). m.bytes) w.text-is ∙ first))
+    ]

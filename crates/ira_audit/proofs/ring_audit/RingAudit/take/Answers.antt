@@ -27,9 +27,7 @@ returns-in_ok-push-in-Ok-clause-ok g c = λ texts taken.
     let all = keeps_log texts kept.0 c.self.inside.fault c.args.text.now log c.if-is_some.ensures kept.1 read in
     let stands : StandFor (logs ++ c.if-are_all_there.kept ∷ []) (kept.0 ++ log ∷ []) = elim c.if-are_all_there.branch [
       | then-are_all_there+in_ok-clone-in-Ok w ↦
-          let there = subst (λ (a : RingAudit). (first : Log) × (slice_get a.logs 0 ≡ Some first)
-          × (first.nodes ≤ length a.logs)) (sym c.self.view_is)
-          (c.are_all_there.ensures w.if-are_all_there.true) in
+          let there = c.are_all_there.ensures w.if-are_all_there.true in
           stand_head logs kept.0 c.if-are_all_there.kept log there.0 kept.2 (ap head_of w.kept-is
           ∙ w.without_events-kept.ensures) there.1 there.2
       | else-are_all_there w ↦ stand_both logs kept.0 (c.if-are_all_there.kept ∷ []) (log

@@ -2,7 +2,7 @@ use Rattle.std.proofs.Common.{◌≡◌, ◌∙◌, inl, inr, refl, subst, sym}
 use Rattle.ira_event.specs.LogTextFault.{LogTextFault}
 use Rattle.ira_event.specs.declared.log_fault.LogFault.TheVariants.{Head}
 use Rattle.ira_mend.specs.RecordedLogs.{IsLost, IsRecordOf}
-use Rattle.ira_mend.proofs.RecordedTexts.{not_lost, not_recorded}
+use Rattle.ira_mend.proofs.RecordedTexts.{head_goes_on, not_lost, not_recorded}
 use Rattle.ira_mend.proofs.recorded_log.RecordedLog.into_log.Goals as goal
 
 pub returns-in-Some : goal.returns-in-Some
@@ -24,7 +24,7 @@ returns-in-Short g c = λ text of.
       refl,
       is.1,
       λ log left. elim left [
-        | inl whole ↦ not_recorded text log Head is.1 (λ e. absurd cc) whole
+        | inl whole ↦ not_recorded text log Head is.1 head_goes_on whole
         | inr lost ↦
             none log (subst (λ t. IsLost c.args.ring c.args.guess c.args.number t log) (sym bytes) lost)
       ],

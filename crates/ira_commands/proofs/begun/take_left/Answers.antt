@@ -5,7 +5,7 @@ use Rattle.ira_mend.specs.RecordedLogs.{HasRecorded}
 use Rattle.ira_view_page.specs.declared.named_text.NamedText.{NamedText}
 use Rattle.ira_view.proofs.Texts.{text_at}
 use Rattle.ira_view.specs.Texts.{texts_of}
-use Rattle.ira_web.proofs.commands.take_left.Goals as goal
+use Rattle.ira_commands.proofs.begun.take_left.Goals as goal
 
 pub loop-file-preserved : goal.loop-file-preserved
 loop-file-preserved g c =

@@ -1,7 +1,7 @@
 use Rattle.std.proofs.Common.{◌≤◌, length, take}
 use Rattle.ira_mend.specs.RecordedLogs.{HasRecorded}
 use Rattle.ira_view.specs.Texts.{texts_of}
-use Rattle.ira_web.proofs.commands.take_left.Given as goal
+use Rattle.ira_commands.proofs.begun.take_left.Given as goal
 
 abbrev pub invariant-loop-file : goal.invariant-loop-file
 invariant-loop-file g l = record {

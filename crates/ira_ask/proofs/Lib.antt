@@ -1,0 +1,11 @@
+pub mod Answering
+pub mod Lines
+pub mod Lists
+pub mod Meaning
+pub mod OneAnswer
+pub mod Parting
+pub mod PartsRead
+pub mod Picking
+pub mod Probes
+pub mod Taking
+pub mod Valid

@@ -1,0 +1,56 @@
+-- What comes of asking for the question of a sentence.
+use Rattle.std.specs.Prelude.{◌≡◌, ℕ, ◌<◌, ◌≤◌, ◌⊎◌, List, length, Result, Ok, Err}
+use Rattle.ira_pred.specs.Limits.{MAX_CASES}
+use Rattle.ira_pred.specs.Question.{QuestionCases}
+use Rattle.ira_pred.specs.QuestionText.{IsShort, question_text}
+use Rattle.ira_ask.specs.declared.picks.Picks.{Picks}
+use Rattle.ira_ask.specs.declared.sentence_fault.SentenceFault.{SentenceFault}
+use Rattle.ira_ask.specs.declared.sentence_fault.SentenceFault.TheVariants.{TooLong, Part, TooDeep, ManyCases}
+use Rattle.ira_ask.specs.declared.sentence_fault.SentenceFault.TheVariants.{LongQuestion, OutOfMemory}
+use Rattle.ira_ask.specs.Asked.{asked, together}
+use Rattle.ira_ask.specs.Choices.{PicksOf, choices}
+use Rattle.ira_ask.specs.Sentence.{Sentence}
+use Rattle.ira_ask.specs.SentenceText.{IsSentenceText, MAX_SENTENCE, MayBeClause, StopsAt}
+
+-- what is asked of each node, with what is asked of all, is a clause
+pub record HasClauses (s : Sentence) : Type 0 where
+  pub any : MayBeClause (together s.any s.all)
+  pub other : MayBeClause (together s.other s.all)
+  pub each_other : MayBeClause (together s.each_other s.all)
+
+-- this is the question of the text of a sentence for a ring of n nodes
+pub record IsAsked (n : ℕ) (text : List ℕ) (q : QuestionCases) : Type 0 where
+  pub sentence : Sentence
+  pub picks : Picks
+  pub short_text : length text ≤ MAX_SENTENCE
+  pub text_is : IsSentenceText text sentence
+  pub clauses : HasClauses sentence
+  pub picks_are : PicksOf sentence.any sentence.other picks
+  pub few : length (choices n picks) ≤ MAX_CASES
+  pub is : q ≡ asked n sentence picks
+  pub short : IsShort q
+
+-- why there is none
+pub data IsSentenceFault (n : ℕ) (text : List ℕ) (f : SentenceFault) : Type 0 where
+  -- the text is too long
+  too_long : MAX_SENTENCE < length text → f ≡ TooLong → IsSentenceFault n text f
+  -- it is no sentence's
+  part : (byte : ℕ) → length text ≤ MAX_SENTENCE → StopsAt text byte → f ≡ Part byte → IsSentenceFault n text f
+  -- the clause of a node and that of all are nested too deep together
+  too_deep : (s : Sentence) → length text ≤ MAX_SENTENCE → IsSentenceText text s → ¬ (HasClauses s) → f ≡ TooDeep
+      → IsSentenceFault n text f
+  -- there are more ways to pick nodes than a question has cases
+  many_cases :
+      (s : Sentence) (picks : Picks) → length text ≤ MAX_SENTENCE → IsSentenceText text s → HasClauses s
+      → PicksOf s.any s.other picks → MAX_CASES < length (choices n picks) → f ≡ ManyCases → IsSentenceFault n text f
+  -- the question's text is too long
+  long_question :
+      (s : Sentence) (picks : Picks) → length text ≤ MAX_SENTENCE → IsSentenceText text s → HasClauses s
+      → PicksOf s.any s.other picks → length (choices n picks) ≤ MAX_CASES → ¬ (IsShort (asked n s picks))
+      → f ≡ LongQuestion
+      → IsSentenceFault n text f
+
+-- unless memory ran out, the text of that question, or that fault
+abbrev pub Answers : {T : Type 0} → (T → List ℕ) → ℕ → List ℕ → Result T SentenceFault → Type 0
+Answers text_of n sentence (Ok text) = (q : QuestionCases) × IsAsked n sentence q × (text_of text ≡ question_text q)
+Answers text_of n sentence (Err f) = (f ≡ OutOfMemory) ⊎ IsSentenceFault n sentence f

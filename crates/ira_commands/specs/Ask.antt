@@ -1,0 +1,18 @@
+-- What comes of asking for the question that a sentence stands for.
+use Rattle.std.specs.Prelude.{◌≡◌, ℕ, List}
+use Rattle.ira_ask.specs.SentenceAnswer.{IsAsked, IsSentenceFault}
+use Rattle.ira_ask.specs.declared.sentence_fault.SentenceFault.{SentenceFault}
+use Rattle.ira_event.specs.RingSize.{IsRingSize}
+use Rattle.ira_pred.specs.Question.{QuestionCases}
+use Rattle.ira_pred.specs.QuestionText.{question_text}
+use Rattle.ira_commands.specs.Reply.{Reply, printed, refused}
+use Rattle.ira_commands.specs.declared.command_fault.CommandFault.TheVariants.{NoSentence, RingSize}
+use Rattle.ira_view.specs.declared.status.Status.TheVariants.{Yes}
+
+-- the question of the sentence for a ring of so many nodes is printed; or the text has none; or no ring has so many
+pub data AsksSentence (nodes : ℕ) (sentence : List ℕ) (reply : Reply) : Type 0 where
+  asked : IsRingSize nodes → (question : QuestionCases) → IsAsked nodes sentence question
+      → reply ≡ printed Yes (question_text question) → AsksSentence nodes sentence reply
+  no_question : IsRingSize nodes → (fault : SentenceFault) → IsSentenceFault nodes sentence fault
+      → reply ≡ refused (NoSentence fault) → AsksSentence nodes sentence reply
+  no_ring : ¬ (IsRingSize nodes) → reply ≡ refused RingSize → AsksSentence nodes sentence reply
