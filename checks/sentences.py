@@ -13,8 +13,8 @@ from pictures import HERE
 LITERAL = re.compile(r'"((?:[^"\\]|\\.)*)"', re.S)
 # A literal shorter than this tells no sentence.
 LEAST = 9
-# No command is given no file.
-NEVER = {'No file is given.'}
+# No command is given no file, and none prints a fault's own words.
+NEVER = {'No file is given.', 'the sink failed'}
 
 
 def words(text):
