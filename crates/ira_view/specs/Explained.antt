@@ -1,11 +1,10 @@
 -- What is told of texts beside their answer.
-use Rattle.std.specs.Prelude.{◌≡◌, ℕ, List, [], ◌∷◌, ◌++◌, None, Option, Some, codes, length}
+use Rattle.std.specs.Prelude.{◌≡◌, ℕ, List, [], ◌++◌, None, Option, Some, codes, length}
 use Rattle.ira_event.specs.Log.{Log}
 use Rattle.ira_cert_text.specs.Certificate.{Certificate, Section}
 use Rattle.ira_cert_text.specs.CertText.{IsCertText}
 use Rattle.ira_audit.specs.AskedQuestion.{AskedQuestion}
 use Rattle.ira_audit.specs.CheckAnswer.{AreSound}
-use Rattle.ira_audit.specs.Judged.{IsJudged}
 use Rattle.ira_audit.specs.QuestionFitsLogs.{QuestionFitsLogs}
 use Rattle.ira_audit.specs.Refusal.{IsCertificateRefusal, IsFindingsReason, IsSectionsRefusal}
 use Rattle.ira_audit.specs.declared.answer.Answer.{Answer}
@@ -29,7 +28,7 @@ use Rattle.ira_view_explain.specs.Refused.{IsTold}
 use Rattle.ira_view_explain_question.specs.declared.asked_files.AskedFiles.{AskedFiles}
 use Rattle.ira_view_explain_question.specs.Explanation.{AreFindingsExplained, IsNoCertificateExplained}
 use Rattle.ira_view_explain_question.specs.Explanation.{IsNoQuestionExplained, IsSizeExplained, IsUnsoundExplained}
-use Rattle.ira_view.specs.Texts.{AreFiles, texts_of}
+use Rattle.ira_view.specs.Texts.{texts_of}
 
 -- of the text of one log alone, which has this answer: the evidence for it
 pub record IsLogExplanation {A : Type 0} (file : NamedText) (answer : Answer) (explanation : Explanation A)
@@ -123,23 +122,3 @@ pub data IsCheckExplanation {A : Type 0} (files : AskedFiles) (certificate : Nam
       (reason : Reason) → IsFindingsReason (texts_of files.logs.now) files.question.now.text.now reason
       → answer ≡ No reason → IsRefusal files judged reason explanation
       → IsCheckExplanation files certificate judged answer explanation
-
--- the files have these names and texts, the texts are judged, and this holds of both
-abbrev pub OfJudged : (A : Type 0) → List (List ℕ) → List (List ℕ) → (List NamedText → Judged A → Type 0) → Type 0
-OfJudged A names texts Holds =
-    (files : List NamedText) × (judged : Judged A) × AreFiles names texts files × IsJudged texts judged
-    × Holds files judged
-
--- the same with a question, in a file of this name and with this text
-abbrev pub OfAsked : (A : Type 0) → List ℕ → List (List ℕ) → List ℕ → List (List ℕ)
-    → (AskedFiles → Judged A → Type 0) → Type 0
-OfAsked A asked names question texts Holds =
-    (files : AskedFiles) × (judged : Judged A) × AreFiles names texts files.logs.now × IsJudged texts judged
-    × AreFiles (asked ∷ []) (question ∷ []) (files.question.now ∷ []) × Holds files judged
-
--- the same with a certificate too
-abbrev pub OfCertified : (A : Type 0) → List ℕ → List ℕ → List (List ℕ) → List ℕ → List ℕ → List (List ℕ)
-    → (AskedFiles → NamedText → Judged A → Type 0) → Type 0
-OfCertified A asked certified names question certificate texts Holds =
-    (file : NamedText) × AreFiles (certified ∷ []) (certificate ∷ []) (file ∷ [])
-    × OfAsked A asked names question texts (λ files judged. Holds files file judged)

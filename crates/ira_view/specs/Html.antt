@@ -6,7 +6,7 @@ use Rattle.ira_audit.specs.RefusedLogs.{RefusedLogs}
 use Rattle.ira_audit.specs.declared.answer.Answer.TheVariants.{No}
 use Rattle.ira_audit.specs.declared.judged.Judged.{Judged}
 use Rattle.ira_audit.specs.declared.judged.Judged.TheVariants.{Good, NoRing, Refused}
-use Rattle.ira_view_moment.specs.Told.{Told, at_end}
+use Rattle.ira_view_moment.specs.Told.{Told}
 use Rattle.ira_view_page.specs.declared.explanation.Explanation.{Explanation}
 use Rattle.ira_view_page.specs.declared.named_text.NamedText.{NamedText}
 use Rattle.ira_view_draw.specs.MomentLine.{cut_with_line}
@@ -73,8 +73,3 @@ abbrev pub IsJudgedTold : {A : Type 0} → List NamedText → Judged A → List 
 IsJudgedTold files (Good logs) told = told ≡ []
 IsJudgedTold {A} files (Refused refused) told = IsRefusalTold A files refused told
 IsJudgedTold files (NoRing reason) told = told ≡ []
-
--- the text is the page of refused logs in files at these columns
-abbrev pub IsRefusalHtml : Type 0 → List NamedText → RefusedLogs → Option ℕ → Option ℕ → List ℕ → Type 0
-IsRefusalHtml A files refused from to =
-    IsHtmlOf (IsPictureTold refused.logs at_end None from to) (IsRefusalTold A files refused)

@@ -6,45 +6,21 @@ ghost use Rattle.ira_view_page.specs.Printable.{IsPrintable};
 ghost use Rattle.ira_view_picture.specs.DrawFault.{HasTooManyEvents};
 ghost use Rattle.ira_view_picture.specs.declared.draw_fault.DrawFault.TheVariants.{TooManyEvents};
 ghost use Rattle.ira_view.specs.Html.{AreLogLines, IsHtmlOf, IsJudgedTold, IsPictureTold, IsRingHtml};
-ghost use Rattle.ira_view.specs.ShownRing.{AreJsonLines, HasTooManyAt};
+ghost use Rattle.ira_view.specs.ShownRing.{HasTooManyAt};
 ghost use Rattle.ira_view.specs.Texts.{texts_of};
-ghost use Rattle.ira_view.specs.declared.status.Status.TheVariants.{Yes};
 
 use crate::explain::explain_texts;
 use crate::has_name::HasName;
 use crate::shown_ring::ShownRing;
-use crate::status::Status;
 use crate::view_writer::view_line;
 use ira_audit::{Answer, Judged, RefusedLogs};
-use ira_event::{Logs, MemorySink, OutOfMemory};
+use ira_event::{Logs, OutOfMemory};
 use ira_view_html::html_page;
-use ira_view_json::{ShownAnswer, explanation_line, log_line, picture_line};
+use ira_view_json::{explanation_line, log_line, picture_line};
 use ira_view_moment::ChosenMoment;
 use ira_view_page::{NamedText, PageText};
 use ira_view_picture::{ColumnRange, DrawFault, Picture};
 use std::alloc::Allocator;
-
-/// Adds what is told of a ring, of its moment or of all events, as lines of JSON.
-pub fn add_json<A: Allocator + Clone>(
-    alloc: A,
-    ring: &ShownRing<A>,
-    files: &[String<A>],
-    has_events: bool,
-    lines: &mut MemorySink<A>,
-) -> Result<(), OutOfMemory>
-    requires { length files.now ≡ length ring.now.logs }
-    ensures { OnOk result ((added : List ℕ) × AreJsonLines has_events None ring.now Yes added
-        × (lines.new.bytes ≡ lines.old.bytes ++ added)) }
-{
-    let answer = ShownAnswer {
-        status: Status::Yes.number(),
-        named: None,
-    };
-    match ring.write_json(alloc, files, answer, has_events, lines) {
-        Ok(()) => Ok(()),
-        Err(_) => Err(OutOfMemory),
-    }
-}
 
 /// A page to move in what happened at these columns, which tells of the ring at its moment. These are the names of the
 /// files of the logs, in their order.

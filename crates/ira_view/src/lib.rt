@@ -30,7 +30,7 @@ pub use draw_fault_line::too_many_events;
 pub use explain::{explain_text, explain_texts};
 pub use findings_view::FindingsView;
 pub use form::Form;
-pub use html::{add_json, refused_html, refused_lines, ring_html};
+pub use html::{refused_html, refused_lines, ring_html};
 pub use ira_view_explain_question::AskedFiles;
 pub use leads::{differences, missing_leader, unfinished_election};
 pub use mended_lines::write_mended;

@@ -6,7 +6,10 @@ use Rattle.ira_pred.specs.Case.{Conjunct}
 use Rattle.ira_pred.specs.QuestionText.{IsPlaced}
 use Rattle.ira_pred.specs.QuestionTextFault.{lines_of}
 use Rattle.ira_view_page.specs.declared.named_text.NamedText.{NamedText}
+use Rattle.ira_view_page.specs.declared.page.Emphasis.{Emphasis}
 use Rattle.ira_view_page.specs.Lines.{IsLine}
+use Rattle.ira_view_page.specs.Page.{mark_text}
+use Rattle.ira_view_page.specs.Places.{place_text}
 use Rattle.ira_view_page.specs.Quoted.{quoted_text}
 
 -- the line of a clause of the case of a number, both counted from 0: two lines of the head, the cases before, and the
@@ -49,3 +52,8 @@ abbrev pub AreClausesTold : NamedText → List (List Conjunct) → ℕ → List 
 AreClausesTold question cases number case text =
     (lines : List (List ℕ)) × AreClauseLines question cases number (min (length case) 8) lines
     × (text ≡ listed_text lines ++ more_clauses_text (length case))
+
+-- a line of a file on a page, counted from 1
+abbrev pub line_text : Emphasis → List ℕ → ℕ → List ℕ → List ℕ
+line_text mark file number bytes =
+    mark_text mark ++ place_text file number ++ codes ": " ++ quoted_text bytes ++ codes "\n"

@@ -16,25 +16,22 @@ use Rattle.ira_view_page.specs.declared.evidence.Evidence.{Evidence}
 use Rattle.ira_view_page.specs.declared.evidence.Evidence.TheVariants.{Line}
 use Rattle.ira_view_page.specs.declared.explanation.Explanation.{Explanation}
 use Rattle.ira_view_page.specs.declared.named_text.NamedText.{NamedText}
-use Rattle.ira_view_page.specs.declared.page.Emphasis.{Emphasis}
 use Rattle.ira_view_page.specs.declared.page.Emphasis.TheVariants.{Named}
 use Rattle.ira_view_page.specs.declared.quoted_line.QuotedLine.{QuotedLine}
 use Rattle.ira_view_page.specs.Lines.{IsLine}
-use Rattle.ira_view_page.specs.Page.{mark_text}
-use Rattle.ira_view_page.specs.Places.{place_text}
-use Rattle.ira_view_page.specs.Quoted.{quoted_text}
 use Rattle.ira_view_page.specs.Counts.{counts}
 use Rattle.ira_view_page.specs.Parts.{AreParts}
 use Rattle.ira_view_explain_question.specs.declared.asked_files.AskedFiles.{AskedFiles}
 use Rattle.ira_view_explain_question.specs.declared.asked_finding.AskedStop.{AskedStop}
 use Rattle.ira_view_explain_question.specs.declared.section_finding.SectionFinding.{SectionFinding}
 use Rattle.ira_view_explain_question.specs.AskedFinding.{IsStopTold, TellsStop}
+use Rattle.ira_view_explain_question.specs.AskedLines.{line_text}
 use Rattle.ira_view_explain_question.specs.CertificateFinding.{IsCertificateStop}
 use Rattle.ira_view_explain_question.specs.ChosenCases.{chosen_cases, rest_text}
 use Rattle.ira_view_explain_question.specs.ExplainedCase.{IsCaseOf, TellsCaseOf}
 use Rattle.ira_view_explain_question.specs.QuestionFinding.{IsQuestionStop}
-use Rattle.ira_view_explain_question.specs.SectionCount.{IsMissingTold, TellsCount}
-use Rattle.ira_view_explain_question.specs.SectionFinding.{IsSectionFinding, IsSectionTold, TellsSection}
+use Rattle.ira_view_explain_question.specs.SectionCount.{IsMissingTold, TellsMissing}
+use Rattle.ira_view_explain_question.specs.SectionFinding.{IsSectionFinding, IsSectionTold, section_text}
 use Rattle.ira_view_page.specs.PointedLine.{IsQuoted}
 
 -- the first eight chosen cases are explained, in their order, on the page and as values, and nothing else is
@@ -56,11 +53,6 @@ abbrev pub AreFindingsExplained : {A : Type 0} → AskedFiles → AskedQuestion 
 AreFindingsExplained files asked (Cases nodes found) case explanation =
     AreCasesExplained files asked found.items case explanation
 AreFindingsExplained files asked (Refused reason) case explanation = ⊥
-
--- a line of a file on a page, counted from 1
-abbrev pub line_text : Emphasis → List ℕ → ℕ → List ℕ → List ℕ
-line_text mark file number bytes =
-    mark_text mark ++ place_text file number ++ codes ": " ++ quoted_text bytes ++ codes "\n"
 
 -- a text is explained that is no question's or no certificate's
 pub record IsStopExplained {A : Type 0} (file : NamedText) (stop : AskedStop) (explanation : Explanation A)
@@ -100,27 +92,25 @@ IsNoCertificateExplained file (Certificate fault) explanation =
 IsNoCertificateExplained file reason explanation = IsSizeExplained file explanation
 
 -- it is explained why the section of a case isn't sound
-pub record IsSectionExplained {A : Type 0} (files : AskedFiles) (asked : AskedQuestion) (file : List ℕ)
-    (sections : List Section) (number : ℕ) (fault : SectionFault) (explanation : Explanation A) : Type 0 where
+pub record IsSectionExplained {A : Type 0} (asked : AskedQuestion) (file : List ℕ) (sections : List Section)
+    (number : ℕ) (fault : SectionFault) (explanation : Explanation A) : Type 0 where
   pub state_before : explanation.state_before ≡ None
   pub case : List Conjunct
   pub is_case : slice_get asked.question.cases number ≡ Some case
-  pub finding : SectionFinding A
+  pub finding : SectionFinding
   pub is_finding : IsSectionFinding asked.logs case sections number fault finding
   pub told : IsSectionTold file finding explanation.evidence.items
   pub hints : explanation.hints.items ≡ []
-  pub lines : List ℕ
-  pub tells : TellsSection files asked number file finding lines
   pub more : List ℕ
-  pub page : explanation.page ≡ codes "\n" ++ lines ++ more
+  pub page : explanation.page ≡ codes "\n" ++ section_text file finding ++ more
 
 -- it is explained that a certificate has another number of sections than are due
-pub record IsCountExplained {A : Type 0} (files : AskedFiles) (asked : AskedQuestion) (file : List ℕ) (sections : ℕ)
+pub record IsCountExplained {A : Type 0} (files : AskedFiles) (asked : AskedQuestion) (sections : ℕ)
     (explanation : Explanation A) : Type 0 where
   pub state_before : explanation.state_before ≡ None
   pub told : IsMissingTold files asked sections explanation.evidence.items
   pub lines : List ℕ
-  pub tells : TellsCount files asked file sections lines
+  pub tells : TellsMissing files asked sections lines
   pub more : List ℕ
   pub page : explanation.page ≡ codes "\n" ++ lines ++ more
 
@@ -129,6 +119,5 @@ abbrev pub IsUnsoundExplained : {A : Type 0} → AskedFiles → AskedQuestion �
     → Explanation A
     → Type 0
 IsUnsoundExplained files asked file sections (reason.Section number fault) explanation =
-    IsSectionExplained files asked file sections number fault explanation
-IsUnsoundExplained files asked file sections _ explanation =
-    IsCountExplained files asked file (length sections) explanation
+    IsSectionExplained asked file sections number fault explanation
+IsUnsoundExplained files asked file sections _ explanation = IsCountExplained files asked (length sections) explanation

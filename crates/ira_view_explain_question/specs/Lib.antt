@@ -7,7 +7,7 @@ pub mod ChosenCases
 pub mod EliminationLines
 pub mod ExplainedCase
 pub mod Explanation
-pub mod NodeLeft
+pub mod FrontLeft
 pub mod QuestionFinding
 pub mod SaidLines
 pub mod SectionCount

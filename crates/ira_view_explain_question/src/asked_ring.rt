@@ -3,7 +3,7 @@ ghost use Rattle.ira_audit.specs.GoodLogs.{AreGood};
 ghost use Rattle.ira_view_page.specs.Page.{Added};
 ghost use Rattle.ira_view_explain_question.specs.ChosenCases.{more_cases_text, no_case_text, rest_text};
 ghost use Rattle.ira_view_explain_question.specs.EliminationLines.{name_of};
-ghost use Rattle.ira_view_explain_question.specs.NodeLeft.{IsStateAfter};
+ghost use Rattle.ira_view_explain_question.specs.FrontLeft.{IsStateAfter};
 
 use crate::asked_files::AskedFiles;
 use crate::asked_lines::first_line;

@@ -9,11 +9,11 @@ ghost use Rattle.ira_pred.specs.declared.ask_fault.AskFault.{AskFault};
 ghost use Rattle.ira_view_page.specs.Counts.{counts};
 ghost use Rattle.ira_view_page.specs.Lines.{IsLine};
 ghost use Rattle.ira_view_page.specs.Page.{Added, AddedSome};
+ghost use Rattle.ira_view_explain_question.specs.AskedLines.{line_text};
 ghost use Rattle.ira_view_explain_question.specs.Explanation.{AreCasesExplained, AreFindingsExplained};
 ghost use Rattle.ira_view_explain_question.specs.Explanation.{IsCountExplained, IsNoCertificateExplained};
 ghost use Rattle.ira_view_explain_question.specs.Explanation.{IsNoQuestionExplained, IsSectionExplained};
 ghost use Rattle.ira_view_explain_question.specs.Explanation.{IsSizeExplained, IsStopExplained, IsUnsoundExplained};
-ghost use Rattle.ira_view_explain_question.specs.Explanation.{line_text};
 
 use crate::asked_files::AskedFiles;
 use crate::asked_finding::AskedFinding;
@@ -121,8 +121,8 @@ pub fn explain_no_certificate<A: Allocator + Clone>(
     }
 }
 
-/// Why a certificate for the ring of a question doesn't answer it: the first section that isn't sound, and whether
-/// another certificate shows what this one doesn't; or how many sections there are.
+/// Why a certificate for the ring of a question doesn't answer it: the first section that isn't sound, or how many
+/// sections there are.
 pub fn explain_unsound<A: Allocator + Clone>(
     alloc: A,
     files: AskedFiles<'_>,
@@ -145,7 +145,7 @@ pub fn explain_unsound<A: Allocator + Clone>(
         Reason::Section { case, fault } => {
             explain_section(&ring, certificate.name, sections, case, fault)
         }
-        _ => explain_count(&ring, certificate.name, sections.len()),
+        _ => explain_count(&ring, sections.len()),
     }
 }
 
@@ -199,7 +199,12 @@ fn explain_text<A: Allocator + Clone>(
 }
 
 /// Adds `FILE:LINE: TEXT` to a page.
-fn print_line<A: Allocator>(mark: Emphasis, file: &NamedText<'_>, number: usize, page: &mut Page<A>)
+pub(crate) fn print_line<A: Allocator>(
+    mark: Emphasis,
+    file: &NamedText<'_>,
+    number: usize,
+    page: &mut Page<A>,
+)
     ensures { (bytes : List ℕ) × (1 ≤ number → IsLine file.now.text.now number bytes)
         × Added page.old (line_text mark file.now.name.now number bytes) page.new }
 {
@@ -252,12 +257,12 @@ fn explain_section<A: Allocator + Clone>(
     requires { IsFirstUnsound ring.now.asked.now.logs ring.now.asked.now.question.cases sections.now case fault }
     ensures ring { IfOk result (λ explanation. explanation.ring ≡ Some (counts ring.now.asked.now.logs)) }
     ensures told { IfOk result
-        (IsSectionExplained ring.now.files ring.now.asked.now certificate.now sections.now case fault) }
+        (IsSectionExplained ring.now.asked.now certificate.now sections.now case fault) }
 {
     let case = ring.case(case);
     let finding = SectionFinding::find(&case, sections, fault)?;
     let mut page = Page::after_answer(ring.alloc.clone()?);
-    finding.print(&case, certificate, &mut page);
+    finding.print(certificate, &mut page);
     let evidence = finding.evidence(ring.alloc, certificate)?;
     let hints = Vec::new(ring.alloc.clone()?);
     Explanation::of_page(
@@ -269,17 +274,16 @@ fn explain_section<A: Allocator + Clone>(
     )
 }
 
-/// That a certificate has so many sections, and how many are due.
+/// That a certificate has so many sections, and not one for each case.
 fn explain_count<A: Allocator + Clone>(
     ring: &AskedRing<'_, A>,
-    certificate: &str,
     sections: usize,
 ) -> Result<Explanation<A>, OutOfMemory>
     ensures ring { IfOk result (λ explanation. explanation.ring ≡ Some (counts ring.now.asked.now.logs)) }
-    ensures told { IfOk result (IsCountExplained ring.now.files ring.now.asked.now certificate.now sections) }
+    ensures told { IfOk result (IsCountExplained ring.now.files ring.now.asked.now sections) }
 {
     let mut page = Page::after_answer(ring.alloc.clone()?);
-    ring.print_count(certificate, sections, &mut page);
+    ring.print_missing(sections, &mut page);
     let mut hints = Vec::new(ring.alloc.clone()?);
     hints.push(String::from_str(
         ring.alloc.clone()?,

@@ -15,12 +15,11 @@ mod clause_stop;
 mod elimination_lines;
 mod explain;
 mod explained_case;
+mod front_left;
 mod moment_lines;
-mod node_left;
 mod question_finding;
 mod section_count;
 mod section_finding;
-mod section_sentences;
 
 pub use asked_files::AskedFiles;
 pub use explain::{

@@ -11,9 +11,9 @@ returns-clause-ring g c = rw (c.of.ensures, c.logs.ensures.value) at c.of_page.e
 pub returns-clause-told : goal.returns-clause-told
 returns-clause-told g c =
     let ring = c.args.ring.now in
-    let told = c.print_count.ensures in
+    let told = c.print_missing.ensures in
     all_ok (λ x. x.state_before ≡ None) _ (λ x. AddedSome _ (Some x.page))
-    (IsCountExplained ring.files ring.asked.now c.args.certificate.now c.args.sections) c.of_page.result (λ x s e p.
+    (IsCountExplained ring.files ring.asked.now c.args.sections) c.of_page.result (λ x s e p.
     let more = page_is x.page _ _ (c.after_answer-page.ensures & told.2) p in
     record {
       state_before = s;

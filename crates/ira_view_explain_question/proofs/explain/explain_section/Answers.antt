@@ -12,11 +12,10 @@ pub returns-clause-told : goal.returns-clause-told
 returns-clause-told g c =
     let ring = c.args.ring.now in
     let case = c.case-case in
-    let told = rw (case.ensures.files, case.ensures.asked, case.ensures.number) at c.print.ensures in
     four_ok (λ x. x.state_before ≡ None) _ _ (λ x. AddedSome _ (Some x.page))
-    (IsSectionExplained ring.files ring.asked.now c.args.certificate.now c.args.sections.now c.args.case c.args.fault)
+    (IsSectionExplained ring.asked.now c.args.certificate.now c.args.sections.now c.args.case c.args.fault)
     c.of_page.result (λ x s e h p.
-    let more = page_is x.page _ _ (c.after_answer-page.ensures & told.2) p in
+    let more = page_is x.page _ _ (c.after_answer-page.ensures & c.print.ensures) p in
     record {
       state_before = s;
       case = case.result.case.now;
@@ -25,8 +24,6 @@ returns-clause-told g c =
       is_finding = rw (case.ensures.asked, case.ensures.number) at c.in_ok-finding.ensures;
       told = rw e c.in_ok-evidence.ensures;
       hints = h ∙ c.new-hints.ensures.items;
-      lines = told.0;
-      tells = told.1;
       more = more.0;
       page = more.1;
     }) c.of_page.ensures.state c.of_page.ensures.evidence c.of_page.ensures.hints c.of_page.ensures.page

@@ -5,7 +5,8 @@ use Rattle.ira_view_page.specs.Page.{AddedSome}
 use Rattle.ira_view_page.specs.declared.page.Emphasis.TheVariants.{Named}
 use Rattle.ira_view_page.specs.declared.evidence.Evidence.{Evidence}
 use Rattle.ira_view_page.specs.declared.evidence.Evidence.TheVariants.{Line}
-use Rattle.ira_view_explain_question.specs.Explanation.{IsSizeExplained, line_text}
+use Rattle.ira_view_explain_question.specs.AskedLines.{line_text}
+use Rattle.ira_view_explain_question.specs.Explanation.{IsSizeExplained}
 use Rattle.ira_view_explain_question.proofs.Explained.{four_ok, page_is, regrouped}
 use Rattle.ira_view_explain_question.proofs.explain.explain_size.Goals as goal
 use Rattle.ira_view_explain_question.proofs.explain.explain_size.Goals.{in_default}

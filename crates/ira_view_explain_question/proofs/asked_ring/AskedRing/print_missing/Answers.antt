@@ -1,24 +1,34 @@
-use Rattle.std.proofs.Common.{◌≡◌, ap, refl}
-use Rattle.ira_view_page.proofs.Adding.{◌&◌, added_as}
-use Rattle.ira_view_page.specs.Places.{place_text}
-use Rattle.ira_view_explain_question.specs.AskedLines.{clause_line}
+use Rattle.std.proofs.Common.{◌≡◌, ◌<◌, ◌≤◌, [], ap, arith, inl, inr, length, refl, subst}
+use Rattle.ira_view_page.proofs.Adding.{◌&◌, added_as, nothing_added}
+use Rattle.ira_view_page.specs.Lines.{IsLine}
+use Rattle.ira_view_page.specs.declared.page.Emphasis.TheVariants.{Named}
+use Rattle.ira_view_explain_question.specs.AskedLines.{clause_line, line_text}
 use Rattle.ira_view_explain_question.proofs.asked_ring.AskedRing.print_missing.Goals as goal
 
-pub returns : goal.returns
-returns g c =
-    let case = c.case-case in
-    let first : case.result.first ≡ clause_line c.args.self.now.asked.now.question.cases c.args.sections 0 =
+pub returns-then-sections-cases : goal.returns-then-sections-cases
+returns-then-sections-cases g c =
+    let ring = c.args.self.now in
+    let cases = ring.asked.now.question.cases in
+    let question = ring.files.question.now in
+    let case = c.case-first in
+    let line = c.print_line.ensures in
+    let first : case.result.first ≡ clause_line cases c.args.sections 0 =
     rw (case.ensures.asked, case.ensures.number) at case.result.first_is in
-    let clauses = rw (case.ensures.files, case.ensures.asked, case.ensures.number) at c.print_clauses.ensures in (
+    let here : c.args.sections < length cases =
+    omega (arith, ap length c.cases.ensures.value, c.if-sections-cases.true) in (
       _,
-      record {
-        case = case.result.case.now;
-        is_case = case.ensures.case;
-        clauses = clauses.0;
-        are_clauses = clauses.1;
-        is = refl;
-      },
-      c.words.ensures & c.number.ensures & c.words-2.ensures & clauses.2 & c.words-3.ensures
-          & added_as (ap (place_text c.args.self.now.files.question.now.name.now) first) c.place.ensures
-          & c.words-4.ensures,
+      inr (
+        here,
+        line.0,
+        subst (λ n. IsLine question.text.now n line.0) first (line.1 (omega (arith, first))),
+        refl,
+      ),
+      added_as (ap (λ n. line_text Named question.name.now n line.0) first) line.2 & c.blank.ensures,
     )
+
+pub returns-else-sections-cases : goal.returns-else-sections-cases
+returns-else-sections-cases g c =
+    let cases = c.args.self.now.asked.now.question.cases in
+    let past : length cases ≤ c.args.sections =
+    omega (arith, ap length c.cases.ensures.value, c.if-sections-cases.false) in
+    ([], inl (past, refl), nothing_added _)
