@@ -98,12 +98,12 @@ RECORDS = {
     'sending twice': 'sent twice', 'receipt twice': 'came twice|recorded twice', 'sending missing': UNSENT,
     'receipt missing': 'receipts? (is|are) not recorded|a receipt too|never received',
     'receipt and its sending missing': 'both|(is|are) not recorded',
-    'no receipts': 'no receipt', 'no resets': 'no reset',
+    'no receipts': 'no receipt', 'no resets': 'no reset', 'too many records': 'at most 100,000 records',
 }
 
 
 def records(logs):
-    """Records missing or written twice."""
+    """Records missing, written twice, or too many."""
     def planted(kind, node, events):
         return Case(kind, [*logs[:node], (logs[node][0], events), *logs[node + 1:]], node, RECORDS[kind])
 
@@ -116,6 +116,7 @@ def records(logs):
             if name == 'receipt' and [e[0] for e in events[at + 1:at + 2]] == ['send']:
                 yield planted('receipt and its sending missing', node, events[:at] + events[at + 2:])
         yield planted('no receipts', node, [event for event in events if event[0] != 'recv'])
+    yield planted('too many records', 0, [*logs[0][1], *[('draw', '1')] * 100_001])
     rest = [(start, [e for e in events if e[0] != 'yield' and e[1] != 'reset']) for start, events in logs]
     yield Case('no resets', rest, None, RECORDS['no resets'])
 

@@ -71,9 +71,10 @@ impl TextHint {
                 text.words(field.noun());
                 text.words("s count from 1: add 1 to each, on both ends of the link.");
             }
-            TextHint::TooMany => {
-                text.words("end the log in front of this line: a log may end anywhere.");
-            }
+            TextHint::TooMany => text.words(
+                "a log has at most 100,000 records. With all logs of the ring `ira mend --out DIR` keeps as many of \
+                 each, as far as they fit together.",
+            ),
             TextHint::LineFeed => text.words("only the line feed is missing."),
             TextHint::Crash => text.words(
                 "a crash, or a file that was not closed. With all logs of the ring `ira mend --out DIR` keeps what \
