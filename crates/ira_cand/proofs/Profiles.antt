@@ -1,22 +1,34 @@
 -- The positions that are picked span by span are the candidates.
 use Rattle.std.proofs.Common.{◌≡◌, ◌≤◌, ◌+◌, ℕ, suc, Bool, true, false, cond, not, ◌&&◌, ◌||◌, List, [], ◌∷◌, ◌++◌}
-use Rattle.std.proofs.Common.{Option, Some, None, option_map, slice_get, All, map, length, filter, append_assoc}
-use Rattle.std.proofs.Common.{length-append, drop, take, get_or, ◌<◌, refl, sym, ap, subst, ◌∙◌, arith}
-use Rattle.std.specs.Prelude.{is_some}
-use Rattle.std.specs.List.{flat_map, enumerate_from}
-use Rattle.std.proofs.lemmas.Grind.{flat_map-append}
+use Rattle.std.proofs.Common.{Option, Some, None, Result, Ok, Err, option_map, slice_get, All, map, length, filter}
+use Rattle.std.proofs.Common.{append_assoc, length-append, drop, take, get_or, ◌<◌, refl, sym, ap, subst, ◌∙◌, arith}
+use Rattle.std.specs.Prelude.{is_err, is_some, IfSome}
+use Rattle.std.specs.Iterator.{YieldsFirst}
+use Rattle.std.specs.List.{enumerate_from, slice_range, sum_by}
+use Rattle.std.proofs.lemmas.List.Sums.{sum_by-cons, sum_by_push}
 use Rattle.std.proofs.lemmas.Option.{slice_get-map}
 use Rattle.std.proofs.lemmas.List.Elements.{All-get_or, All-push, All-weaker}
-use Rattle.std.proofs.lemmas.List.{length-map, drop_more, drop_all, take_more, append-nil, length-take-le}
+use Rattle.std.proofs.lemmas.List.{length-map, drop_more, drop_all, drop-append-le, drop-drop, length-drop}
+use Rattle.std.proofs.lemmas.List.{nil_from_length, map-append, take_all, take_more, take-append-le, append-nil, length-take-le}
 use Rattle.ira_event.specs.Limits.{MAX_RECORDS}
 use Rattle.ira_event.specs.declared.load.Load.{Load}
 use Rattle.ira_event.specs.declared.event.Event.{Event}
 use Rattle.ira_event.specs.Log.{Log}
 use Rattle.ira_node.specs.declared.node_state.NodeState.{NodeState}
+use Rattle.ira_node.specs.declared.step_fault.StepFault.{StepFault}
+use Rattle.ira_node.specs.declared.step_fault.StepFault.TheVariants.{NotOwed}
 use Rattle.ira_node.specs.declared.phase.Phase.{Phase}
 use Rattle.ira_node.specs.declared.phase.Phase.TheVariants.{Choosing, Active, Passive, Leader, Yielding}
-use Rattle.ira_node.specs.NodeState.{first_state}
-use Rattle.ira_node.specs.StepAnswer.{answer}
+use Rattle.ira_node.specs.NodeState.{first_state, free, owing}
+use Rattle.ira_event.specs.declared.event.Event.TheVariants.{Draw, Got, Sent, Yield}
+use Rattle.ira_event.specs.declared.load.Load.TheVariants.{Msg as Message}
+use Rattle.ira_event.specs.declared.msg.Msg.{Msg}
+use Rattle.ira_node.specs.declared.handling.Handling.TheVariants.{Passes, Purges}
+use Rattle.ira_node.specs.Handling.{Handles}
+use Rattle.ira_node.specs.Msg.{raised}
+use Rattle.ira_node.specs.NodeStep.{NodeStep}
+use Rattle.ira_node.specs.StepAnswer.{advance_answer, answer, same_load, sent_answer}
+use Rattle.ira_node.proofs.Answers.{step_gives}
 use Rattle.ira_pred.specs.ClauseAnswer.{compare_some_test, holds_test, id_of, is_active, is_choosing, is_leader}
 use Rattle.ira_pred.specs.ClauseAnswer.{is_owing, is_passive, is_yielding}
 use Rattle.ira_pred.specs.Formula.{Formula, always, leader, active, passive, choosing, yielding, owes, round, id, term}
@@ -28,8 +40,9 @@ use Rattle.ira_cand.specs.Holding.{positions_passing}
 use Rattle.ira_cand.specs.Candidates.{AreCandidates}
 use Rattle.ira_cand.specs.declared.phase_span.PhaseSpan.{PhaseSpan}
 use Rattle.ira_cand.specs.declared.stage.Stage.{Stage}
-use Rattle.ira_cand.specs.Profile.{HasKind, IsProfile, answers_in, in_first_round, phase_in_first_round, span_marks}
-use Rattle.ira_cand.specs.Profile.{stage, mark, marks_of, marks_passing, picked, sample, some_load}
+use Rattle.ira_cand.specs.Profile.{AreNoted, HasKind, IsProfile, answers_in, in_first_round, mark, marks_at, marks_in}
+use Rattle.ira_cand.specs.Profile.{marks_left, marks_of, marks_passing, phase_in_first_round, picked, sample, some_load}
+use Rattle.ira_cand.specs.Profile.{next_state, stage, stepped}
 use Rattle.ira_cand.proofs.Passing.{are_candidates_as}
 
 -- ---- a formula sees no more of a state than its mark
@@ -111,20 +124,19 @@ known_read f kinds known unnamed is k at pair here there =
     ∙ ap (λ y. (test_of f at false, y)) (told_by_kind f at true unnamed)
 
 -- spans have their kinds also once there are more of these
-still_have_kinds : {A : Type 0} (old new : List Stage) (spans : List (PhaseSpan A))
+still_have_kinds : (old new : List Stage) (spans : List PhaseSpan)
     → ((k : ℕ) (kind : Stage) → slice_get old k ≡ Some kind → slice_get new k ≡ Some kind)
     → All (HasKind old) spans → All (HasKind new) spans
 still_have_kinds old new spans kept h =
     All-weaker (HasKind old) (HasKind new) (λ r. kept r.kind (in_first_round r.stage)) spans h
 
-pub one_span_more : {A : Type 0} (old new : List Stage) (spans : List (PhaseSpan A)) (span : PhaseSpan A)
+pub one_span_more : (old new : List Stage) (spans : List PhaseSpan) (span : PhaseSpan)
     → ((k : ℕ) (kind : Stage) → slice_get old k ≡ Some kind → slice_get new k ≡ Some kind)
-    → All (HasKind old) spans → HasKind old span → All (HasKind new) (spans ++ span ∷ [])
+    → All (HasKind old) spans → HasKind new span → All (HasKind new) (spans ++ span ∷ [])
 one_span_more old new spans span kept theirs its =
-    All-push (HasKind new) spans span (still_have_kinds old new spans kept theirs)
-    (kept span.kind (in_first_round span.stage) its)
+    All-push (HasKind new) spans span (still_have_kinds old new spans kept theirs) its
 
-pub kind_of_span : {A : Type 0} (kinds : List Stage) (spans : List (PhaseSpan A)) (k : ℕ) (r : PhaseSpan A)
+pub kind_of_span : (kinds : List Stage) (spans : List PhaseSpan) (k : ℕ) (r : PhaseSpan)
     → All (HasKind kinds) spans → k < length spans → r ≡ get_or spans k r
     → HasKind kinds r
 kind_of_span kinds spans k r h lt is = subst (HasKind kinds) (sym is) (All-get_or (HasKind kinds) spans k r lt h)
@@ -147,7 +159,7 @@ passing-append test p (x ∷ xs) ys =
 
 -- the marks of one phase
 pub span_passing : (test : Stage → Bool → Bool) (at : Stage) (p : ℕ) (os : List Bool)
-    → marks_passing test p (map (λ o. (at, o)) os) ≡ picked (test at false) (test at true) p os
+    → marks_passing test p (marks_at at os) ≡ picked (test at false) (test at true) p os
 span_passing test at p [] = refl
 span_passing test at p (true ∷ os) = ap (λ zs. cond (test at true) (p ∷ zs) zs) (span_passing test at (p + 1) os)
 span_passing test at p (false ∷ os) = ap (λ zs. cond (test at false) (p ∷ zs) zs) (span_passing test at (p + 1) os)
@@ -203,6 +215,19 @@ marked f p (t ∷ ts) =
     step true us xs e = ap (λ zs. p ∷ zs) e
     step false us xs e = e
 
+-- the marks along the events are those of the placed states
+marks_are_placed : (n : ℕ) (s : Option (ℕ × NodeState)) (es : List Event)
+    → marks_left n (option_map (λ x. x.1) s) es ≡ map (λ x. mark x.1) (states_left n s es)
+marks_are_placed n None es = refl
+marks_are_placed n (Some x) [] = refl
+marks_are_placed n (Some x) (e ∷ es) =
+    ap (λ ms. mark x.1 ∷ ms) (ap (λ t. marks_left n t es) (one_on (answer n x.1 e))
+    ∙ marks_are_placed n (advanced x.0 (answer n x.1 e)) es)
+  where
+    one_on : (r : Result NodeState StepFault) → stepped r ≡ option_map (λ x. x.1) (advanced x.0 r)
+    one_on (Ok t) = refl
+    one_on (Err f) = refl
+
 pub marks_are_candidates : (log : Log) (f : Formula) (found : List ℕ)
     → found ≡ marks_passing (test_of f) 0 (marks_of log) → AreCandidates log f found
 marks_are_candidates log f found e =
@@ -210,100 +235,303 @@ marks_are_candidates log f found e =
     let h : ArePlacedStates log.nodes s log.events _ = are_placed_states log.nodes s log.events in
     let P : List (ℕ × NodeState) → Type 0 =
     λ xs. marks_passing (test_of f) 0 (map (λ x. mark x.1) xs) ≡ positions_passing (holds_test f) xs in
-    are_candidates_as log f found (e ∙ subst P (sym h.2) (marked f 0 h.0))
+    let placed = ap (marks_passing (test_of f) 0) (marks_are_placed log.nodes (Some (0, s)) log.events) in
+    are_candidates_as log f found (e ∙ placed ∙ subst P (sym h.2) (marked f 0 h.0))
 
 -- there is a state more than events at most
-states_count : (n : ℕ) (a : Option (ℕ × NodeState)) (es : List Event) → length (states_left n a es) ≤ length es + 1
-states_count n None es = omega arith
-states_count n (Some x) [] = omega arith
-states_count n (Some x) (e ∷ es) = let on = states_count n (advanced x.0 (answer n x.1 e)) es in omega (arith, on)
+marks_count : (n : ℕ) (s : Option NodeState) (es : List Event) → length (marks_left n s es) ≤ length es + 1
+marks_count n None es = omega arith
+marks_count n (Some s) [] = omega arith
+marks_count n (Some s) (e ∷ es) = let on = marks_count n (stepped (answer n s e)) es in omega (arith, on)
 
-pub marks_count : (log : Log) (most : ℕ) → length log.events ≤ most → length (marks_of log) ≤ most + 1
-marks_count log most few =
-    let xs = states_left log.nodes (Some (0, first_state log.initiator)) log.events in
-    let count = states_count log.nodes (Some (0, first_state log.initiator)) log.events in
-    let same = length-map xs (λ x. mark x.1) in
-    omega (arith, few, count, same)
+-- ---- the marks that are noted
 
--- the spans, and the last one, have all marks
-pub profile_ends : {A : Type 0} (log : Log) (spans all : List (PhaseSpan A)) (span : PhaseSpan A) (kinds : List Stage)
-    (left : List (ℕ × NodeState)) → length log.events ≤ MAX_RECORDS
-    → marks_of log ≡ flat_map span_marks spans ++ span_marks span ++ map (λ x. mark x.1) left → left ≡ []
-    → all ≡ spans ++ span ∷ []
-    → All (HasKind kinds) spans → HasKind kinds span → IsProfile log all kinds
-profile_ends log spans all span kinds left few e none is theirs its = record {
-  marks =
-      ap (flat_map span_marks) is ∙ flat_map-append span_marks spans (span ∷ [])
-      ∙ ap (λ us. flat_map span_marks spans ++ us) (append-nil (span_marks span))
-      ∙ sym (e ∙ ap (λ xs. flat_map span_marks spans ++ span_marks span ++ map (λ x. mark x.1) xs) none
-      ∙ append-nil (flat_map span_marks spans ++ span_marks span));
-  count = marks_count log MAX_RECORDS few;
-  kinds_are = subst (All (HasKind kinds)) (sym is) (All-push (HasKind kinds) spans span theirs its);
-}
+-- one mark more
+marks_push : (at : Stage) (new : List Bool) (o : Bool) (rest : List (Stage × Bool))
+    → marks_at at (new ++ o ∷ []) ++ rest ≡ marks_at at new ++ (at, o) ∷ rest
+marks_push at [] o rest = refl
+marks_push at (x ∷ new) o rest = ap (λ ms. (at, x) ∷ ms) (marks_push at new o rest)
+
+-- the marks from a state on, where it is known which event comes next, if one does
+pub marks_given : (n : ℕ) (t : NodeState) (next : Option Event) (left rest : List Event)
+    → YieldsFirst (λ s. s) left next rest
+    → marks_left n (Some t) left ≡ mark t ∷ marks_left n (next_state n t next) rest
+marks_given n t None left rest h = ap (marks_left n (Some t)) h.0
+marks_given n t (Some e) left rest h = ap (marks_left n (Some t)) h
+
+pub given_fewer : (next : Option Event) (left rest : List Event) → YieldsFirst (λ s. s) left next rest
+    → IfSome next (λ _. length rest < length left)
+given_fewer None left rest h = tt
+given_fewer (Some e) left rest h = let one = ap length h in omega (arith, one)
+
+pub marks_stepped : (n : ℕ) (t u : NodeState) (e : Event) (left rest : List Event) → left ≡ e ∷ rest
+    → answer n t e ≡ Ok u → marks_left n (Some t) left ≡ mark t ∷ marks_left n (Some u) rest
+marks_stepped n t u e left rest is a = ap (marks_left n (Some t)) is
+    ∙ ap (λ r. mark t ∷ marks_left n (stepped r) rest) a
+
+pub noted_begin : (n : ℕ) (at : Stage) (s : Option NodeState) (es : List Event) (os : List Bool)
+    → AreNoted n at s es os s es os
+noted_begin n at s es os = ([], sym (append-nil os), refl)
+
+-- the state that came next is noted too
+pub noted_more : (n : ℕ) (at : Stage) (from : Option NodeState) (es left rest : List Event)
+    (before now more : List Bool) (t : NodeState) (next : Option NodeState) (o : Bool)
+    → AreNoted n at from es before (Some t) left now → stage t ≡ at → is_some t.owed ≡ o → more ≡ now ++ o ∷ []
+    → marks_left n (Some t) left ≡ mark t ∷ marks_left n next rest → AreNoted n at from es before next rest more
+noted_more n at from es left rest before now more t next o noted same owing pushed e = (
+  noted.0 ++ o ∷ [],
+  pushed ∙ ap (λ os. os ++ o ∷ []) noted.1 ∙ append_assoc before noted.0 (o ∷ []),
+  noted.2 ∙ ap (λ ms. marks_at at noted.0 ++ ms) (e
+      ∙ ap (λ a. (a, is_some t.owed) ∷ marks_left n next rest) same
+      ∙ ap (λ b. (at, b) ∷ marks_left n next rest) owing) ∙ sym (marks_push at noted.0 o (marks_left n next rest)),
+)
+
+-- those that were noted in two turns
+pub noted_twice : (n : ℕ) (at : Stage) (from mid to : Option NodeState) (es left rest : List Event)
+    (before now more : List Bool) → AreNoted n at from es before mid left now → AreNoted n at mid left now to rest more
+    → AreNoted n at from es before to rest more
+noted_twice n at from mid to es left rest before now more a b = (
+  a.0 ++ b.0,
+  b.1 ∙ ap (λ os. os ++ b.0) a.1 ∙ append_assoc before a.0 b.0,
+  a.2 ∙ ap (λ ms. marks_at at a.0 ++ ms) b.2
+      ∙ sym (append_assoc (marks_at at a.0) (marks_at at b.0) (marks_left n to rest))
+      ∙ ap (λ ms. ms ++ marks_left n to rest) (sym (map-append (λ o. (at, o)) a.0 b.0)),
+)
+
+-- a state that owes nothing is noted, and then the event that comes next, if one does
+pub noted_free : (n : ℕ) (from s : NodeState) (es left rest : List Event) (before now more : List Bool)
+    (next : Option Event) → AreNoted n (stage from) (Some from) es before (Some s) left now → s ≡ from
+    → from.owed ≡ None → more ≡ now ++ false ∷ [] → YieldsFirst (λ s. s) left next rest
+    → AreNoted n (stage from) (Some from) es before (next_state n s next) rest more
+noted_free n from s es left rest before now more next noted same none pushed given =
+    noted_more n (stage from) (Some from) es left rest before now more s (next_state n s next) false noted
+    (ap stage same) (ap (λ t. is_some t.owed) same ∙ ap is_some none) pushed (marks_given n s next left rest given)
+
+-- the state after an event, as advancing to it tells
+pub advanced_to : (r : Result (Unit {0}) StepFault) (after : NodeState) (x : Result NodeState StepFault)
+    → advance_answer r after ≡ x → is_err r ≡ false → x ≡ Ok after
+advanced_to (Ok _) after x e fine = sym e
+advanced_to (Err f) after x e fine = cc
+
+pub not_advanced : (r : Result (Unit {0}) StepFault) (after : NodeState) (x : Result NodeState StepFault)
+    → advance_answer r after ≡ x → is_err r ≡ true → stepped x ≡ None
+not_advanced (Ok _) after x e fault = cc
+not_advanced (Err f) after x e fault = ap stepped (sym e)
+
+-- what a node that owes a load and doesn't lead is once it has sent it
+sent_back : (t0 : ℕ) (phase : Phase) (l : Load) (e : Event) (t : NodeState) → sent_answer t0 phase l e ≡ Ok t
+    → t ≡ free t0 phase
+sent_back t0 phase l (Draw d) t a = cc
+sent_back t0 phase l (Sent k) t a = one_of (same_load k l) a
+  where
+    one_of : (b : Bool) → cond b (Ok (free t0 phase)) (Err NotOwed) ≡ Ok t → t ≡ free t0 phase
+    one_of true h = cc
+    one_of false h = cc
+sent_back t0 phase l (Got k) t a = cc
+sent_back t0 phase l Yield t a = cc
+
+-- a node that handles a message and stays as it is
+module _ (n : ℕ) (s : NodeState) (m : Msg) (none : s.owed ≡ None) where
+  free_is : free s.term s.phase ≡ s
+  free_is = ap (λ (o : Option Load). record { phase = s.phase; owed = o; term = s.term }) (sym none)
+
+  -- it owes the message, one link further on
+  abbrev pub passing_on : NodeState
+  passing_on = owing s.term s.phase (Message (raised m))
+
+  pub purges_on : Handles n s.phase m Purges → answer n s (Got (Message m)) ≡ Ok s
+  purges_on h = step_gives n s (Got (Message m)) s (subst (λ f. NodeStep n f (Got (Message m)) f) free_is (h s.term))
+
+  receives_on : Handles n s.phase m Passes → answer n s (Got (Message m)) ≡ Ok passing_on
+  receives_on h = step_gives n s (Got (Message m)) passing_on
+      (subst (λ f. NodeStep n f (Got (Message m)) passing_on) free_is (h.1 s.term))
+
+  -- where the next event has a step, it is as it was
+  pub sends_back : Handles n s.phase m Passes → (e : Event) (t : NodeState) → answer n passing_on e ≡ Ok t → t ≡ s
+  sends_back h e t a = back s.phase
+      (step_gives n (free s.term s.phase) (Got (Message m)) passing_on (h.1 s.term)) a ∙ free_is
+    where
+      back : (phase : Phase)
+          → answer n (free s.term phase) (Got (Message m)) ≡ Ok (owing s.term phase (Message (raised m)))
+          → answer n (owing s.term phase (Message (raised m))) e ≡ Ok t → t ≡ free s.term phase
+      back (Choosing r) k a = sent_back s.term (Choosing r) (Message (raised m)) e t a
+      back (Active r i) k a = sent_back s.term (Active r i) (Message (raised m)) e t a
+      back Passive k a = sent_back s.term Passive (Message (raised m)) e t a
+      back (Leader r i) k a = cc
+      back Yielding k a = sent_back s.term Yielding (Message (raised m)) e t a
+
+  -- the node as it was is noted, and with it the message owed
+  pub noted_passing : (es left rest last : List Event) (before now mid more : List Bool) (e : Event)
+      (next : Option NodeState) → Handles n s.phase m Passes
+      → AreNoted n (stage s) (Some s) es before (Some s) left now → left ≡ e ∷ rest → e ≡ Got (Message m)
+      → mid ≡ now ++ false ∷ [] → more ≡ mid ++ true ∷ []
+      → marks_left n (Some passing_on) rest ≡ mark passing_on ∷ marks_left n next last
+      → AreNoted n (stage s) (Some s) es before next last more
+  noted_passing es left rest last before now mid more e next h noted steps is first second goes =
+      noted_more n (stage s) (Some s) es rest last before mid more passing_on next true
+      (noted_more n (stage s) (Some s) es left rest before now mid s (Some passing_on) false noted refl
+      (ap is_some none)
+      first (marks_stepped n s passing_on e left rest steps (ap (answer n s) is ∙ receives_on h))) refl refl second goes
+
+-- ---- spans
+
+-- how many states these spans have
+abbrev pub states_in : List PhaseSpan → ℕ
+states_in spans = sum_by (λ r. r.count) spans
+
+-- there is a mark for each state
+marks_long : (spans : List PhaseSpan) (debts : List Bool) → states_in spans ≡ length debts
+    → length (marks_in spans debts) ≡ length debts
+marks_long [] debts e = e
+marks_long (r ∷ rs) debts e =
+    let sums = sum_by-cons (λ r. r.count) r rs in
+    let left = length-drop r.count debts in
+    let on = marks_long rs (drop r.count debts) (omega (arith, e, left, sums)) in
+    let first : length (marks_at r.stage (take r.count debts)) ≡ length (take r.count debts) =
+    length-map (take r.count debts) (λ o. (r.stage, o)) in
+    let short = length-take-le r.count debts (omega (arith, e, sums)) in
+    let parts = length-append (marks_at r.stage (take r.count debts)) (marks_in rs (drop r.count debts)) in
+    omega (arith, e, left, on, first, short, parts, sums)
+
+-- one span more has the marks of the states after those of the others
+marks_more : (spans : List PhaseSpan) (r : PhaseSpan) (debts new : List Bool) → states_in spans ≡ length debts
+    → r.count ≡ length new
+    → marks_in (spans ++ r ∷ []) (debts ++ new) ≡ marks_in spans debts ++ marks_at r.stage new
+marks_more [] r debts new e is =
+    let none : debts ≡ [] = nil_from_length debts (sym e) in
+    rw none (ap (λ os. marks_at r.stage os ++ []) (take_all r.count new (omega (arith, is)))
+    ∙ append-nil (marks_at r.stage new))
+marks_more (x ∷ xs) r debts new e is =
+    let sums = sum_by-cons (λ r. r.count) x xs in
+    let within : x.count ≤ length debts = omega (arith, e, sums) in
+    let left = length-drop x.count debts in
+    let on = marks_more xs r (drop x.count debts) new (omega (arith, e, left, sums)) is in
+    ap (λ os. marks_at x.stage os ++ marks_in (xs ++ r ∷ []) (drop x.count (debts ++ new)))
+    (take-append-le x.count debts new within)
+    ∙ ap (λ os. marks_at x.stage (take x.count debts) ++ marks_in (xs ++ r ∷ []) os)
+    (drop-append-le x.count debts new within)
+    ∙ ap (λ ms. marks_at x.stage (take x.count debts) ++ ms) on
+    ∙ sym (append_assoc (marks_at x.stage (take x.count debts)) (marks_in xs (drop x.count debts))
+    (marks_at r.stage new))
+
+-- the spans have the marks of the first states of a log, which these tell of; this one comes next, with these events
+-- after it
+pub record ProfiledTo (log : Log) (spans : List PhaseSpan) (debts : List Bool) (next : Option NodeState)
+    (left : List Event) : Type 0 where
+  pub marks : marks_of log ≡ marks_in spans debts ++ marks_left log.nodes next left
+  pub states : states_in spans ≡ length debts
+
+pub profile_more : (log : Log) (spans all : List PhaseSpan) (r : PhaseSpan) (debts more : List Bool) (s : NodeState)
+    (next : Option NodeState) (es left : List Event) → ProfiledTo log spans debts (Some s) es
+    → AreNoted log.nodes (stage s) (Some s) es debts next left more
+    → all ≡ spans ++ r ∷ [] → r.stage ≡ stage s → r.count + length debts ≡ length more
+    → ProfiledTo log all more next left
+profile_more log spans all r debts more s next es left at noted is same long =
+    let new = noted.0 in
+    let count : r.count ≡ length new =
+    let parts = ap length noted.1 ∙ length-append debts new in omega (arith, long, parts) in
+    let here : marks_in all more ≡ marks_in spans debts ++ marks_at (stage s) new =
+    ap (λ rs. marks_in rs more) is ∙ ap (marks_in (spans ++ r ∷ [])) noted.1
+    ∙ marks_more spans r debts new at.states count ∙ ap (λ a. marks_in spans debts ++ marks_at a new) same in
+    record {
+      marks = at.marks ∙ ap (λ ms. marks_in spans debts ++ ms) noted.2
+          ∙ sym (append_assoc (marks_in spans debts) (marks_at (stage s) new) (marks_left log.nodes next left))
+          ∙ ap (λ ms. ms ++ marks_left log.nodes next left) (sym here);
+      states =
+          let states = at.states in let sums = ap states_in is ∙ sum_by_push (λ r. r.count) spans r in
+          omega (arith, long, states, sums);
+    }
+
+-- they have all marks where no state comes next
+pub profile_ends : (log : Log) (spans : List PhaseSpan) (debts : List Bool) (kinds : List Stage)
+    (next : Option NodeState) (left : List Event) → length log.events ≤ MAX_RECORDS → ProfiledTo log spans debts next left → next ≡ None
+    → All (HasKind kinds) spans → IsProfile log spans debts kinds
+profile_ends log spans debts kinds next left few at none theirs =
+    let all : marks_in spans debts ≡ marks_of log =
+    sym (at.marks ∙ ap (λ s. marks_in spans debts ++ marks_left log.nodes s left) none
+    ∙ append-nil (marks_in spans debts)) in
+    record {
+      marks = all;
+      states = at.states;
+      count =
+          let long = marks_long spans debts at.states in let same = ap length all in
+          let most = marks_count log.nodes (Some (first_state log.initiator)) log.events in
+          omega (arith, few, long, same, most);
+      kinds_are = theirs;
+    }
 
 -- ---- a table that is found span by span
 
 -- after k spans, whose states end before the position, the positions found are those that pass so far
-pub record TableAt {A : Type 0} (log : Log) (f : Formula) (spans : List (PhaseSpan A)) (k position : ℕ) (found : List ℕ)
-    : Type 0 where
+pub record TableAt (log : Log) (f : Formula) (spans : List PhaseSpan) (debts : List Bool) (k position : ℕ)
+    (found : List ℕ) : Type 0 where
   pub passing : marks_passing (test_of f) 0 (marks_of log) ≡ found
-      ++ marks_passing (test_of f) position (flat_map span_marks (drop k spans))
-  pub room : position + length (flat_map span_marks (drop k spans)) ≤ MAX_RECORDS + 1
+      ++ marks_passing (test_of f) position (marks_in (drop k spans) (drop position debts))
+  pub states : position + states_in (drop k spans) ≡ length debts
 
-module _ {A : Type 0} (log : Log) (f : Formula) (spans : List (PhaseSpan A)) where
-  pub table_begin : (kinds : List Stage) → IsProfile log spans kinds → TableAt log f spans 0 0 []
+module _ (log : Log) (f : Formula) (spans : List PhaseSpan) (debts : List Bool) where
+  pub table_begin : (kinds : List Stage) → IsProfile log spans debts kinds → TableAt log f spans debts 0 0 []
   table_begin kinds is = record {
     passing = ap (marks_passing (test_of f) 0) (sym is.marks);
-    room = let count = is.count in let same = ap length is.marks in omega (arith, count, same);
+    states = let states = is.states in omega (arith, states);
   }
 
-  module _ (k p : ℕ) (found : List ℕ) (at : TableAt log f spans k p found) where
+  module _ (k p : ℕ) (found : List ℕ) (at : TableAt log f spans debts k p found) where
     -- the next span, and those after it
-    next_span : (r : PhaseSpan A) → k < length spans → r ≡ get_or spans k r
-        → flat_map span_marks (drop k spans) ≡ span_marks r ++ flat_map span_marks (drop (k + 1) spans)
-    next_span r lt is = ap (flat_map span_marks) (drop_more spans k r lt ∙ ap (λ q. q ∷ drop (k + 1) spans) (sym is))
+    next_span : (r : PhaseSpan) → k < length spans → r ≡ get_or spans k r → drop k spans ≡ r ∷ drop (k + 1) spans
+    next_span r lt is = drop_more spans k r lt ∙ ap (λ q. q ∷ drop (k + 1) spans) (sym is)
 
-    next_length : (r : PhaseSpan A) → k < length spans → r ≡ get_or spans k r
-        → length (flat_map span_marks (drop k spans))
-        ≡ length r.owes.items + length (flat_map span_marks (drop (k + 1) spans))
-    next_length r lt is =
-        ap length (next_span r lt is) ∙ length-append (span_marks r) (flat_map span_marks (drop (k + 1) spans))
-        ∙ ap (λ n. n + length (flat_map span_marks (drop (k + 1) spans))) (length-map r.owes.items (λ o. (r.stage, o)))
+    next_states : (r : PhaseSpan) → k < length spans → r ≡ get_or spans k r
+        → p + r.count + states_in (drop (k + 1) spans) ≡ length debts
+    next_states r lt is =
+        let states = at.states in let more = ap states_in (next_span r lt is) in
+        let sums = sum_by-cons (λ r. r.count) r (drop (k + 1) spans) in omega (arith, states, more, sums)
 
-    pub table_room : (r : PhaseSpan A) → k < length spans → r ≡ get_or spans k r
-        → p + length r.owes.items ≤ MAX_RECORDS + 1
-    table_room r lt is = let room = at.room in let long = next_length r lt is in omega (arith, room, long)
+    pub table_room : (r : PhaseSpan) → k < length spans → r ≡ get_or spans k r → p + r.count ≤ length debts
+    table_room r lt is = let states = next_states r lt is in omega (arith, states)
 
-    pub table_more : (r : PhaseSpan A) (more : List ℕ) → k < length spans → r ≡ get_or spans k r
-        → more ≡ found ++ picked (test_of f r.stage false) (test_of f r.stage true) p r.owes.items
-        → TableAt log f spans (k + 1) (p + length r.owes.items) more
-    table_more r more lt is e =
-        let rest = flat_map span_marks (drop (k + 1) spans) in
+    -- the debts of the next span
+    theirs : (r : PhaseSpan) (here : List Bool) → here ≡ slice_range debts p (p + r.count)
+        → here ≡ take r.count (drop p debts)
+    theirs r here part = part ∙ ap (λ n. take n (drop p debts)) (omega arith)
+
+    pub table_long : (r : PhaseSpan) (here : List Bool) → k < length spans → r ≡ get_or spans k r
+        → here ≡ slice_range debts p (p + r.count) → length here ≡ r.count
+    table_long r here lt is part =
+        let room = table_room r lt is in let left = length-drop p debts in
+        ap length (theirs r here part) ∙ length-take-le r.count (drop p debts) (omega (arith, room, left))
+
+    pub table_more : (r : PhaseSpan) (here : List Bool) (more : List ℕ) → k < length spans → r ≡ get_or spans k r
+        → here ≡ slice_range debts p (p + r.count)
+        → more ≡ found ++ picked (test_of f r.stage false) (test_of f r.stage true) p here
+        → TableAt log f spans debts (k + 1) (p + r.count) more
+    table_more r here more lt is part e =
+        let rest = marks_in (drop (k + 1) spans) (drop (p + r.count) debts) in
         let test = test_of f in
-        let parts : marks_passing test p (flat_map span_marks (drop k spans)) ≡ marks_passing test p (span_marks r)
-        ++ marks_passing test (p + length (span_marks r)) rest =
-        ap (marks_passing test p) (next_span r lt is) ∙ passing-append test p (span_marks r) rest in
-        let long : length (span_marks r) ≡ length r.owes.items = length-map r.owes.items (λ o. (r.stage, o)) in
-        let here : marks_passing test p (span_marks r) ≡ picked (test r.stage false) (test r.stage true) p
-        r.owes.items =
-        span_passing test r.stage p r.owes.items in
-        let both : marks_passing test p (flat_map span_marks (drop k spans))
-        ≡ picked (test r.stage false) (test r.stage true) p r.owes.items
-        ++ marks_passing test (p + length r.owes.items) rest =
-        parts ∙ ap (λ us. us ++ marks_passing test (p + length (span_marks r)) rest) here
-        ∙ ap (λ n. picked (test r.stage false) (test r.stage true) p r.owes.items
-        ++ marks_passing test (p + n) rest) long in
+        let long : length (marks_at r.stage here) ≡ r.count =
+        length-map here (λ o. (r.stage, o)) ∙ table_long r here lt is part in
+        let span : marks_in (drop k spans) (drop p debts) ≡ marks_at r.stage here ++ rest =
+        ap (λ rs. marks_in rs (drop p debts)) (next_span r lt is)
+        ∙ ap (λ os. marks_at r.stage os ++ marks_in (drop (k + 1) spans) (drop r.count (drop p debts)))
+        (sym (theirs r here part))
+        ∙ ap (λ os. marks_at r.stage here ++ marks_in (drop (k + 1) spans) os) (drop-drop r.count p debts) in
+        let both : marks_passing test p (marks_in (drop k spans) (drop p debts))
+        ≡ picked (test r.stage false) (test r.stage true) p here ++ marks_passing test (p + r.count) rest =
+        ap (marks_passing test p) span ∙ passing-append test p (marks_at r.stage here) rest
+        ∙ ap (λ us. us ++ marks_passing test (p + length (marks_at r.stage here)) rest)
+        (span_passing test r.stage p here)
+        ∙ ap (λ n. picked (test r.stage false) (test r.stage true) p here ++ marks_passing test (p + n) rest) long in
         record {
           passing = at.passing ∙ ap (λ us. found ++ us) both
-              ∙ sym (append_assoc found (picked (test r.stage false) (test r.stage true) p r.owes.items)
-              (marks_passing test (p + length r.owes.items) rest))
-              ∙ ap (λ us. us ++ marks_passing test (p + length r.owes.items) rest) (sym e);
-          room = let room = at.room in let far = next_length r lt is in omega (arith, room, far);
+              ∙ sym (append_assoc found (picked (test r.stage false) (test r.stage true) p here)
+              (marks_passing test (p + r.count) rest))
+              ∙ ap (λ us. us ++ marks_passing test (p + r.count) rest) (sym e);
+          states = next_states r lt is;
         }
 
     pub table_end : length spans ≤ k → AreCandidates log f found
     table_end all =
         let none : drop k spans ≡ [] = drop_all k spans all in
         marks_are_candidates log f found
-        (sym (at.passing ∙ ap (λ rs. found ++ marks_passing (test_of f) p (flat_map span_marks rs)) none
+        (sym (at.passing ∙ ap (λ rs. found ++ marks_passing (test_of f) p (marks_in rs (drop p debts))) none
         ∙ append-nil found))

@@ -1,6 +1,5 @@
 -- An upgraded log has the candidates of the old one.
 use Rattle.std.proofs.Common.{ℕ, List}
-use Rattle.std.specs.Prelude.{Contains}
 use Rattle.ira_event.specs.Log.{Log}
 use Rattle.ira_event.specs.Upgrade.{upgraded}
 use Rattle.ira_pred.specs.Formula.{Formula}

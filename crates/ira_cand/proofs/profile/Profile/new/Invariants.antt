@@ -1,12 +1,11 @@
-use Rattle.std.proofs.Common.{◌≡◌, ◌++◌, All, map, length}
-use Rattle.std.specs.List.{flat_map}
-use Rattle.ira_cand.specs.Profile.{HasKind, mark, marks_of, span_marks}
+use Rattle.std.proofs.Common.{All, Some, length}
+use Rattle.ira_cand.specs.Profile.{HasKind}
+use Rattle.ira_cand.proofs.Profiles.{ProfiledTo}
 use Rattle.ira_cand.proofs.profile.Profile.new.Given as goal
 
-abbrev pub invariant-loop-state : goal.invariant-loop-state
-invariant-loop-state g l =
-    (marks_of l.log ≡ flat_map span_marks l.spans.items ++ span_marks l.span ++ map (λ x. mark x.1) l.states)
-    × All (HasKind l.kinds.items) l.spans.items × HasKind l.kinds.items l.span
+abbrev pub invariant-loop-owes : goal.invariant-loop-owes
+invariant-loop-owes g l =
+    ProfiledTo l.log l.spans.items l.owes.items (Some l.state) l.events × All (HasKind l.kinds.items) l.spans.items
 
-abbrev pub decreases-loop-state : goal.decreases-loop-state
-decreases-loop-state g l = length l.states
+abbrev pub decreases-loop-owes : goal.decreases-loop-owes
+decreases-loop-owes g l = length l.events
