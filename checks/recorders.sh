@@ -1,6 +1,6 @@
 #!/bin/sh
-# Records elections with each recorder of examples/recorders, and judges their logs: each is to be `yes`. A recorder whose
-# compiler isn't there is skipped.
+# Records elections with each recorder of examples/recorders, and judges their logs, and who says that it leads: each is to be
+# `yes`. A recorder whose compiler isn't there is skipped.
 #
 #     sh checks/recorders.sh bin/ira
 
@@ -23,7 +23,7 @@ judge() {
     for nodes in 2 5 16; do
         rm -rf "$made/logs" && mkdir "$made/logs"
         "$@" "$nodes" 7 "$made/logs" || { echo "$name: the ring of $nodes failed"; failed=1; continue; }
-        answer=$("$ira" logs $(seq -f "$made/logs/%g.log" 0 $((nodes - 1))))
+        answer=$("$ira" logs --leads leaders --dir "$made/logs")
         [ "$answer" = yes ] || failed=1
         echo "$name: $nodes nodes: $answer"
     done

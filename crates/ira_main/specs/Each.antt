@@ -1,6 +1,6 @@
 -- What the program does that is asked to judge the logs in each of some folders.
 use Rattle.std.specs.Prelude.{◌≡◌, ◌≢◌, ◌⊎◌, ℕ, Bool, true, false, List, [], ◌∷◌, ◌++◌, Option, Some, None, Result, Ok, Err}
-use Rattle.std.specs.Prelude.{codes, if◌then◌else◌, slice_get, ⊤}
+use Rattle.std.specs.Prelude.{codes, if◌then◌else◌, slice_get, take, ⊤}
 use Rattle.std.specs.Borrow.{Bor}
 use Rattle.std.specs.List.{AllZip, filter_map, list_any}
 use Rattle.ira_event.specs.Sink.{SinkState, StopsIn, Takes}
@@ -13,16 +13,15 @@ use Rattle.ira_audit.specs.declared.answer.Answer.TheVariants as audit
 use Rattle.ira_view_page.specs.Printable.{shown}
 use Rattle.ira_view_json.specs.FolderValue.{folder_answer_value, unread_value}
 use Rattle.ira_view_json.specs.Line.{IsLineOf}
-use Rattle.ira_view.specs.Form.{json_form}
 use Rattle.ira_view.specs.declared.form.Form.{Form}
 use Rattle.ira_view.specs.declared.form.Form.TheVariants.{Json, Words}
-use Rattle.ira_main_cli.specs.declared.each_request.EachRequest.{EachRequest}
 use Rattle.ira_main_cli.specs.declared.log_source.LogSource.TheVariants.{Folder}
 use Rattle.ira_main_files.specs.FileName.{file_name}
 use Rattle.ira_main_files.specs.Shelf.{Reading}
 use Rattle.ira_main_files.specs.declared.file_name.FileName.{FileName}
 use Rattle.ira_main.specs.FilesRead.{HasTakenFiles, IsFilesFault, ReadsFiles, names_of}
 use Rattle.ira_main.specs.Outcome.{Outcome}
+use Rattle.ira_main.specs.ProgramFault.{printed_name}
 use Rattle.ira_main.specs.SourceNames.{HasNames, IsNamesFault}
 use Rattle.ira_view.specs.Status.{answer_status, status_number}
 use Rattle.ira_main.specs.declared.folder_answer.FolderAnswer.{FolderAnswer}
@@ -80,12 +79,16 @@ IsTellable (Unread name) = ⊤
 abbrev pub AreTellable : List FolderAnswer → Type 0
 AreTellable answers = (i : ℕ) (answer : FolderAnswer) → slice_get answers i ≡ Some answer → IsTellable answer
 
--- the line of a folder: its name, as it is printed, and the answer's line; none where a file wasn't read
-abbrev pub folder_line : List ℕ → FolderAnswer → List ℕ
-folder_line folder (Judged answer) = shown folder ++ codes ": " ++ report_line answer
-folder_line folder (Unread name) = []
+-- what is said of a folder after its name: the answer's line, or the file that wasn't read
+abbrev pub after_folder : FolderAnswer → List ℕ
+after_folder (Judged answer) = codes ": " ++ report_line answer
+after_folder (Unread name) = codes ": cannot read " ++ printed_name name ++ codes "\n"
 
--- the same as a line of JSON, which there is of a file that wasn't read too
+-- the line of a folder, whose name is as it is printed
+abbrev pub folder_line : List ℕ → FolderAnswer → List ℕ
+folder_line folder answer = shown folder ++ after_folder answer
+
+-- the same as a line of JSON
 abbrev pub IsFolderObject : List ℕ → FolderAnswer → List ℕ → Type 0
 IsFolderObject folder (Judged answer) line =
     IsLineOf (folder_answer_value folder (status_number (answer_status answer)) answer) line
@@ -126,14 +129,38 @@ IsEachOutcome answers (Ok s) = (unread_names answers ≡ []) × (s ≡ each_stat
 IsEachOutcome answers (Err (CannotReadSome names)) = (names.items ≡ unread_names answers) × (names.items ≢ [])
 IsEachOutcome answers (Err other) = ⊥
 
--- each folder was judged for itself, and what comes of them was printed in their order; or the output stopped within it;
--- or memory ran out, and nothing was printed
-pub data JudgesEach {S : Type 0} (reads : Reading S) (asked : EachRequest) (shelf : S) (out out' : SinkState)
-    (outcome : Outcome) : Type 0 where
-  told : (answers : List FolderAnswer) (text : List ℕ) → AllZip (IsFolderAnswer reads shelf) asked.folders.items answers
-      → AreFolderTexts (json_form asked.is_json) asked.folders.items answers text → Takes text out out'
-      → IsEachOutcome answers outcome → JudgesEach reads asked shelf out out' outcome
-  stopped : (answers : List FolderAnswer) (text : List ℕ) → AllZip (IsFolderAnswer reads shelf) asked.folders.items answers
-      → AreFolderTexts (json_form asked.is_json) asked.folders.items answers text → StopsIn text out out'
-      → outcome ≡ Err CannotWriteAnswer → JudgesEach reads asked shelf out out' outcome
-  no_memory : out' ≡ out → outcome ≡ Err OutOfMemory → JudgesEach reads asked shelf out out' outcome
+-- each of these folders was judged for itself, and this is printed of them
+pub record AreTold {S : Type 0} (reads : Reading S) (form : Form) (shelf : S) (folders : List (Bor (List ℕ)))
+    (answers : List FolderAnswer) (text : List ℕ) : Type 0 where
+  pub judged : AllZip (IsFolderAnswer reads shelf) folders answers
+  pub texts : AreFolderTexts form folders answers text
+
+-- what comes of the folders was printed in their order; or the output stopped within what comes of a first part of them, or
+-- memory ran out after that was printed
+pub data JudgesEach {S : Type 0} (reads : Reading S) (form : Form) (folders : List (Bor (List ℕ))) (shelf : S)
+    (out out' : SinkState) (outcome : Outcome) : Type 0 where
+  told : (answers : List FolderAnswer) (text : List ℕ) → AreTold reads form shelf folders answers text
+      → Takes text out out' → IsEachOutcome answers outcome → JudgesEach reads form folders shelf out out' outcome
+  stopped : (first : ℕ) (answers : List FolderAnswer) (text : List ℕ)
+      → AreTold reads form shelf (take first folders) answers text → StopsIn text out out'
+      → outcome ≡ Err CannotWriteAnswer → JudgesEach reads form folders shelf out out' outcome
+  no_memory : (first : ℕ) (answers : List FolderAnswer) (text : List ℕ)
+      → AreTold reads form shelf (take first folders) answers text → Takes text out out'
+      → outcome ≡ Err OutOfMemory → JudgesEach reads form folders shelf out out' outcome
+
+-- ---- Helpers, no definitions.
+
+-- each of some folders was judged, and what comes of them was printed
+abbrev pub TellsSome : {S : Type 0} → Reading S → Form → S → List (Bor (List ℕ)) → SinkState → SinkState
+    → List FolderAnswer → Type 0
+TellsSome reads form shelf folders out out' answers =
+    (text : List ℕ) × AreTold reads form shelf folders answers text × Takes text out out'
+
+-- why it wasn't: the output stopped within it; or memory ran out, and nothing was printed
+abbrev pub IsUntold : {S : Type 0} → Reading S → Form → S → List (Bor (List ℕ)) → SinkState → SinkState → ProgramFault
+    → Type 0
+IsUntold reads form shelf folders out out' CannotWriteAnswer =
+    (answers : List FolderAnswer) × (text : List ℕ) × AreTold reads form shelf folders answers text
+    × StopsIn text out out'
+IsUntold reads form shelf folders out out' OutOfMemory = out' ≡ out
+IsUntold reads form shelf folders out out' other = ⊥

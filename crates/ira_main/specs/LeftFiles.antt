@@ -24,7 +24,7 @@ use Rattle.ira_main.specs.declared.program_fault.ProgramFault.TheVariants.{OutOf
 abbrev pub MayBeLost : Option (List ℕ) → ℕ → FileName → Type 0
 MayBeLost (Some places) place name = Contains places place
 MayBeLost None place (InFolder folder i) = ⊤
-MayBeLost None place (Given word) = ⊥
+MayBeLost None place other = ⊥
 
 -- what the file of a name left: its text, or no bytes where there is no such file and its log may be lost
 abbrev pub left_text : {S : Type 0} → Reading S → Type 0 → S → List ℕ → Result (List ℕ) ShelfFault → Type 0

@@ -11,13 +11,13 @@ use Rattle.ira_main_cli.specs.declared.words_fault.WordsFault.{WordsFault}
 use Rattle.ira_main_cli.specs.declared.words_fault.WordsFault.TheVariants as words
 use Rattle.ira_main_files.specs.FileName.{slash_after}
 use Rattle.ira_main_files.specs.declared.file_name.FileName.{FileName}
-use Rattle.ira_main_files.specs.declared.file_name.FileName.TheVariants.{Given, Log}
+use Rattle.ira_main_files.specs.declared.file_name.FileName.TheVariants.{Given, InFolder, Log}
 use Rattle.ira_main_files.specs.declared.shelf_fault.ShelfFault.{ShelfFault}
 use Rattle.ira_main_files.specs.declared.shelf_fault.ShelfFault.TheVariants as shelf
 use Rattle.ira_main.specs.declared.program_fault.ProgramFault.{ProgramFault}
 use Rattle.ira_main.specs.declared.program_fault.ProgramFault.TheVariants.{CannotRead, CannotReadSome, CannotWrite, CannotWriteAnswer}
 use Rattle.ira_main.specs.declared.program_fault.ProgramFault.TheVariants.{CannotWriteLog, OtherEnding, OutOfMemory, Refused, WordIsNoText}
-use Rattle.ira_main.specs.declared.program_fault.ProgramFault.TheVariants.{Words, WouldOverwrite}
+use Rattle.ira_main.specs.declared.program_fault.ProgramFault.TheVariants.{NoPlaceInLine, Words, WouldOverwrite}
 
 -- the status of a fault
 abbrev pub program_fault_status : ProgramFault → Status
@@ -48,10 +48,16 @@ write_fault name other = CannotWrite name
 abbrev pub printed_name : FileName → List ℕ
 printed_name (Given name) = shown name.now
 printed_name (Log folder place) = shown folder.now ++ slash_after folder.now ++ decimal place ++ codes ".log"
+printed_name (InFolder folder name) = shown folder.now ++ slash_after folder.now ++ shown name.now
 
 -- the line of a file that wasn't read
 abbrev pub unread_text : FileName → List ℕ
 unread_text name = codes "ira: cannot read " ++ printed_name name ++ codes "\n"
+
+-- the line of a file of leaders of which a line isn't that of a place
+abbrev pub no_place_text : ℕ → FileName → List ℕ
+no_place_text line name =
+    codes "ira: no place in line " ++ decimal line ++ codes " of " ++ (printed_name name ++ codes "\n")
 
 -- what is written to standard error
 abbrev pub program_fault_text : ProgramFault → List ℕ
@@ -59,6 +65,7 @@ program_fault_text (Words text) = string_bytes text
 program_fault_text WordIsNoText = codes "ira: a word is not UTF-8\n"
 program_fault_text (CannotRead name) = unread_text name
 program_fault_text (CannotReadSome names) = flat_map unread_text names.items
+program_fault_text (NoPlaceInLine line name) = no_place_text line name
 program_fault_text (Refused fault) = command_fault_text fault
 program_fault_text (CannotWriteLog folder place) =
     codes "ira: cannot write " ++ printed_name (Log folder place) ++ codes "\n"

@@ -44,11 +44,11 @@ use Rattle.ira_main.specs.Explain.{ExplainsInput}
 use Rattle.ira_main.specs.Given.{IsNoMemory, IsUnread, OfFiles}
 use Rattle.ira_main.specs.Guide.{guide_text}
 use Rattle.ira_main.specs.Mend.{IsUnmended, MendsLogs}
-use Rattle.ira_main.specs.Moment.{question_of}
 use Rattle.ira_main.specs.Outcome.{Outcome, PrintsLine}
 use Rattle.ira_main.specs.ProgramFault.{words_fault}
-use Rattle.ira_main.specs.Judge.{AsksToJudge}
-use Rattle.ira_main.specs.Show.{AsksToShow}
+use Rattle.ira_main.specs.Judge.{IsUnjudged, JudgesFiles}
+use Rattle.ira_main.specs.Show.{IsUnshown, ShowsFiles}
+use Rattle.ira_main.specs.SourceNames.{AreSeveralFolders, NamesOneRing}
 use Rattle.ira_main.specs.Version.{version_line}
 use Rattle.ira_main.specs.declared.program_fault.ProgramFault.{ProgramFault}
 use Rattle.ira_main.specs.declared.program_fault.ProgramFault.TheVariants.{CannotRead, OutOfMemory}
@@ -84,7 +84,7 @@ ExplainsAnswer A form reads (Certificate question certificate source) shelf out 
     TellsOfLogs A reads (Some question) (Some certificate) source shelf out out' outcome (ExplainCheck form)
 
 -- what is done for words: they are refused; or they ask for logs, or for the evidence of an answer, and their texts
--- are judged together, or those of each of some folders; or to show logs, and what happened by them is printed; or to draw
+-- are judged together, or those of each of some folders, which may stand in place of files; or to show logs, and what happened by them is printed; or to draw
 -- them, and a picture is kept; or to check logs, and their texts are judged with those of a question and of a certificate; or
 -- to decide a question of them, and it is decided of their texts; or for the question of all pairs, and it is printed; or for
 -- a ring, and it is run; or to upgrade logs, or to mend them, and it is done; or for a guide or the version, and it is
@@ -96,17 +96,21 @@ pub data CommandOutcome (A : Type 0) {S : Type 0} (reads : Reading S) (writes : 
   refused : (fault : WordsFault) → MayBeRefused words fault → shelf' ≡ shelf → out' ≡ out
       → outcome ≡ Err (words_fault fault)
       → CommandOutcome A reads writes words shelf shelf' out out' outcome
-  judged : (logs : LogsRequest) → IsLogsLine words logs → shelf' ≡ shelf → (command : LogsCommand)
-      → AsksToJudge logs command → TellsOfLogs A reads None None logs.logs shelf out out' outcome command
+  judged : (logs : LogsRequest) → IsLogsLine words logs → NamesOneRing reads shelf logs → shelf' ≡ shelf
+      → Tells (JudgesFiles A reads logs shelf) (IsUnjudged reads logs shelf) out out' outcome
       → CommandOutcome A reads writes words shelf shelf' out out' outcome
-  each : (asked : EachRequest) → IsEachLine words asked → shelf' ≡ shelf → JudgesEach reads asked shelf out out' outcome
+  each : (asked : EachRequest) → IsEachLine words asked → shelf' ≡ shelf
+      → JudgesEach reads (json_form asked.is_json) asked.folders.items shelf out out' outcome
+      → CommandOutcome A reads writes words shelf shelf' out out' outcome
+  folders : (logs : LogsRequest) (names : List (Bor (List ℕ))) → IsLogsLine words logs
+      → AreSeveralFolders reads shelf logs names → shelf' ≡ shelf
+      → JudgesEach reads (json_form logs.is_json) names shelf out out' outcome
       → CommandOutcome A reads writes words shelf shelf' out out' outcome
   explained : (explain : ExplainRequest) → IsExplainLine words explain → shelf' ≡ shelf
       → ExplainsAnswer A (json_form explain.is_json) reads explain.answer shelf out out' outcome
       → CommandOutcome A reads writes words shelf shelf' out out' outcome
-  shown : (show : ShowRequest) → IsShowLine words show → shelf' ≡ shelf → (command : LogsCommand)
-      → AsksToShow show command
-      → TellsOfLogs A reads (question_of show.moment) None show.logs shelf out out' outcome command
+  shown : (show : ShowRequest) → IsShowLine words show → shelf' ≡ shelf
+      → Tells (ShowsFiles A reads show shelf) (IsUnshown reads show shelf) out out' outcome
       → CommandOutcome A reads writes words shelf shelf' out out' outcome
   drawn : (draw : DrawRequest) → IsDrawLine words draw
       → TellsAndKeeps writes (Some draw.picture) (DrawsFiles A reads draw shelf) (IsUndrawn reads draw shelf)

@@ -1,8 +1,9 @@
 ghost use Rattle.std.specs.Prelude.{◌≡◌, ◌++◌, ℕ, IfOk, List, OnOk, string_bytes};
 ghost use Rattle.ira_event.specs.Sink.{Wrote};
-ghost use Rattle.ira_main.specs.Each.{IsFolderAnswer, IsFolderAudit, IsFolderObject, IsFolderText, IsTellable, folder_line, unread_name};
+ghost use Rattle.ira_main.specs.Each.{IsFolderAnswer, IsFolderAudit, IsFolderObject, IsFolderText, IsTellable, after_folder, folder_line};
+ghost use Rattle.ira_main.specs.Each.{unread_name};
 
-use crate::program_fault::ProgramFault;
+use crate::program_fault::{ProgramFault, write_file_named};
 use crate::read_files::read_in_turn;
 use crate::shown_name::write_shown;
 use crate::source_names::source_names;
@@ -61,20 +62,29 @@ impl<'a> FolderAnswer<'a> {
         }
     }
 
-    /// Writes the line of the folder's answer; nothing where a file can't be read.
+    /// Writes what is said of the folder after its name.
+    #[tactic(auto, using(ira_event::proofs::Writing::writes))]
+    fn write_after<W: Sink>(&self, sink: &mut W) -> Result<(), WriteFault>
+        requires { IsTellable self.now }
+        ensures { Wrote result (after_folder self.now) (W.state sink.old) (W.state sink.new) }
+    {
+        match self {
+            FolderAnswer::Judged(answer) => {
+                write_bytes(b": ", sink)?;
+                write_report(answer, sink)
+            }
+            FolderAnswer::Unread(name) => write_file_named(b": cannot read ", *name, sink),
+        }
+    }
+
+    /// Writes the line of the folder.
     #[tactic(auto, using(ira_event::proofs::Writing::writes))]
     fn write<W: Sink>(&self, folder: &str, sink: &mut W) -> Result<(), WriteFault>
         requires { IsTellable self.now }
         ensures { Wrote result (folder_line folder.now self.now) (W.state sink.old) (W.state sink.new) }
     {
-        match self {
-            FolderAnswer::Judged(answer) => {
-                write_shown(folder, sink)?;
-                write_bytes(b": ", sink)?;
-                write_report(answer, sink)
-            }
-            FolderAnswer::Unread(_) => Ok(()),
-        }
+        write_shown(folder, sink)?;
+        self.write_after(sink)
     }
 
     /// The line of JSON of what comes of the folder.

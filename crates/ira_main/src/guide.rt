@@ -14,7 +14,7 @@ const COMMANDS_GUIDE: &[u8] = b"\
 `ira` judges and makes logs of Itai-Rodeh elections on anonymous rings.
 
     ira < LOG
-    ira logs [--over | --leads <P,..|any>] [--json] <LOGS>
+    ira logs [--over | --leads <P,..|any|FILE>] [--json] <LOGS>
     ira logs --each [--json] <DIR>...
     ira explain [--json] [<LOGS>]
     ira explain --question <Q> [--case <K> | --cert <C>] [--json] <LOGS>

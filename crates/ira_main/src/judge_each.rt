@@ -1,14 +1,13 @@
-ghost use Rattle.std.specs.Prelude.{◌≡◌, ◌<◌, IfOk, IfSome, length};
+ghost use Rattle.std.specs.Prelude.{◌≡◌, ◌<◌, IfOk, IfSome, MatchResult, length};
 ghost use Rattle.std.specs.List.{AllZip, list_any};
 ghost use Rattle.ira_main.specs.Each.{AreAnswersOf, AreFolderTexts, AreTellable, IsAnswerAt, IsAnswerOf, IsFolderAnswer};
-ghost use Rattle.ira_main.specs.Each.{JudgesEach, each_status, is_no, unread_names};
+ghost use Rattle.ira_main.specs.Each.{IsUntold, JudgesEach, TellsSome, each_status, is_no, unread_names};
 
 use crate::folder_answer::{FolderAnswer, judge_folder};
 use crate::program_fault::ProgramFault;
-use crate::read_files::thread_count;
+use crate::read_files::{chunk_from, thread_count};
 use ira_audit::Answer;
 use ira_event::{MemorySink, OutOfMemory, Sink, WriteFault, write_bytes};
-use ira_main_cli::EachRequest;
 use ira_main_files::{FileName, Shelf, TextSource};
 use ira_view::{Form, Status};
 use std::alloc::{AllocError, Allocator, Global};
@@ -149,12 +148,39 @@ fn status_of(answers: &[FolderAnswer<'_>]) -> Status
     }
 }
 
-/// Judges the logs in each of some folders, several at a time, and prints what comes of them in the order of the folders. All
-/// are judged before anything is printed.
+/// Judges the logs in each of some folders at once, and prints what comes of them in their order.
+fn tell_some<'a, R, A, F, W>(
+    rt: &R,
+    alloc: &A,
+    form: Form,
+    folders: &[&'a str],
+    shelf: &F,
+    out: &mut W,
+) -> Result<Vec<FolderAnswer<'a>, A>, ProgramFault<'a>>
+where
+    R: Threads + Sync,
+    A: Allocator + Clone + Sync,
+    F: TextSource + Sync,
+    W: Sink,
+    ensures { MatchResult result
+        (λ answers. TellsSome F.reads form shelf.now folders.now (W.state out.old) (W.state out.new) answers.items)
+        (IsUntold F.reads form shelf.now folders.now (W.state out.old) (W.state out.new)) }
+{
+    let answers = folder_answers(rt, alloc, folders, shelf)?;
+    let text = folder_texts(alloc.clone()?, form, folders, &answers)?;
+    match write_bytes(text.bytes(), out) {
+        Ok(()) => Ok(answers),
+        Err(WriteFault) => Err(ProgramFault::CannotWriteAnswer),
+    }
+}
+
+/// Judges the logs in each of some folders, and prints what comes of them in their order: of as many as threads run at a
+/// time once these are judged.
 pub(crate) fn judge_each<'a, R, A, F, W>(
     rt: &R,
     alloc: A,
-    asked: &EachRequest<'a>,
+    form: Form,
+    folders: &[&'a str],
     shelf: &F,
     out: &mut W,
 ) -> Result<Status, ProgramFault<'a>>
@@ -163,15 +189,18 @@ where
     A: Allocator + Clone + Send + Sync,
     F: Shelf + Sync,
     W: Sink,
-    ensures { JudgesEach F.reads asked.now shelf.now (W.state out.old) (W.state out.new) result }
+    ensures { JudgesEach F.reads form folders.now shelf.now (W.state out.old) (W.state out.new) result }
 {
-    let answers = folder_answers(rt, &alloc, &asked.folders, shelf)?;
-    let form = Form::of_json(asked.is_json);
-    let text = folder_texts(alloc, form, &asked.folders, &answers)?;
+    let size = thread_count(rt);
+    let mut answers = Vec::new(alloc.clone()?);
+    while answers.len() < folders.len() {
+        let some = chunk_from(folders, answers.len(), size);
+        answers.append(&mut tell_some(rt, &alloc, form, some, shelf, out)?)?;
+    }
     let unread = unread(rt.alloc(), &answers)?;
-    match write_bytes(text.bytes(), out) {
-        Ok(()) if unread.is_empty() => Ok(status_of(&answers)),
-        Ok(()) => Err(ProgramFault::CannotReadSome(unread)),
-        Err(WriteFault) => Err(ProgramFault::CannotWriteAnswer),
+    if unread.is_empty() {
+        Ok(status_of(&answers))
+    } else {
+        Err(ProgramFault::CannotReadSome(unread))
     }
 }

@@ -1,4 +1,4 @@
-ghost use Rattle.std.specs.Prelude.{◌≡◌, ◌≤◌, ◌+◌, ℕ, IfOk, List, MatchResult, None, Some};
+ghost use Rattle.std.specs.Prelude.{◌≡◌, ◌≤◌, ◌+◌, ℕ, IfOk, List, MatchResult, None, Some, option_map};
 ghost use Rattle.ira_audit.specs.RingAudit.{HasTaken};
 ghost use Rattle.ira_view.specs.Form.{json_form};
 ghost use Rattle.ira_commands.specs.Answers.{Answers};
@@ -7,19 +7,21 @@ ghost use Rattle.ira_commands.specs.Judging.{JudgesLog};
 ghost use Rattle.ira_commands.specs.Reply.{Reports, ReportsAs};
 ghost use Rattle.ira_commands.specs.declared.logs_command.LogsCommand.TheVariants.{Check};
 ghost use Rattle.ira_main.specs.Given.{IsUnread, OfFiles};
-ghost use Rattle.ira_main.specs.Judge.{AsksToJudge, IsExpectedBy};
+ghost use Rattle.ira_main.specs.Judge.{AsksToJudge, IsExpectedBy, IsUnjudged, JudgesFiles, leaders_expected};
 ghost use Rattle.ira_main.specs.Serve.{IsInputFault, OfInput};
 
+use crate::answer_files::answer_files;
 use crate::given::{Given, Inputs, read_given};
 use crate::input_audit::audit_input;
+use crate::leaders_file::leaders_in;
 use crate::program_fault::ProgramFault;
 use crate::show_command::leaders_of;
 use ira_audit::RingAudit;
 use ira_commands::{Expected, LogsCommand, Reply};
 use ira_event::{MAX_TEXT, OutOfMemory};
 use ira_links::OpenGate;
-use ira_main_cli::{CheckRequest, Expectation, LogsRequest};
-use ira_main_files::{CountingReader, FileName, Shelf};
+use ira_main_cli::{AskedLeaders, CheckRequest, Expectation, LogsRequest};
+use ira_main_files::{CountingReader, FileName, Shelf, TextSource};
 use ira_view::Form;
 use std::alloc::Allocator;
 use std::io::Read;
@@ -42,27 +44,55 @@ pub(crate) fn judge_input<'a, A: Allocator + Clone, I: Read>(
 }
 
 /// What words expect of an election.
-fn expected_by(expectation: &Expectation) -> Expected<'_>
-    ensures { IsExpectedBy expectation.now result }
+fn expected_by<'t>(expectation: &'t Expectation<'_>, read: &'t [u64]) -> Expected<'t>
+    ensures { IsExpectedBy expectation.now read.now result }
 {
     match expectation {
         Expectation::Over => Expected::Over,
-        Expectation::Leaders(leaders) => Expected::Leaders(leaders_of(leaders)),
+        Expectation::Leaders(leaders) => Expected::Leaders(leaders_of(leaders, read)),
     }
 }
 
-/// What words ask of the logs that are to be judged.
-pub(crate) fn judge_command<'t>(logs: &'t LogsRequest<'_>) -> LogsCommand<'t>
-    ensures { AsksToJudge logs.now result }
+/// The leaders that are expected, if some are.
+fn expected_leaders<'t, 'a>(expected: &'t Option<Expectation<'a>>) -> Option<&'t AskedLeaders<'a>>
+    ensures { option_map (λ asked. asked.now) result ≡ leaders_expected expected.now }
+{
+    match expected {
+        Some(Expectation::Leaders(leaders)) => Some(leaders),
+        Some(Expectation::Over) | None => None,
+    }
+}
+
+/// What words ask of the logs that are to be judged; these places are those of the file of leaders.
+fn judge_command<'t>(logs: &'t LogsRequest<'_>, read: &'t [u64]) -> LogsCommand<'t>
+    ensures { AsksToJudge logs.now read.now result }
 {
     let form = Form::of_json(logs.is_json);
     match &logs.expected {
         None => LogsCommand::Answer { form },
         Some(expectation) => LogsCommand::Expect {
             form,
-            expected: expected_by(expectation),
+            expected: expected_by(expectation, read),
         },
     }
+}
+
+/// Judges logs, with those who are to lead, in the files that are named.
+pub(crate) fn judge_logs<'a, R, A, F>(
+    rt: &R,
+    alloc: A,
+    logs: &LogsRequest<'a>,
+    shelf: &F,
+) -> Result<Reply<A>, ProgramFault<'a>>
+where
+    R: Threads + Sync,
+    A: Allocator + Clone + Send + Sync,
+    F: TextSource + Sync,
+    ensures { MatchResult result (JudgesFiles A F.reads logs.now shelf.now) (IsUnjudged F.reads logs.now shelf.now) }
+{
+    let read = leaders_in(&alloc, expected_leaders(&logs.expected), &logs.logs, shelf)?;
+    let inputs = Inputs::asked(None, &logs.logs, None);
+    answer_files(rt, alloc, judge_command(logs, &read), inputs, shelf)
 }
 
 /// The answer of the logs that an audit has taken, of a question and of a certificate.

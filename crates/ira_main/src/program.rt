@@ -16,18 +16,21 @@ use crate::explain_files::{explain_check_files, explain_input};
 use crate::given::Inputs;
 use crate::guide::print_guide;
 use crate::judge_each::judge_each;
-use crate::judge_files::{check_files, judge_command, judge_input};
+use crate::judge_files::{check_files, judge_input, judge_logs};
 use crate::mend_files::mend_files;
 use crate::program_fault::{ProgramFault, report_outcome};
 use crate::progress::Progress;
-use crate::show_command::{question_of, show_command};
+use crate::show_command::show_files;
+use crate::source_names::several_folders;
 use crate::tell_unread::tell_unread;
 use crate::tell_why::why_unread;
 use crate::upgrade_files::upgrade_files;
 use crate::version::print_version;
 use ira_commands::{LogsCommand, Reply, ask_pairs};
 use ira_event::{MAX_TEXT, Sink};
-use ira_main_cli::{CaseSelection, ExplainRequest, ExplainedAnswer, Request, read_words};
+use ira_main_cli::{
+    CaseSelection, EachRequest, ExplainRequest, ExplainedAnswer, Request, read_words,
+};
 use ira_main_files::{CountingReader, Shelf};
 use ira_view::{Form, Status};
 use std::alloc::Allocator;
@@ -71,11 +74,16 @@ where
     match request {
         Request::OneLog => Progress::Ended(deliver(judge_input(alloc, input), out)),
         Request::Logs(logs) => {
-            let inputs = Inputs::asked(None, &logs.logs, None);
-            let reply = answer_files(rt, alloc, judge_command(&logs), inputs, shelf);
-            Progress::Ended(deliver(reply, out))
+            if let Some(folders) = several_folders(&logs, shelf) {
+                let form = Form::of_json(logs.is_json);
+                return Progress::Ended(judge_each(rt, alloc, form, folders, shelf, out));
+            }
+            Progress::Ended(deliver(judge_logs(rt, alloc, &logs, shelf), out))
         }
-        Request::Each(each) => Progress::Ended(judge_each(rt, alloc, &each, shelf, out)),
+        Request::Each(EachRequest { is_json, folders }) => {
+            let form = Form::of_json(is_json);
+            Progress::Ended(judge_each(rt, alloc, form, &folders, shelf, out))
+        }
         Request::Explain(ExplainRequest { answer, is_json }) => {
             let form = Form::of_json(is_json);
             match answer {
@@ -106,9 +114,7 @@ where
             }
         }
         Request::Show(show) => {
-            let inputs = Inputs::asked(question_of(&show.moment), &show.logs, None);
-            let reply = answer_files(rt, alloc, show_command(&show), inputs, shelf);
-            Progress::Ended(deliver(reply, out))
+            Progress::Ended(deliver(show_files(rt, alloc, &show, shelf), out))
         }
         Request::Draw(draw) => {
             let reply = draw_files(rt, alloc, &draw, shelf);

@@ -3,7 +3,7 @@ ghost use Rattle.std.specs.List.{flat_map};
 ghost use Rattle.ira_event.specs.Sink.{Wrote};
 ghost use Rattle.ira_main_files.specs.FileName.{slash_after};
 ghost use Rattle.ira_view_page.specs.Printable.{shown};
-ghost use Rattle.ira_main.specs.ProgramFault.{printed_name, program_fault_text, unread_text, read_fault, write_fault, write_log_fault};
+ghost use Rattle.ira_main.specs.ProgramFault.{no_place_text, printed_name, program_fault_text, unread_text, read_fault, write_fault, write_log_fault};
 ghost use Rattle.ira_main.specs.Outcome.{ReportsOutcome, outcome_number};
 ghost use Rattle.ira_main.specs.ProgramFault.{program_fault_status};
 
@@ -26,6 +26,8 @@ pub enum ProgramFault<'a> {
     CannotRead(FileName<'a>),
     /// These files can't be read, each of a folder whose logs were to be judged.
     CannotReadSome(Vec<FileName<'a>>),
+    /// The line of this number of the file of this name isn't that of a place, as those of leaders are.
+    NoPlaceInLine(u32, FileName<'a>),
     /// What is asked for is refused.
     Refused(CommandFault),
     /// The log of the node at this place can't be written to its file in this folder.
@@ -96,6 +98,7 @@ impl<'a> ProgramFault<'a> {
             ProgramFault::WordIsNoText => write_bytes(b"ira: a word is not UTF-8\n", err),
             ProgramFault::CannotRead(name) => write_file_named(b"ira: cannot read ", *name, err),
             ProgramFault::CannotReadSome(names) => write_unread(names, err),
+            ProgramFault::NoPlaceInLine(line, name) => write_no_place(*line, *name, err),
             ProgramFault::Refused(fault) => fault.write(err),
             ProgramFault::CannotWriteLog(folder, place) => {
                 write_file_named(b"ira: cannot write ", FileName::Log(folder, *place), err)
@@ -147,8 +150,8 @@ fn log_in_folder(folder: &str, place: u8) -> Line
     line
 }
 
-// A line that names a file which is read.
-fn write_file_named<V: Sink>(
+/// A line that names a file which is read.
+pub(crate) fn write_file_named<V: Sink>(
     before: &[u8],
     name: FileName<'_>,
     err: &mut V,
@@ -160,7 +163,47 @@ fn write_file_named<V: Sink>(
         FileName::Log(folder, place) => {
             write_named(before, folder, &log_in_folder(folder, place), err)
         }
+        FileName::InFolder(folder, name) => write_in_folder(before, folder, name, err),
     }
+}
+
+// A line that names a file in a folder.
+#[tactic(auto, using(ira_event::proofs::Writing::writes))]
+fn write_in_folder<V: Sink>(
+    before: &[u8],
+    folder: &str,
+    name: &str,
+    err: &mut V,
+) -> Result<(), WriteFault>
+    ensures { Wrote result
+        (before.now ++ (shown folder.now ++ (slash_after folder.now ++ (shown name.now ++ codes "\n"))))
+        (V.state err.old) (V.state err.new) }
+{
+    write_bytes(before, err)?;
+    write_shown(folder, err)?;
+    write_bytes(slash_after(folder).as_bytes(), err)?;
+    write_shown(name, err)?;
+    write_bytes(b"\n", err)
+}
+
+// The beginning of a line that names a line of a file.
+fn no_place_in(line: u32) -> Line
+    ensures { result ≡ codes "ira: no place in line " ++ decimal line ++ codes " of " }
+{
+    let mut before = Line::new();
+    before.add(b"ira: no place in line ");
+    before.add_number(line);
+    before.add(b" of ");
+    before
+}
+
+/// The line of a file that names no place in a line.
+#[tactic(auto, using(ira_event::proofs::Writing::writes))]
+fn write_no_place<V: Sink>(line: u32, name: FileName<'_>, err: &mut V) -> Result<(), WriteFault>
+    ensures { Wrote result (no_place_text line name.entry) (V.state err.old) (V.state err.new) }
+{
+    no_place_in(line).write(err)?;
+    write_file_named(b"", name, err)
 }
 
 // A line for each file that isn't read.

@@ -127,7 +127,7 @@ pub(crate) fn read_in_turn<'a, A: Allocator + Clone, F: TextSource>(
 }
 
 /// The names of the share that begins there.
-fn chunk_from<'n, 'a>(names: &'n [FileName<'a>], start: usize, size: usize) -> &'n [FileName<'a>]
+pub(crate) fn chunk_from<T>(names: &[T], start: usize, size: usize) -> &[T]
     requires { start ≤ length names.now }
     ensures { result.now ≡ take size (drop start names.now) }
 {

@@ -1,10 +1,17 @@
-ghost use Rattle.std.specs.Prelude.{◌≡◌};
+ghost use Rattle.std.specs.Prelude.{◌≡◌, MatchResult, option_map};
 ghost use Rattle.ira_main.specs.Moment.{IsMomentOf, question_of};
-ghost use Rattle.ira_main.specs.Show.{AreLeadersOf, AreLinesOf, AsksToShow};
+ghost use Rattle.ira_main.specs.Show.{AreLeadersOf, AreLinesOf, AsksToShow, IsUnshown, ShowsFiles};
 
-use ira_commands::{LinesForm, LogsCommand, RingForm, RingLeaders, RingMoment};
+use crate::answer_files::answer_files;
+use crate::given::Inputs;
+use crate::leaders_file::leaders_in;
+use crate::program_fault::ProgramFault;
+use ira_commands::{LinesForm, LogsCommand, Reply, RingForm, RingLeaders, RingMoment};
 use ira_main_cli::{AskedLeaders, AskedMoment, ShowRequest};
+use ira_main_files::TextSource;
 use ira_view::Form;
+use std::alloc::Allocator;
+use std::thread::Threads;
 
 /// The moment that words ask for.
 pub(crate) fn moment_of<'t>(asked: &'t AskedMoment<'_>) -> RingMoment<'t>
@@ -27,22 +34,23 @@ pub(crate) fn question_of<'a>(asked: &AskedMoment<'a>) -> Option<&'a str>
     }
 }
 
-/// Who is to lead by the words.
-pub(crate) fn leaders_of(asked: &AskedLeaders) -> RingLeaders<'_>
-    ensures { AreLeadersOf asked.now result }
+/// Who is to lead by the words; these places are those of the file that is named, if one is.
+pub(crate) fn leaders_of<'t>(asked: &'t AskedLeaders<'_>, read: &'t [u64]) -> RingLeaders<'t>
+    ensures { AreLeadersOf asked.now read.now result }
 {
     match asked {
         AskedLeaders::Places(places) => RingLeaders::Places(places.as_slice()),
+        AskedLeaders::File(_) => RingLeaders::Places(read),
         AskedLeaders::Any => RingLeaders::Any,
     }
 }
 
 /// The lines that words ask for.
-fn lines_of<'t>(show: &'t ShowRequest<'_>) -> LinesForm<'t>
-    ensures { AreLinesOf show.now result }
+fn lines_of<'t>(show: &'t ShowRequest<'_>, read: &'t [u64]) -> LinesForm<'t>
+    ensures { AreLinesOf show.now read.now result }
 {
     let leaders = match &show.leads {
-        Some(leaders) => leaders_of(leaders),
+        Some(leaders) => leaders_of(leaders, read),
         None => RingLeaders::NotAsked,
     };
     LinesForm {
@@ -52,9 +60,40 @@ fn lines_of<'t>(show: &'t ShowRequest<'_>) -> LinesForm<'t>
     }
 }
 
-/// What is asked of the logs of a ring that words ask to show.
-pub(crate) fn show_command<'t>(show: &'t ShowRequest<'_>) -> LogsCommand<'t>
-    ensures { AsksToShow show.now result }
+/// What is asked of the logs of a ring that words ask to show; these places are those of the file of leaders.
+fn show_command<'t>(show: &'t ShowRequest<'_>, read: &'t [u64]) -> LogsCommand<'t>
+    ensures { AsksToShow show.now read.now result }
 {
-    LogsCommand::Show(RingForm::Lines(lines_of(show)), moment_of(&show.moment))
+    LogsCommand::Show(
+        RingForm::Lines(lines_of(show, read)),
+        moment_of(&show.moment),
+    )
+}
+
+/// Those who are to lead by the words, if it is asked.
+fn named_leaders<'t, 'a>(show: &'t ShowRequest<'a>) -> Option<&'t AskedLeaders<'a>>
+    ensures { option_map (λ asked. asked.now) result ≡ show.now.leads }
+{
+    match &show.leads {
+        Some(leaders) => Some(leaders),
+        None => None,
+    }
+}
+
+/// Shows logs, with those who are to lead, in the files that are named.
+pub(crate) fn show_files<'a, R, A, F>(
+    rt: &R,
+    alloc: A,
+    show: &ShowRequest<'a>,
+    shelf: &F,
+) -> Result<Reply<A>, ProgramFault<'a>>
+where
+    R: Threads + Sync,
+    A: Allocator + Clone + Send + Sync,
+    F: TextSource + Sync,
+    ensures { MatchResult result (ShowsFiles A F.reads show.now shelf.now) (IsUnshown F.reads show.now shelf.now) }
+{
+    let read = leaders_in(&alloc, named_leaders(show), &show.logs, shelf)?;
+    let inputs = Inputs::asked(question_of(&show.moment), &show.logs, None);
+    answer_files(rt, alloc, show_command(show, &read), inputs, shelf)
 }

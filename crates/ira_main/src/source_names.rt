@@ -1,14 +1,15 @@
-ghost use Rattle.std.specs.Prelude.{◌≡◌, [], ◌∷◌, IfOk, MatchOption, MatchResult, length, map};
+ghost use Rattle.std.specs.Prelude.{◌≡◌, [], ◌∷◌, IfOk, MatchBool, MatchOption, MatchResult, length, map};
 ghost use Rattle.std.specs.List.{range_with_len};
 ghost use Rattle.ira_main_files.specs.declared.file_name.FileName.TheVariants.{Given, Log};
 ghost use Rattle.ira_main_files.specs.FileName.{log_name};
 ghost use Rattle.ira_main.specs.FilesRead.{IsFilesFault};
-ghost use Rattle.ira_main.specs.SourceNames.{AreFileNames, HasFolderNames, HasNames, IsLoneFolder, IsNamesFault, SaysLogs};
+ghost use Rattle.ira_main.specs.SourceNames.{AreFileNames, AreFolders, AreSeveralFolders, HasFolderNames, HasNames, HasNoFolder};
+ghost use Rattle.ira_main.specs.SourceNames.{IsLoneFolder, IsNamesFault, NamesOneRing, SaysLogs};
 
 use crate::program_fault::ProgramFault;
 use crate::read_files::read_file;
 use ira_event::open_log;
-use ira_main_cli::LogSource;
+use ira_main_cli::{LogSource, LogsRequest};
 use ira_main_files::{FileEntry, FileName, TextSource};
 use std::alloc::{AllocError, Allocator};
 
@@ -72,6 +73,37 @@ pub(crate) fn lone_folder<'a, F: TextSource>(words: &[&'a str], shelf: &F) -> Op
     match words {
         [word] if matches!(shelf.look_up(word), FileEntry::Folder) => Some(word),
         _ => None,
+    }
+}
+
+/// Whether each of these names leads to a folder.
+fn are_folders<F: TextSource>(names: &[&str], shelf: &F) -> bool
+    ensures { MatchBool result (AreFolders F.reads shelf.now names.now) (HasNoFolder F.reads shelf.now names.now) }
+{
+    for name in names {
+        if !matches!(shelf.look_up(name), FileEntry::Folder) {
+            return false;
+        }
+    }
+    true
+}
+
+/// The folders that are named where names of files are due, where there are several and each is to be judged.
+pub(crate) fn several_folders<'t, 'a, F: TextSource>(
+    request: &'t LogsRequest<'a>,
+    shelf: &F,
+) -> Option<&'t [&'a str]>
+    ensures { MatchOption result
+        (NamesOneRing F.reads shelf.now request.now)
+        (λ folders. AreSeveralFolders F.reads shelf.now request.now folders.now) }
+{
+    if request.expected.is_some() {
+        return None;
+    }
+    match &request.logs {
+        LogSource::Files(names) if names.len() < 2 => None,
+        LogSource::Files(names) if are_folders(names, shelf) => Some(names),
+        LogSource::Files(_) | LogSource::Folder(_) => None,
     }
 }
 

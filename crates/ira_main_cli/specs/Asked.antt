@@ -4,9 +4,9 @@ use Rattle.std.specs.Prelude.{◌≡◌, ◌≢◌, ◌≤◌, ◌⊎◌}
 use Rattle.std.specs.Borrow.{Bor}
 use Rattle.clap.specs.Takes.{is_given}
 use Rattle.clap.specs.Walk.{Row, Text, all_of, first_of}
-use Rattle.ira_main_cli.specs.Options.{HasNumber, HasNumbers, IsLeftOut, ListsNumbers, MayHaveNumber}
+use Rattle.ira_main_cli.specs.Options.{HasNumber, HasNumbers, IsLeftOut, ListsNumbers, MayHaveNumber, WritesNumbers}
 use Rattle.ira_main_cli.specs.declared.asked_leaders.AskedLeaders.{AskedLeaders}
-use Rattle.ira_main_cli.specs.declared.asked_leaders.AskedLeaders.TheVariants.{Any, Places}
+use Rattle.ira_main_cli.specs.declared.asked_leaders.AskedLeaders.TheVariants.{Any, File, Places}
 use Rattle.ira_main_cli.specs.declared.asked_moment.AskedMoment.{AskedMoment}
 use Rattle.ira_main_cli.specs.declared.asked_moment.AskedMoment.TheVariants.{AtCut, AtEnd, OfQuestion}
 use Rattle.ira_main_cli.specs.declared.case_selection.CaseSelection.{CaseSelection}
@@ -126,16 +126,14 @@ pub record HasAnswerToExplain (rows : List Row) (explain : ExplainRequest) : Typ
 
 -- ---- the other requests
 
--- who is to lead: some node, where the option says `any`, or else the nodes of its numbers; nothing is asked where it is
--- left out
+-- who is to lead: some node, where the option says `any`, or else the nodes of its numbers, or where it lists none those
+-- that the file of this name has; nothing is asked where it is left out
 abbrev pub HasLeaders : List Row → Option AskedLeaders → Type 0
 HasLeaders rows None = IsLeftOut (codes "leads") rows
 HasLeaders rows (Some Any) = first_of (codes "leads") rows ≡ Some (codes "any")
 HasLeaders rows (Some (Places places)) = HasNumbers rows (codes "leads") places.items
-
--- the option says `any` or lists numbers, or it is left out
-abbrev pub NamesLeaders : List Row → Type 0
-NamesLeaders rows = (first_of (codes "leads") rows ≡ Some (codes "any")) ⊎ ListsNumbers (codes "leads") rows
+HasLeaders rows (Some (File name)) =
+    (first_of (codes "leads") rows ≡ Some name.now) × (name.now ≢ codes "any") × ¬ WritesNumbers name.now
 
 -- what is expected of an election: that it is over, where `--over` is given, or who is to lead; both aren't given
 abbrev pub HasExpectation : List Row → Option Expectation → Type 0
@@ -143,10 +141,9 @@ HasExpectation rows None = (is_given (codes "over") rows ≡ false) × IsLeftOut
 HasExpectation rows (Some Over) = (is_given (codes "over") rows ≡ true) × IsLeftOut (codes "leads") rows
 HasExpectation rows (Some (Leaders leaders)) = (is_given (codes "over") rows ≡ false) × HasLeaders rows (Some leaders)
 
--- leaders are `any` or a list of numbers, and aren't named with `--over`
-pub record NamesExpectation (rows : List Row) : Type 0 where
-  pub leaders : NamesLeaders rows
-  pub one : is_given (codes "over") rows ≡ true → IsLeftOut (codes "leads") rows
+-- leaders aren't named with `--over`
+abbrev pub NamesExpectation : List Row → Type 0
+NamesExpectation rows = is_given (codes "over") rows ≡ true → IsLeftOut (codes "leads") rows
 
 -- the logs come from what is named, with what is expected of their election, and JSON is wanted exactly where `--json` is
 -- given
@@ -193,9 +190,8 @@ pub record HasLogsToShow (rows : List Row) (show : ShowRequest) : Type 0 where
   pub json : show.is_json ≡ is_given (codes "json") rows
   pub logs : HasLogs rows show.logs
 
--- options and names that go together: leaders are `any` or a list of numbers, and a moment and logs are named in one way
+-- options and names that go together: a moment and logs are named in one way
 pub record NamesLogsToShow (rows : List Row) : Type 0 where
-  pub leads : NamesLeaders rows
   pub moment : NamesMoment rows
   pub logs : NamesLogs rows
 

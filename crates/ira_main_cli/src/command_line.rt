@@ -5,7 +5,7 @@ ghost use Rattle.ira_main_cli.specs.Asked.{AsksLogs, HasAnswer, HasAnswerToExpla
 ghost use Rattle.ira_main_cli.specs.Asked.{HasExpectation, HasFolders, HasLeaders, HasLogs, HasLogsToDraw, HasLogsToMend, HasLogsToShow};
 ghost use Rattle.ira_main_cli.specs.Asked.{HasLost, HasMoment, HasOptions, HasTopic};
 ghost use Rattle.ira_main_cli.specs.Asked.{MayHaveLogs, MayNameLogs, NamesAnswer, NamesExpectation, NamesFolders};
-ghost use Rattle.ira_main_cli.specs.Asked.{NamesLeaders, NamesLogs, NamesLogsToDraw, NamesLogsToJudge, NamesLogsToMend, NamesLogsToShow};
+ghost use Rattle.ira_main_cli.specs.Asked.{NamesLogs, NamesLogsToDraw, NamesLogsToJudge, NamesLogsToMend, NamesLogsToShow};
 ghost use Rattle.ira_main_cli.specs.Asked.{NamesMoment, NamesStart, NamesTopic, SaysStart};
 ghost use Rattle.ira_main_cli.specs.CommandEntry.{with_entry};
 ghost use Rattle.ira_main_cli.specs.CommandLine.{commands, ira_app, ira_top};
@@ -47,7 +47,7 @@ use clap::{ArgMatches, Command, Error};
 use std::alloc::{AllocError, Global};
 
 const USAGE: &str =
-    "ira < LOG\n       ira logs [--over | --leads <P,..|any>] [--json] <LOGS>\n       \
+    "ira < LOG\n       ira logs [--over | --leads <P,..|any|FILE>] [--json] <LOGS>\n       \
     ira logs --each [--json] <DIR>...\n       \
     ira explain [--json] [<LOGS>]\n       \
     ira explain --question <Q> [--case <K> | --cert <C>] [--json] <LOGS>\n       \
@@ -107,7 +107,7 @@ const LOST_HELP: &str =
     "The places of the logs that are lost, as 1,2; if not given none of LOG.., and any of --dir";
 
 const LEADS_HELP: &str =
-    "The places of the nodes that are to lead at the end, and no other, as 1,2; or any: some node is";
+    "Who is to lead at the end: places, as 1,2, and no other; any: some node; or a file with a place a line";
 
 const AT_HELP: &str = "The moment when each node has made so many events, by place, as 2,3";
 
@@ -158,7 +158,7 @@ const LOG: Argument = Argument("LOG", Files, Optional, LOG_HELP);
 
 const OUT: Argument = Argument("out", Value("DIR", FOLDER), Required, OUT_HELP);
 
-const LEADS: Argument = Argument("leads", Value("P,..|any", TEXT), Optional, LEADS_HELP);
+const LEADS: Argument = Argument("leads", Value("P,..|any|FILE", TEXT), Optional, LEADS_HELP);
 
 const AT: Argument = Argument("at", Value("N0,N1,..", TEXT), Optional, AT_HELP);
 
@@ -379,7 +379,7 @@ fn folders<'a>(alloc: Global, matches: &ArgMatches<'a>) -> Result<Vec<&'a str>, 
 fn expectation<'a>(
     alloc: Global,
     matches: &ArgMatches<'a>,
-) -> Result<Option<Expectation>, OptionsFault>
+) -> Result<Option<Expectation<'a>>, OptionsFault>
     requires { AreTyped (rows_of (found_of matches.now)) }
     ensures found { IfOk result (HasExpectation (rows_of (found_of matches.now))) }
     ensures refused { IfErr result
@@ -492,14 +492,18 @@ fn numbers(alloc: Global, text: &str) -> Result<Vec<u64>, OptionsFault>
 fn asked_leaders<'a>(
     alloc: Global,
     matches: &ArgMatches<'a>,
-) -> Result<Option<AskedLeaders>, OptionsFault>
+) -> Result<Option<AskedLeaders<'a>>, OptionsFault>
     ensures found { IfOk result (HasLeaders (rows_of (found_of matches.now))) }
-    ensures refused { IfErr result (λ why. NamesLeaders (rows_of (found_of matches.now)) → why ≡ options.OutOfMemory) }
+    ensures refused { IfErr result (λ why. why ≡ options.OutOfMemory) }
 {
     match text(matches, "leads") {
         None => Ok(None),
         Some("any") => Ok(Some(AskedLeaders::Any)),
-        Some(text) => Ok(Some(AskedLeaders::Places(numbers(alloc, text)?))),
+        Some(text) => match numbers(alloc, text) {
+            Ok(places) => Ok(Some(AskedLeaders::Places(places))),
+            Err(OptionsFault::OutOfMemory) => Err(OptionsFault::OutOfMemory),
+            Err(_) => Ok(Some(AskedLeaders::File(text))),
+        },
     }
 }
 

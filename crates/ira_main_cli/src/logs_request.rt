@@ -7,6 +7,6 @@ pub struct LogsRequest<'a> {
     /// Whether the answer is wanted as JSON.
     pub is_json: bool,
     /// What is expected of the election, if anything.
-    pub expected: Option<Expectation>,
+    pub expected: Option<Expectation<'a>>,
     pub logs: LogSource<'a>,
 }

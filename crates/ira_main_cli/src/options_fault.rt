@@ -72,8 +72,7 @@ impl OptionsFault {
             OptionsFault::CutAndQuestion =>
                 "--at <N0,N1,..> and --question <Q> exclude one another",
             OptionsFault::NoNumbers => {
-                "--leads <P,..>, --lost <P,..> and --at <N0,N1,..> are numbers with commas between them, \
-                as 2,3; or --leads any"
+                "--lost <P,..> and --at <N0,N1,..> are numbers with commas between them, as 2,3"
             }
             OptionsFault::Start => "--start <S> is initiator or passive",
             OptionsFault::Topic => "guide [TOPIC] is questions or logs",

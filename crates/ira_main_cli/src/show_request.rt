@@ -6,7 +6,7 @@ use crate::log_source::LogSource;
 #[derive(Drop)]
 pub struct ShowRequest<'a> {
     /// Who is to lead when the logs end. Nothing is asked of who leads if this is left out.
-    pub leads: Option<AskedLeaders>,
+    pub leads: Option<AskedLeaders<'a>>,
     pub moment: AskedMoment<'a>,
     /// Whether an order of all events through that moment is wanted, and not tables.
     pub has_events: bool,

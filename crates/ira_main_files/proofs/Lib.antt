@@ -1,1 +1,2 @@
+pub mod LeadersTexts
 pub mod Reading

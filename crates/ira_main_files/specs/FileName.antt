@@ -2,7 +2,7 @@
 use Rattle.std.specs.Prelude.{ℕ, ◌==◌, List, [], ◌++◌, codes, decimal, if◌then◌else◌}
 use Rattle.std.specs.List.{ends_with}
 use Rattle.ira_main_files.specs.declared.file_name.FileName.{FileName}
-use Rattle.ira_main_files.specs.declared.file_name.FileName.TheVariants.{Given, Log}
+use Rattle.ira_main_files.specs.declared.file_name.FileName.TheVariants.{Given, InFolder, Log}
 
 -- what comes between the name of a folder and that of a file in it: a slash, where the folder's doesn't end in one
 abbrev pub slash_after : List ℕ → List ℕ
@@ -16,3 +16,4 @@ log_name folder place = folder ++ slash_after folder ++ decimal place ++ codes "
 abbrev pub file_name : FileName → List ℕ
 file_name (Given name) = name.now
 file_name (Log folder place) = log_name folder.now place
+file_name (InFolder folder name) = folder.now ++ slash_after folder.now ++ name.now

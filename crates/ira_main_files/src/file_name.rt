@@ -10,6 +10,8 @@ pub enum FileName<'a> {
     Given(&'a str),
     /// That of the log of the node at this place, in this folder.
     Log(&'a str, u8),
+    /// One in this folder.
+    InFolder(&'a str, &'a str),
 }
 
 /// What comes between the name of a folder and that of a file in it.
@@ -34,6 +36,10 @@ impl FileName<'_> {
             FileName::Log(folder, place) => {
                 let slash = slash_after(folder);
                 format!(in alloc; "{folder}{slash}{place}.log")
+            }
+            FileName::InFolder(folder, name) => {
+                let slash = slash_after(folder);
+                format!(in alloc; "{folder}{slash}{name}")
             }
         }
     }

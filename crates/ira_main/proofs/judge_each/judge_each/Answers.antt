@@ -1,49 +1,68 @@
-use Rattle.std.proofs.Common.{◌≡◌, ◌≢◌, ◌∙◌, ◌∷◌, List, [], ap, arith, length, refl, rules, subst, sym}
-use Rattle.ira_event.specs.Sink.{StopsIn, Takes}
-use Rattle.ira_audit.proofs.Zipped.{zipped_length}
-use Rattle.ira_main.specs.Each.JudgesEach.{told, stopped}
-use Rattle.ira_main.proofs.Folders.{all_tellable}
+use Rattle.std.proofs.Common.{◌≡◌, ◌+◌, ◌++◌, ◌<◌, ◌∙◌, ap, arith, length, rules, subst, sym}
+use Rattle.std.proofs.lemmas.List.{length-append, length-drop, nil_from_length}
+use Rattle.ira_event.proofs.Writing.{Takes-append}
+use Rattle.ira_main.proofs.Folders.{more_told, stops_next, told_next, told_none, told_whole}
+use Rattle.ira_main.specs.Each.{unread_names}
+use Rattle.ira_main.specs.Each.JudgesEach.{no_memory, told}
 use Rattle.ira_main.proofs.judge_each.judge_each.Goals as goal
 
--- a list of no members
-is_empty : {X : Type 0} (xs : List X) → length xs ≡ 0 → xs ≡ []
-is_empty [] h = refl
-is_empty (x ∷ xs) h = absurd (omega arith)
+pub returns-in_err-clone : goal.returns-in_err-clone
+returns-in_err-clone g c =
+    let none = told_none g.F.TextSource.reads c.args.form c.args.shelf.now c.args.folders.now (g.W.Sink.state c.args.out.now) in
+    no_memory none.0 _ none.1 none.2 none.3 (search rules)
 
-pub folder_texts-requires-clause-number : goal.folder_texts-requires-clause-number
-folder_texts-requires-clause-number g c =
-    ap length c.deref-3.ensures.value ∙ zipped_length _ _ _ c.in_ok-answers.ensures
-    ∙ ap length (c.deref.ensures.value ∙ sym c.deref-2.ensures.value)
+pub loop-form-init : goal.loop-form-init
+loop-form-init g c = rw c.new-answers.ensures.items (told_none _ _ _ _ _)
 
-pub folder_texts-requires-clause-tellable : goal.folder_texts-requires-clause-tellable
-folder_texts-requires-clause-tellable g c =
-    rw c.deref-3.ensures.value (all_tellable _ c.args.shelf.now _ _ c.in_ok-answers.ensures)
+pub returns-in_err-tell_some : goal.returns-in_err-tell_some
+returns-in_err-tell_some g c =
+    let before = c.loop-form.invariant in
+    let here : c.len-in-loop-form.result ≡ length c.loop-form.answers.items = omega arith in
+    let few : length c.loop-form.answers.items < length c.args.folders.now = omega (arith, c.loop-form-test.true) in
+    stops_next _ _ _ _ _ _ before.0 before.2 c.thread_count-size.result _ _ _ _ _ _ _ here few c.chunk_from-some.ensures
+    before.3 c.in_err-tell_some.ensures (search rules)
 
-pub returns-in-Ok : goal.returns-in-Ok
-returns-in-Ok g c =
-    let are = rw c.deref.ensures.value at c.in_ok-answers.ensures in
-    let texts = rw (c.deref-2.ensures.value, c.deref-3.ensures.value, c.of_json-form.ensures) at c.in_ok-text.ensures in
-    let took = subst (λ t. Takes t (g.W.Sink.state c.args.out.now) (g.W.Sink.state c.write_bytes.new.sink))
-    c.bytes.ensures c.in-Ok.ensures in
-    let names = rw c.deref-4.ensures.value at c.in_ok-unread.ensures in
-    let empty : c.in_ok-unread.unread.items ≡ [] = is_empty _ (search rules) in
-    told c.in_ok-answers.answers.items c.in_ok-text.text.bytes are texts took
-    (sym names ∙ empty, rw c.deref-in-Ok.ensures.value at c.status_of.ensures)
+pub returns-in_err-append : goal.returns-in_err-append
+returns-in_err-append g c =
+    let before = c.loop-form.invariant in
+    let here : c.len-in-loop-form.result ≡ length c.loop-form.answers.items = omega arith in
+    let few : length c.loop-form.answers.items < length c.args.folders.now = omega (arith, c.loop-form-test.true) in
+    let more = rw (c.chunk_from-some.ensures, here) at c.in_ok-tell_some.ensures in
+    let next = told_next _ _ _ _ _ _ before.0 before.2 c.thread_count-size.result _ more.0 few more.1 in
+    no_memory _ _ _ next (Takes-append _ _ _ _ _ before.3 more.2) (search rules)
 
-pub returns-in-Ok-2 : goal.returns-in-Ok-2
-returns-in-Ok-2 g c =
-    let are = rw c.deref.ensures.value at c.in_ok-answers.ensures in
-    let texts = rw (c.deref-2.ensures.value, c.deref-3.ensures.value, c.of_json-form.ensures) at c.in_ok-text.ensures in
-    let took = subst (λ t. Takes t (g.W.Sink.state c.args.out.now) (g.W.Sink.state c.write_bytes.new.sink))
-    c.bytes.ensures c.in-Ok.ensures in
-    let names = rw c.deref-4.ensures.value at c.in_ok-unread.ensures in
-    let some : c.in_ok-unread.unread.items ≢ [] = search rules in
-    told c.in_ok-answers.answers.items c.in_ok-text.text.bytes are texts took (names, some)
+pub loop-form-smaller : goal.loop-form-smaller
+loop-form-smaller g c =
+    let before = c.loop-form.invariant in
+    let here : c.len-in-loop-form.result ≡ length c.loop-form.answers.items = omega arith in
+    let few : length c.loop-form.answers.items < length c.args.folders.now = omega (arith, c.loop-form-test.true) in
+    let more = rw (c.chunk_from-some.ensures, here) at c.in_ok-tell_some.ensures in
+    let many = more_told _ _ _ _ _ _ before.0 before.2 c.thread_count-size.result _ more.0 more.1 in
+    let room = length-drop (length c.loop-form.answers.items) c.args.folders.now in
+    let longer = ap length c.in_ok-append.ensures.items ∙ length-append c.loop-form.answers.items c.in_ok-tell_some.field-0.items in
+    omega (arith, many, room, few, longer, c.thread_count-size.ensures)
+
+pub loop-form-preserved : goal.loop-form-preserved
+loop-form-preserved g c =
+    let before = c.loop-form.invariant in
+    let here : c.len-in-loop-form.result ≡ length c.loop-form.answers.items = omega arith in
+    let few : length c.loop-form.answers.items < length c.args.folders.now = omega (arith, c.loop-form-test.true) in
+    let more = rw (c.chunk_from-some.ensures, here) at c.in_ok-tell_some.ensures in
+    let next = told_next _ _ _ _ _ _ before.0 before.2 c.thread_count-size.result _ more.0 few more.1 in
+    rw c.in_ok-append.ensures.items (_, _, next, Takes-append _ _ _ _ _ before.3 more.2)
+
+pub returns-in_err-unread : goal.returns-in_err-unread
+returns-in_err-unread g c =
+    let before = c.loop-form.invariant in no_memory before.0 _ before.1 before.2 before.3 (search rules)
+
+pub returns-then-is_empty : goal.returns-then-is_empty
+returns-then-is_empty g c =
+    let before = c.loop-form.invariant in
+    told _ _ (told_whole _ _ _ _ _ _ before.0 before.2 (omega (arith, c.loop-form-test.false))) before.3
+    (ap unread_names (sym c.deref.ensures.value) ∙ sym c.in_ok-unread.ensures ∙ nil_from_length _ (search rules), (search rules))
 
 pub returns : goal.returns
 returns g c =
-    let are = rw c.deref.ensures.value at c.in_ok-answers.ensures in
-    let texts = rw (c.deref-2.ensures.value, c.deref-3.ensures.value, c.of_json-form.ensures) at c.in_ok-text.ensures in
-    let stops = subst (λ t. StopsIn t (g.W.Sink.state c.args.out.now) (g.W.Sink.state c.write_bytes.new.sink))
-    c.bytes.ensures c.in-Err.ensures in
-    stopped c.in_ok-answers.answers.items c.in_ok-text.text.bytes are texts stops refl
+    let before = c.loop-form.invariant in
+    told _ _ (told_whole _ _ _ _ _ _ before.0 before.2 (omega (arith, c.loop-form-test.false))) before.3
+    ((search rules), (search rules))

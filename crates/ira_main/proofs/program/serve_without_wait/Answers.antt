@@ -1,6 +1,6 @@
 use Rattle.std.proofs.Common.{◌≡◌, ◌∙◌, Err, List, [], ◌∷◌, Ok, Result, ℕ, ap, inl, inr, map, refl, subst, sym}
 use Rattle.ira_main_cli.specs.Request.{IsMadeOf, IsVersionLine}
-use Rattle.ira_main.specs.Serve.CommandOutcome.{decided, drawn, each, guided, judged, mended, pairs, recorded, refused, shown}
+use Rattle.ira_main.specs.Serve.CommandOutcome.{decided, drawn, each, folders, guided, judged, mended, pairs, recorded, refused, shown}
 use Rattle.ira_main.specs.Serve.CommandOutcome.{upgraded}
 use Rattle.ira_main.specs.Serve.CommandOutcome.{explained as explained_of_logs}
 use Rattle.ira_main.specs.Serve.Serves.{explained, with_words, without_words}
@@ -36,39 +36,47 @@ returns-in-OneLog-clause-served g c =
 pub returns-in-Logs-clause-served : goal.returns-in-Logs-clause-served
 returns-in-Logs-clause-served g c =
     let made = subst (IsMadeOf (map (λ w. w.now) c.args.words.now)) c.in-Logs.is c.in-Ok.ensures.made in
-    with_words (some_words _ _ _ made.line.first) refl (judged _ made refl _ c.judge_command.ensures (told _ _ _ _ _ _
-    (rw c.asked-inputs.ensures at c.answer_files-reply.ensures) c.deliver-in-Logs.ensures))
+    with_words (some_words _ _ _ made.line.first) refl (judged _ made (rw c.in_default.is at c.several_folders.ensures)
+    refl (told _ _ _ _ _ _ c.judge_logs.ensures c.deliver-in-Logs.ensures))
+
+pub returns-in-Some-clause-served : goal.returns-in-Some-clause-served
+returns-in-Some-clause-served g c =
+    let made = subst (IsMadeOf (map (λ w. w.now) c.args.words.now)) c.in-Logs.is c.in-Ok.ensures.made in
+    with_words (some_words _ _ _ made.line.first) refl
+    (folders _ _ made (rw c.in-Some.is at c.several_folders.ensures) refl
+    (rw c.of_json-form.ensures at c.judge_each.ensures))
 
 pub returns-in-Each-clause-served : goal.returns-in-Each-clause-served
 returns-in-Each-clause-served g c =
     let made = subst (IsMadeOf (map (λ w. w.now) c.args.words.now)) c.in-Each.is c.in-Ok.ensures.made in
-    with_words (some_words _ _ _ made.first) refl (each _ made refl c.judge_each.ensures)
+    with_words (some_words _ _ _ made.first) refl (each _ made refl
+    (rw (c.of_json-form-in-Each.ensures, c.deref.ensures.value) at c.judge_each-in-Each.ensures))
 
 pub returns-in-OneLog-answer-clause-served : goal.returns-in-OneLog-answer-clause-served
 returns-in-OneLog-answer-clause-served g c =
     let made = subst (IsMadeOf (map (λ w. w.now) c.args.words.now)) c.in-Explain.is c.in-Ok.ensures.made in
     explained _ made c.in-OneLog-answer.is refl (told _ _ _ _ _ _
-    (rw c.of_json-form.ensures at c.explain_input.ensures.judged) c.deliver-in-OneLog-answer.ensures)
+    (rw c.of_json-form-in-Explain.ensures at c.explain_input.ensures.judged) c.deliver-in-OneLog-answer.ensures)
 
 pub returns-in-Logs-answer-clause-served : goal.returns-in-Logs-answer-clause-served
 returns-in-Logs-answer-clause-served g c =
     let made = subst (IsMadeOf (map (λ w. w.now) c.args.words.now)) c.in-Explain.is c.in-Ok.ensures.made in
     with_words (some_words _ _ _ made.first) refl (explained_of_logs _ made refl
     (rw c.in-Logs-answer.is (told _ _ _ _ _ _
-    (rw (c.asked-inputs-in-Logs-answer.ensures, c.of_json-form.ensures) at c.answer_files.ensures) c.deliver-in-Logs-answer.ensures)))
+    (rw (c.asked-inputs.ensures, c.of_json-form-in-Explain.ensures) at c.answer_files.ensures) c.deliver-in-Logs-answer.ensures)))
 
 pub returns-in-Findings-clause-served : goal.returns-in-Findings-clause-served
 returns-in-Findings-clause-served g c =
     let made = subst (IsMadeOf (map (λ w. w.now) c.args.words.now)) c.in-Explain.is c.in-Ok.ensures.made in
     with_words (some_words _ _ _ made.first) refl (explained_of_logs _ made refl
     (rw c.in-Findings.is (told _ _ _ _ _ _
-    (rw (c.asked-inputs-in-Findings.ensures, c.of_json-form.ensures) at c.answer_files-in-Findings.ensures) c.deliver-in-Findings.ensures)))
+    (rw (c.asked-inputs-in-Findings.ensures, c.of_json-form-in-Explain.ensures) at c.answer_files-in-Findings.ensures) c.deliver-in-Findings.ensures)))
 
 pub returns-in-Show-clause-served : goal.returns-in-Show-clause-served
 returns-in-Show-clause-served g c =
     let made = subst (IsMadeOf (map (λ w. w.now) c.args.words.now)) c.in-Show.is c.in-Ok.ensures.made in
-    with_words (some_words _ _ _ made.first) refl (shown _ made refl _ c.show_command.ensures (told _ _ _ _ _ _
-    (rw (c.asked-inputs-in-Show.ensures, c.question_of.ensures) at c.answer_files-reply-in-Show.ensures) c.deliver-in-Show.ensures))
+    with_words (some_words _ _ _ made.first) refl (shown _ made refl (told _ _ _ _ _ _ c.show_files.ensures
+    c.deliver-in-Show.ensures))
 
 pub returns-in-Draw-clause-served : goal.returns-in-Draw-clause-served
 returns-in-Draw-clause-served g c =
@@ -85,7 +93,7 @@ pub returns-in-Decide-clause-served : goal.returns-in-Decide-clause-served
 returns-in-Decide-clause-served g c =
     let made = subst (IsMadeOf (map (λ w. w.now) c.args.words.now)) c.in-Decide.is c.in-Ok.ensures.made in
     with_words (some_words _ _ _ made.first) refl (decided _ made (told_and_kept _ _ _ _ _ _ _ _ _ _
-    (rw (c.asked-inputs-in-Decide.ensures, c.is_some.ensures, c.of_json.ensures) at c.answer_files-reply-in-Decide.ensures)
+    (rw (c.asked-inputs-in-Decide.ensures, c.is_some.ensures, c.of_json.ensures) at c.answer_files-reply.ensures)
     c.deliver_and_keep-in-Decide.ensures))
 
 pub returns-in-Pairs-clause-served : goal.returns-in-Pairs-clause-served

@@ -27,3 +27,17 @@ returns-in-Log g c =
     let Says : List ℕ → Type 0 = λ t.
     Wrote c.write_named-in-Log.result t (g.V.Sink.state c.args.err.now) (g.V.Sink.state c.write_named-in-Log.new.err) in
     rw c.in-Log.is (subst Says (sym whole) said)
+
+-- the same of three
+joined : (before folder slash name end : List ℕ)
+    → before ++ (folder ++ slash ++ name) ++ end ≡ before ++ (folder ++ (slash ++ (name ++ end)))
+joined before folder slash name end =
+    append_assoc before (folder ++ slash ++ name) end
+    ∙ ap (λ t. before ++ t) (append_assoc (folder ++ slash) name end ∙ append_assoc folder slash (name ++ end))
+
+pub returns-in-InFolder : goal.returns-in-InFolder
+returns-in-InFolder g c =
+    let Says : List ℕ → Type 0 = λ t.
+    Wrote c.write_in_folder.result t (g.V.Sink.state c.args.err.now) (g.V.Sink.state c.write_in_folder.new.err) in
+    rw c.in-InFolder.is (subst Says (sym (joined c.args.before.now (shown c.in-InFolder.folder.now)
+    (slash_after c.in-InFolder.folder.now) (shown c.in-InFolder.name.now) (codes "\n"))) c.write_in_folder.ensures)
