@@ -45,6 +45,8 @@ LINES = [
     ["decide", "--question", "two_leaders.ask", "1.log", "0.log"],
     ["pairs", "5"],
     ["pairs", "1"],
+    ["ask", "--nodes", "3", "any leader, other choosing, each other active, all term = 1"],
+    ["ask", "--nodes", "3", "any leader, choosing"],
     ["upgrade", "--out", "d", "0.log", "1.log"],
     ["upgrade", "--out", "d", "--dir", "."],
     ["mend", "--out", "d", "0.log", "1.log"],

@@ -1,7 +1,7 @@
 # Completion of `ira` for bash. `make install` puts it where bash-completion looks; else: source completions/ira.bash
 # Made by checks/command_words.py.
 
-_ira_commands='logs explain show draw check decide pairs run upgrade mend guide version help'
+_ira_commands='logs explain show draw check decide pairs ask run upgrade mend guide version help'
 
 # The options of a command.
 _ira_options() {
@@ -13,6 +13,7 @@ _ira_options() {
         check) echo --question --cert --depth --json --dir --help ;;
         decide) echo --question --out --json --dir --help ;;
         pairs) echo --help ;;
+        ask) echo --nodes --help ;;
         run) echo --nodes --seed --out --initiators --draws --cap --terms --alone --help ;;
         upgrade) echo --out --dir --help ;;
         mend) echo --out --start --lost --dir --help ;;
@@ -40,7 +41,7 @@ _ira() {
         *:--depth) mapfile -t COMPREPLY < <(compgen -W '0 1 2 3 4' -- "$word") ;;
         *:--start) mapfile -t COMPREPLY < <(compgen -W 'initiator passive' -- "$word") ;;
         guide:*) mapfile -t COMPREPLY < <(compgen -W 'questions logs' -- "$word") ;;
-        pairs:* | run:* | version:*) COMPREPLY=() ;;
+        pairs:* | ask:* | run:* | version:*) COMPREPLY=() ;;
         *) mapfile -t COMPREPLY < <(compgen -f -- "$word") ;;
     esac
 }

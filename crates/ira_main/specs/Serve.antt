@@ -8,6 +8,7 @@ use Rattle.ira_view.specs.Form.{json_form}
 use Rattle.ira_view.specs.declared.form.Form.{Form}
 use Rattle.ira_commands.specs.Answers.{Answers}
 use Rattle.ira_commands.specs.Judging.{JudgesLog}
+use Rattle.ira_commands.specs.Ask.{AsksSentence}
 use Rattle.ira_commands.specs.Pairs.{AsksPairs}
 use Rattle.ira_commands.specs.Reply.{Reply, Reports}
 use Rattle.ira_commands.specs.Run.{RunsRing}
@@ -15,7 +16,7 @@ use Rattle.ira_commands.specs.Upgrade.{UpgradesTexts}
 use Rattle.ira_commands.specs.declared.logs_command.LogsCommand.{LogsCommand}
 use Rattle.ira_commands.specs.declared.logs_command.LogsCommand.TheVariants.{Check, Decide, Explain, ExplainCheck, ExplainQuestion}
 use Rattle.ira_main_cli.specs.Request.{IsCheckLine, IsDecideLine, IsDrawLine, IsEachLine, IsExplainLine, IsGuideLine, IsLogsLine}
-use Rattle.ira_main_cli.specs.Request.{IsMendLine, IsPairsLine, IsRunLine, IsShowLine, IsUpgradeLine, IsVersionLine, MayBeRefused}
+use Rattle.ira_main_cli.specs.Request.{IsAskLine, IsMendLine, IsPairsLine, IsRunLine, IsShowLine, IsUpgradeLine, IsVersionLine, MayBeRefused}
 use Rattle.ira_main_cli.specs.declared.check_request.CheckRequest.{CheckRequest}
 use Rattle.ira_main_cli.specs.declared.decide_request.DecideRequest.{DecideRequest}
 use Rattle.ira_main_cli.specs.declared.draw_request.DrawRequest.{DrawRequest}
@@ -28,6 +29,7 @@ use Rattle.ira_main_cli.specs.declared.log_source.LogSource.{LogSource}
 use Rattle.ira_main_cli.specs.declared.logs_request.LogsRequest.{LogsRequest}
 use Rattle.ira_main_cli.specs.declared.mend_request.MendRequest.{MendRequest}
 use Rattle.ira_main_cli.specs.declared.rewrite_request.RewriteRequest.{RewriteRequest}
+use Rattle.ira_main_cli.specs.declared.ask_request.AskRequest.{AskRequest}
 use Rattle.ira_main_cli.specs.declared.run_request.RunRequest.{RunRequest}
 use Rattle.ira_main_cli.specs.declared.show_request.ShowRequest.{ShowRequest}
 use Rattle.ira_main_cli.specs.declared.words_fault.WordsFault.{WordsFault}
@@ -86,7 +88,8 @@ ExplainsAnswer A form reads (Certificate question certificate source) shelf out 
 -- what is done for words: they are refused; or they ask for logs, or for the evidence of an answer, and their texts
 -- are judged together, or those of each of some folders, which may stand in place of files; or to show logs, and what happened by them is printed; or to draw
 -- them, and a picture is kept; or to check logs, and their texts are judged with those of a question and of a certificate; or
--- to decide a question of them, and it is decided of their texts; or for the question of all pairs, and it is printed; or for
+-- to decide a question of them, and it is decided of their texts; or for the question of all pairs, or of a sentence, and it
+-- is printed; or for
 -- a ring, and it is run; or to upgrade logs, or to mend them, and it is done; or for a guide or the version, and it is
 -- printed. Or no answer is given, for a fault that the command can have. The shelf is as it was but for the files of a run, of upgraded or
 -- mended logs, of a certificate and of a picture
@@ -128,6 +131,9 @@ pub data CommandOutcome (A : Type 0) {S : Type 0} (reads : Reading S) (writes : 
       shelf shelf' out out' outcome
       → CommandOutcome A reads writes words shelf shelf' out out' outcome
   pairs : (nodes : ℕ) → IsPairsLine words nodes → shelf' ≡ shelf → Tells (AsksPairs nodes) IsNoMemory out out' outcome
+      → CommandOutcome A reads writes words shelf shelf' out out' outcome
+  asked : (ask : AskRequest) → IsAskLine words ask → shelf' ≡ shelf
+      → Tells (AsksSentence ask.nodes ask.sentence.now) IsNoMemory out out' outcome
       → CommandOutcome A reads writes words shelf shelf' out out' outcome
   recorded : (request : RunRequest) → IsRunLine words request
       → TellsAndRecords writes request.folder (RunsRing request.is_alone (run_of request)) IsNoMemory

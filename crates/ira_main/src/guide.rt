@@ -23,6 +23,7 @@ const COMMANDS_GUIDE: &[u8] = b"\
     ira check --question <Q> --cert <C> [--depth <D>] [--json] <LOGS>
     ira decide --question <Q> [--out <C>] [--json] <LOGS>
     ira pairs <N>
+    ira ask --nodes <N> <SENTENCE>
     ira run --nodes <N> --seed <S> --out <DIR> [OPTIONS]
     ira upgrade --out <DIR> <LOGS>
     ira mend --out <DIR> [--start <S>] [--lost <P,..>] <LOGS>
@@ -38,6 +39,7 @@ LOGS is either <LOG>... or --dir <DIR>. Without words `ira` judges one log on st
     check    Judges logs together with a certificate that no moment met a case of a question
     decide   Decides for each case of a question whether some moment of the logged run met it
     pairs    Prints the question whether two nodes of a ring ever lead at once
+    ask      Prints the question whether a sentence on the nodes of a ring ever holds
     run      Runs an election, and writes the log of each node to a file
     upgrade  Writes the logs of all nodes of a ring in version 2, each to a file
     mend     Writes of each log of a ring the longest beginning such that all are consistent
@@ -81,6 +83,18 @@ How a clause is spelled:
 `ira decide --question FILE` with logs says of each case, counted from 0, whether some moment held it,
 and `ira explain --question FILE` why. `ira show` and `ira draw` show the first moment that did.
 `ira pairs N` prints the question whether two nodes of a ring of N ever lead at once.
+
+`ira ask --nodes N 'SENTENCE'` prints the question whether a sentence on all nodes ever holds:
+
+    any leader, other choosing        a node leads while another one has to draw
+    any round > 2, other round < 2    one node is two rounds ahead of another
+    any active, each other passive    one node is active, and all others are passive
+    any owes, all term = 1            all nodes are in the first term, and one owes something
+    all (not leader)                  nobody leads
+
+A sentence has up to four parts in this order, each with a clause and `, ` between: `any`, after it
+`other` and `each other`, and `all`. `other` speaks of one more node, and `each other` of all nodes
+that were picked for neither.
 ";
 
 const LOGS_GUIDE: &[u8] = b"\

@@ -1,5 +1,6 @@
 ghost use Rattle.std.specs.Prelude.{◌≡◌, ◌≤◌, ◌+◌, ℕ, List, MatchResult, map};
 ghost use Rattle.ira_event.specs.Sink.{SinkState};
+ghost use Rattle.ira_commands.specs.Ask.{AsksSentence};
 ghost use Rattle.ira_commands.specs.Pairs.{AsksPairs};
 ghost use Rattle.ira_main_files.specs.Shelf.{writing_by};
 ghost use Rattle.ira_main.specs.Given.{IsNoMemory};
@@ -26,10 +27,10 @@ use crate::tell_unread::tell_unread;
 use crate::tell_why::why_unread;
 use crate::upgrade_files::upgrade_files;
 use crate::version::print_version;
-use ira_commands::{LogsCommand, Reply, ask_pairs};
+use ira_commands::{LogsCommand, Reply, ask_pairs, ask_sentence};
 use ira_event::{MAX_TEXT, Sink};
 use ira_main_cli::{
-    CaseSelection, EachRequest, ExplainRequest, ExplainedAnswer, Request, read_words,
+    AskRequest, CaseSelection, EachRequest, ExplainRequest, ExplainedAnswer, Request, read_words,
 };
 use ira_main_files::{CountingReader, Shelf};
 use ira_view::{Form, Status};
@@ -44,6 +45,16 @@ fn pairs<'a, A: Allocator + Clone>(alloc: A, nodes: u64) -> Result<Reply<A>, Pro
     ensures { MatchResult result (AsksPairs nodes) IsNoMemory }
 {
     Ok(ask_pairs(alloc, nodes)?)
+}
+
+// The question that a sentence stands for.
+fn ask<'a, A: Allocator + Clone>(
+    alloc: A,
+    asked: &AskRequest<'a>,
+) -> Result<Reply<A>, ProgramFault<'a>>
+    ensures { MatchResult result (AsksSentence asked.now.nodes asked.now.sentence.now) IsNoMemory }
+{
+    Ok(ask_sentence(alloc, asked.nodes, asked.sentence.as_bytes())?)
 }
 
 /// Does what the words ask for, unless that waits: it leaves a check, the evidence of one, and a run with a thread for
@@ -132,6 +143,7 @@ where
             Progress::Ended(deliver_and_keep(reply, decide.certificate, shelf, out))
         }
         Request::Pairs(nodes) => Progress::Ended(deliver(pairs(alloc, nodes), out)),
+        Request::Ask(asked) => Progress::Ended(deliver(ask(alloc, &asked), out)),
         Request::Run(ring) => {
             if ring.is_alone {
                 let reply = record_run_alone(&alloc, &ring);
@@ -212,7 +224,7 @@ where
 /// * `show` says what happened by the logs, and `draw` keeps a picture of it in a file;
 /// * `check` judges logs with the question and the certificate in the files of its options; `decide` decides the question of
 ///   them, and keeps a certificate in a file if one is named and all cases are absent;
-/// * `pairs` and a number prints the question of all pairs of nodes;
+/// * `pairs` and a number prints the question of all pairs of nodes, `ask` that of a sentence;
 /// * `run` and its options runs a ring and writes the logs of its nodes to files;
 /// * `upgrade` writes logs in version 2, and `mend` of each the longest beginning such that all are consistent, each to a file
 ///   of a folder;

@@ -219,7 +219,11 @@ are_commands = (
                       (
                         refl,
                         command _ refl refl refl refl refl refl (search rules),
-                        (refl, inr refl, tt),
+                        (
+                          refl,
+                          command _ refl refl refl refl refl refl (search rules),
+                          (refl, inr refl, tt),
+                        ),
                       ),
                     ),
                   ),

@@ -16,6 +16,7 @@ use Rattle.ira_main_cli.specs.declared.draw_request.DrawRequest.{DrawRequest}
 use Rattle.ira_main_cli.specs.declared.each_request.EachRequest.{EachRequest}
 use Rattle.ira_main_cli.specs.declared.expectation.Expectation.{Expectation}
 use Rattle.ira_main_cli.specs.declared.expectation.Expectation.TheVariants.{Leaders, Over}
+use Rattle.ira_main_cli.specs.declared.ask_request.AskRequest.{AskRequest}
 use Rattle.ira_main_cli.specs.declared.explain_request.ExplainRequest.{ExplainRequest}
 use Rattle.ira_main_cli.specs.declared.explained_answer.ExplainedAnswer.{ExplainedAnswer}
 use Rattle.ira_main_cli.specs.declared.explained_answer.ExplainedAnswer.TheVariants as explained
@@ -268,6 +269,11 @@ HasTopic rows topic.Logs = first_of (codes "TOPIC") rows ≡ Some (codes "logs")
 -- there is a guide on what is named
 abbrev pub NamesTopic : List Row → Type 0
 NamesTopic rows = (topic : GuideTopic) × HasTopic rows topic
+
+-- the sentence and the number of nodes are the values of these
+pub record HasSentence (rows : List Row) (ask : AskRequest) : Type 0 where
+  pub nodes : HasNumber rows (codes "nodes") ask.nodes
+  pub sentence : first_of (codes "SENTENCE") rows ≡ Some ask.sentence.now
 
 -- the ring has the values of these options, at most 100,000 draws, and one thread exactly where `--alone` is given
 pub record HasOptions (rows : List Row) (ring : RunRequest) : Type 0 where

@@ -102,6 +102,10 @@ decide_app =
 abbrev pub pairs_app : App
 pairs_app = command_app (codes "pairs") (required (word_rule (Unsigned 0 18446744073709551615) (codes "N")) ∷ [])
 
+abbrev pub ask_app : App
+ask_app =
+    command_app (codes "ask") (required (number_rule (codes "nodes")) ∷ required (word_rule String (codes "SENTENCE")) ∷ [])
+
 abbrev pub run_app : App
 run_app =
     command_app (codes "run")
@@ -127,8 +131,8 @@ version_app = command_app (codes "version") []
 
 abbrev pub commands : List App
 commands =
-    logs_app ∷ explain_app ∷ show_app ∷ draw_app ∷ check_app ∷ decide_app ∷ pairs_app ∷ run_app ∷ upgrade_app
-    ∷ mend_app ∷ guide_app ∷ version_app ∷ []
+    logs_app ∷ explain_app ∷ show_app ∷ draw_app ∷ check_app ∷ decide_app ∷ pairs_app ∷ ask_app ∷ run_app
+    ∷ upgrade_app ∷ mend_app ∷ guide_app ∷ version_app ∷ []
 
 -- what the parser reads of the command of this name
 abbrev pub rules_named : Text → List Rule

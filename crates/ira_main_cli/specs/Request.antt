@@ -5,11 +5,12 @@ use Rattle.clap.specs.Simple.{HasMatchesOf}
 use Rattle.clap.specs.Walk.{Row, Text, rows_after}
 use Rattle.clap.specs.declared.parser.matches.ArgMatches.{ArgMatches}
 use Rattle.ira_main_cli.specs.Asked.{HasAnswerToExplain, HasFiles, HasFilesToDecide, HasFilesToRewrite, HasFoldersToJudge}
-use Rattle.ira_main_cli.specs.Asked.{HasLogsToDraw, HasLogsToJudge, HasLogsToMend, HasLogsToShow, HasOptions, HasTopic, IsOfFiles}
+use Rattle.ira_main_cli.specs.Asked.{HasLogsToDraw, HasLogsToJudge, HasLogsToMend, HasLogsToShow, HasOptions, HasSentence, HasTopic, IsOfFiles}
 use Rattle.ira_main_cli.specs.Asked.{NamesAnswer, NamesLogs, NamesLogsToDraw, NamesLogsToJudge, NamesLogsToMend}
 use Rattle.ira_main_cli.specs.Asked.{NamesLogsToShow, NamesTopic}
 use Rattle.ira_main_cli.specs.CommandLine.{ira_app, rules_named}
 use Rattle.ira_main_cli.specs.Options.{HasNumber}
+use Rattle.ira_main_cli.specs.declared.ask_request.AskRequest.{AskRequest}
 use Rattle.ira_main_cli.specs.declared.check_request.CheckRequest.{CheckRequest}
 use Rattle.ira_main_cli.specs.declared.decide_request.DecideRequest.{DecideRequest}
 use Rattle.ira_main_cli.specs.declared.draw_request.DrawRequest.{DrawRequest}
@@ -23,7 +24,7 @@ use Rattle.ira_main_cli.specs.declared.run_request.RunRequest.{RunRequest}
 use Rattle.ira_main_cli.specs.declared.show_request.ShowRequest.{ShowRequest}
 use Rattle.ira_main_cli.specs.declared.request.Request.{Request}
 use Rattle.ira_main_cli.specs.declared.request.Request.TheVariants.{OneLog, Logs, Each, Explain, Show, Draw, Check, Decide}
-use Rattle.ira_main_cli.specs.declared.request.Request.TheVariants.{Pairs, Run, Upgrade, Mend, Guide, Version}
+use Rattle.ira_main_cli.specs.declared.request.Request.TheVariants.{Ask, Pairs, Run, Upgrade, Mend, Guide, Version}
 use Rattle.ira_main_cli.specs.declared.words_fault.WordsFault.{WordsFault}
 use Rattle.ira_main_cli.specs.declared.words_fault.WordsFault.TheVariants.{OutOfMemory, Refused}
 
@@ -64,6 +65,7 @@ Asks name rows (Draw draw) = (name ≡ codes "draw") × HasLogsToDraw rows draw
 Asks name rows (Check check) = (name ≡ codes "check") × HasFiles rows check
 Asks name rows (Decide decide) = (name ≡ codes "decide") × HasFilesToDecide rows decide
 Asks name rows (Pairs nodes) = (name ≡ codes "pairs") × HasNumber rows (codes "N") nodes
+Asks name rows (Ask ask) = (name ≡ codes "ask") × HasSentence rows ask
 Asks name rows (Run ring) = (name ≡ codes "run") × HasOptions rows ring
 Asks name rows (Upgrade upgrade) = (name ≡ codes "upgrade") × HasFilesToRewrite rows upgrade
 Asks name rows (Mend mend) = (name ≡ codes "mend") × HasLogsToMend rows mend
@@ -118,6 +120,10 @@ IsDecideLine words decide = IsCommandLine words (Decide decide)
 -- `pairs` and a number of nodes
 abbrev pub IsPairsLine : List Text → ℕ → Type 0
 IsPairsLine words nodes = IsCommandLine words (Pairs nodes)
+
+-- `ask`, a number of nodes and a sentence
+abbrev pub IsAskLine : List Text → AskRequest → Type 0
+IsAskLine words ask = IsCommandLine words (Ask ask)
 
 -- `run` and options, which ask for this ring
 abbrev pub IsRunLine : List Text → RunRequest → Type 0

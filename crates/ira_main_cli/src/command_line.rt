@@ -3,7 +3,7 @@ ghost use Rattle.clap.specs.Words.{app_of, found_of, kind_of, rows_of};
 ghost use Rattle.clap.specs.declared.error.kind.ErrorKind.TheVariants as kind;
 ghost use Rattle.ira_main_cli.specs.Asked.{AsksLogs, HasAnswer, HasAnswerToExplain, HasFiles, HasFilesToDecide, HasFilesToRewrite};
 ghost use Rattle.ira_main_cli.specs.Asked.{HasExpectation, HasFolders, HasLeaders, HasLogs, HasLogsToDraw, HasLogsToMend, HasLogsToShow};
-ghost use Rattle.ira_main_cli.specs.Asked.{HasLost, HasMoment, HasOptions, HasTopic};
+ghost use Rattle.ira_main_cli.specs.Asked.{HasLost, HasMoment, HasOptions, HasSentence, HasTopic};
 ghost use Rattle.ira_main_cli.specs.Asked.{MayHaveLogs, MayNameLogs, NamesAnswer, NamesExpectation, NamesFolders};
 ghost use Rattle.ira_main_cli.specs.Asked.{NamesLogs, NamesLogsToDraw, NamesLogsToJudge, NamesLogsToMend, NamesLogsToShow};
 ghost use Rattle.ira_main_cli.specs.Asked.{NamesMoment, NamesStart, NamesTopic, SaysStart};
@@ -19,6 +19,7 @@ ghost use Rattle.ira_main_cli.specs.declared.words_fault.WordsFault.TheVariants 
 use crate::argument::Argument;
 use crate::argument::ArgumentForm::{Files, Flag, Value, Word};
 use crate::argument::Need::{Default, Optional, Required};
+use crate::ask_request::AskRequest;
 use crate::asked_leaders::AskedLeaders;
 use crate::asked_moment::AskedMoment;
 use crate::case_selection::CaseSelection;
@@ -56,6 +57,7 @@ const USAGE: &str =
     ira check --question <Q> --cert <C> [--depth <D>] [--json] <LOGS>\n       \
     ira decide --question <Q> [--out <C>] [--json] <LOGS>\n       \
     ira pairs <N>\n       \
+    ira ask --nodes <N> <SENTENCE>\n       \
     ira run --nodes <N> --seed <S> --out <DIR> [OPTIONS]\n       \
     ira upgrade --out <DIR> <LOGS>\n       \
     ira mend --out <DIR> [--start <S>] [--lost <P,..>] <LOGS>\n       \
@@ -135,6 +137,9 @@ const MADE_CERT_HELP: &str =
     "The file for the certificate, which is made where all cases are absent";
 
 const NODES_HELP: &str = "How many nodes the ring has, 2 to 255";
+
+const SENTENCE_HELP: &str =
+    "What nodes are like at once, as 'any leader, other choosing'; see `ira guide questions`";
 
 const SEED_HELP: &str = "The number that all draws come from";
 
@@ -246,6 +251,14 @@ const COMMANDS: &[CommandEntry] = &[
         name: "pairs",
         about: "Prints the question whether two nodes of a ring ever lead at once",
         arguments: &[Argument("N", Word(NUMBER), Required, NODES_HELP)],
+    },
+    CommandEntry {
+        name: "ask",
+        about: "Prints the question whether a sentence on the nodes of a ring ever holds",
+        arguments: &[
+            Argument("nodes", Value("N", NUMBER), Required, NODES_HELP),
+            Argument("SENTENCE", Word(TEXT), Required, SENTENCE_HELP),
+        ],
     },
     CommandEntry {
         name: "run",
@@ -602,6 +615,17 @@ fn decide<'a>(alloc: Global, matches: &ArgMatches<'a>) -> Result<DecideRequest<'
     })
 }
 
+/// The sentence whose question is asked for.
+fn ask<'a>(matches: &ArgMatches<'a>) -> AskRequest<'a>
+    requires { AreFoundAfter (codes "ask") (rows_of (found_of matches.now)) }
+    ensures { HasSentence (rows_of (found_of matches.now)) result }
+{
+    AskRequest {
+        nodes: given_number(matches, "nodes"),
+        sentence: given_text(matches, "SENTENCE"),
+    }
+}
+
 /// The ring to run.
 fn run<'a>(matches: &ArgMatches<'a>) -> RunRequest<'a>
     requires { AreFoundAfter (codes "run") (rows_of (found_of matches.now)) }
@@ -711,6 +735,7 @@ fn found_request<'a>(
         "check" => Ok(Request::Check(check(alloc, matches)?)),
         "decide" => Ok(Request::Decide(decide(alloc, matches)?)),
         "pairs" => Ok(Request::Pairs(given_number(matches, "N"))),
+        "ask" => Ok(Request::Ask(ask(matches))),
         "run" => Ok(Request::Run(run(matches))),
         "upgrade" => Ok(Request::Upgrade(rewrite(alloc, matches)?)),
         "mend" => Ok(Request::Mend(mend(alloc, matches)?)),

@@ -2,6 +2,7 @@
 #![tactic(auto)]
 
 mod argument;
+mod ask_request;
 mod asked_leaders;
 mod asked_moment;
 mod case_selection;
@@ -26,6 +27,7 @@ mod run_request;
 mod show_request;
 mod words_fault;
 
+pub use ask_request::AskRequest;
 pub use asked_leaders::AskedLeaders;
 pub use asked_moment::AskedMoment;
 pub use case_selection::CaseSelection;

@@ -1,3 +1,4 @@
+use crate::ask_request::AskRequest;
 use crate::check_request::CheckRequest;
 use crate::decide_request::DecideRequest;
 use crate::draw_request::DrawRequest;
@@ -32,6 +33,8 @@ pub enum Request<'a> {
     /// To write the question whether two nodes of a ring of so many ever lead at once. The number is any, and not
     /// only a ring's size.
     Pairs(u64),
+    /// To write the question that a sentence stands for.
+    Ask(AskRequest<'a>),
     /// To run a ring, and to write down what its nodes do.
     Run(RunRequest<'a>),
     /// To write the logs of a ring in version 2, each to a file.

@@ -2,6 +2,7 @@
 //! same, and it gives its answer when it is made once more with ample memory.
 
 use crate::question_samples::PAIRS_OF_THREE;
+use ira_ask::ask;
 use ira_cand::table;
 use ira_event::{
     LogFault, Logs, MemorySink, RingSize, Sink, SinkFault, read_log, upgrade, write_log,
@@ -52,6 +53,7 @@ enum Call {
     WriteLog,
     Upgrade,
     MakePairs,
+    Ask,
     FindOrder,
     Order,
     OrderCircle,
@@ -113,6 +115,7 @@ const CALLS: &[Call] = &[
     Call::WriteLog,
     Call::Upgrade,
     Call::MakePairs,
+    Call::Ask,
     Call::FindOrder,
     Call::Order,
     Call::OrderCircle,
@@ -163,6 +166,11 @@ fn answers(
         Call::WriteLog => write_log(log, &mut MemorySink::new(alloc)).is_ok(),
         Call::Upgrade => has_answered(upgrade(alloc, log)),
         Call::MakePairs => has_answered(pairs_question(alloc, RingSize::new(3).unwrap())),
+        Call::Ask => has_answered(ask(
+            alloc,
+            RingSize::new(3).unwrap(),
+            b"any leader, other owes, all true",
+        )),
         Call::FindOrder => find_order(alloc, logs).is_ok(),
         Call::Order => order(alloc, logs).is_ok(),
         Call::OrderCircle => is_circle(rt, circle, alloc),

@@ -1,7 +1,9 @@
 //! Tests of the crates that the audit and the runners stand on: `ira_event`, `ira_node`, `ira_replay`, `ira_pred`,
-//! `ira_cand`, `ira_cert_text`, `ira_order`, `ira_links` and `test_refusing`.
+//! `ira_cand`, `ira_ask`, `ira_cert_text`, `ira_order`, `ira_links` and `test_refusing`.
 #![tactic(auto)]
 
+#[cfg(test)]
+mod ask_tests;
 #[cfg(test)]
 mod cand_tests;
 #[cfg(test)]

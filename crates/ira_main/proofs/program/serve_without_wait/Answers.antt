@@ -1,6 +1,6 @@
 use Rattle.std.proofs.Common.{◌≡◌, ◌∙◌, Err, List, [], ◌∷◌, Ok, Result, ℕ, ap, inl, inr, map, refl, subst, sym}
 use Rattle.ira_main_cli.specs.Request.{IsMadeOf, IsVersionLine}
-use Rattle.ira_main.specs.Serve.CommandOutcome.{decided, drawn, each, folders, guided, judged, mended, pairs, recorded, refused, shown}
+use Rattle.ira_main.specs.Serve.CommandOutcome.{asked, decided, drawn, each, folders, guided, judged, mended, pairs, recorded, refused, shown}
 use Rattle.ira_main.specs.Serve.CommandOutcome.{upgraded}
 use Rattle.ira_main.specs.Serve.CommandOutcome.{explained as explained_of_logs}
 use Rattle.ira_main.specs.Serve.Serves.{explained, with_words, without_words}
@@ -101,6 +101,12 @@ returns-in-Pairs-clause-served g c =
     let made = subst (IsMadeOf (map (λ w. w.now) c.args.words.now)) c.in-Pairs.is c.in-Ok.ensures.made in
     with_words (some_words _ _ _ made.first) refl (pairs _ made refl (told _ _ _ _ _ _ c.pairs.ensures
     c.deliver-in-Pairs.ensures))
+
+pub returns-in-Ask-clause-served : goal.returns-in-Ask-clause-served
+returns-in-Ask-clause-served g c =
+    let made = subst (IsMadeOf (map (λ w. w.now) c.args.words.now)) c.in-Ask.is c.in-Ok.ensures.made in
+    with_words (some_words _ _ _ made.first) refl (asked _ made refl (told _ _ _ _ _ _ c.ask.ensures
+    c.deliver-in-Ask.ensures))
 
 pub returns-then-ring-clause-served : goal.returns-then-ring-clause-served
 returns-then-ring-clause-served g c =
