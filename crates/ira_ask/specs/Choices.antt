@@ -27,9 +27,8 @@ two i j = record { any = Some i; other = Some j }
 abbrev pub places_after : ℕ → ℕ → List ℕ
 places_after n i = numbers_from (i + 1) (n - (i + 1))
 
--- all ways to pick them in a ring of n nodes, in lexicographic order; of two of which the same is asked the first
--- has the
--- lesser place
+-- all ways to pick them in a ring of n nodes, in lexicographic order; of two of which the same is asked the first has
+-- the lesser place
 abbrev pub choices : ℕ → Picks → List Places
 choices n Nobody = nobody ∷ []
 choices n One = map one (numbers_from 0 n)

@@ -3,9 +3,8 @@ use Rattle.std.specs.Prelude.{◌≡◌, ◌≢◌, ℕ, ◌<◌, ⊤, Option, S
 use Rattle.ira_pred.specs.Formula.{Formula}
 use Rattle.ira_ask.specs.declared.places.Places.{Places}
 
--- up to four things at once: a node has some state, another one has some state, each node that was picked for
--- neither has
--- some state, and so has each node
+-- up to four things at once: a node has some state, another one has some state, each node that was picked for neither
+-- has some state, and so has each node
 pub record Sentence : Type 0 where
   pub any : Option Formula
   pub other : Option Formula

@@ -95,13 +95,6 @@ impl<'a, A: Allocator + Clone> AskedQuestion<'a, A> {
         self.question.cases()
     }
 
-    /// Which event of the logs happened before which.
-    pub fn dependencies(&self) -> &DirectDependencies<'a, A>
-        ensures { result.now ≡ self.now.logs }
-    {
-        &self.dependencies
-    }
-
     /// What is found for each case. The states of each log are computed once, however many cases there are, and so are,
     /// as far as `Profiles` has room, candidates that several of them ask for.
     pub fn decide(&self) -> Result<Findings<A>, OutOfMemory>

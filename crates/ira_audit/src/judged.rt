@@ -1,16 +1,16 @@
-ghost use Rattle.std.specs.Prelude.{◌≡◌, ◌↔◌, ◌≤◌, ℕ, List, Ok, IfOk, MatchOption, MatchResult};
+ghost use Rattle.std.specs.Prelude.{◌≡◌, ◌↔◌, ◌≤◌, ℕ, List, Ok, IfOk, MatchOption};
 ghost use Rattle.ira_event.specs.Log.{Log};
 ghost use Rattle.ira_event.specs.Logs.{AreLogs};
 ghost use Rattle.ira_event.specs.Result.{UnlessErr};
 ghost use Rattle.ira_order.specs.FaultyEvent.{AreFirstFaultyEvents};
 ghost use Rattle.ira_audit.specs.CheckAnswer.{IsCheckAnswer};
 ghost use Rattle.ira_audit.specs.Findings.{AreFindings, AreReportable};
-ghost use Rattle.ira_audit.specs.GoodLogs.{AreGood, AreGoodLogs};
+ghost use Rattle.ira_audit.specs.GoodLogs.{AreGood};
 ghost use Rattle.ira_audit.specs.Judged.{IsJudged};
 ghost use Rattle.ira_audit.specs.LogTexts.{AreLogTexts};
 ghost use Rattle.ira_audit.specs.Never.{NoCaseIsMet};
 ghost use Rattle.ira_audit.specs.QuestionFitsLogs.{QuestionFitsLogs, WhyNoQuestion};
-ghost use Rattle.ira_audit.specs.Refusal.{IsFindingsReason, IsLogsReason, MatchRefusal, answered};
+ghost use Rattle.ira_audit.specs.Refusal.{IsFindingsReason, MatchRefusal, answered};
 ghost use Rattle.ira_audit.specs.RefusedLogs.{IsReasonOf};
 ghost use Rattle.ira_audit.specs.ReplayedLogs.{IsSearched};
 ghost use Rattle.ira_audit.specs.Report.{IsReportable};
@@ -111,18 +111,6 @@ impl<A: Allocator + Clone> Judged<A> {
             Judged::Good(_) => Answer::Yes,
             Judged::Refused(refused) => Answer::No(refused.reason()),
             Judged::NoRing(reason) => Answer::No(*reason),
-        }
-    }
-
-    /// The logs, if they are good, or else the first reason against the texts.
-    pub fn into_good(self) -> Result<GoodLogs<A>, Reason>
-        ensures { (texts : List (List ℕ)) → IsJudged texts self
-            → MatchResult result (AreGoodLogs texts) (IsLogsReason texts) }
-    {
-        match self {
-            Judged::Good(logs) => Ok(logs),
-            Judged::Refused(refused) => Err(refused.reason()),
-            Judged::NoRing(reason) => Err(reason),
         }
     }
 
