@@ -72,6 +72,16 @@ returns-in-Findings-clause-served g c =
     (rw c.in-Findings.is (told _ _ _ _ _ _
     (rw (c.asked-inputs-in-Findings.ensures, c.of_json-form-in-Explain.ensures) at c.answer_files-in-Findings.ensures) c.deliver-in-Findings.ensures)))
 
+pub returns-in-Explain-clause-served : goal.returns-in-Explain-clause-served
+returns-in-Explain-clause-served g c =
+    let made = subst (IsMadeOf (map (λ w. w.now) c.args.words.now)) c.in-Explain.is c.in-Ok.ensures.made in (
+      _,
+      made,
+      c.of_json-form-in-Explain.ensures,
+      c.in-Certificate.is,
+      record { input_is = refl; shelf_is = refl; out_is = refl },
+    )
+
 pub returns-in-Show-clause-served : goal.returns-in-Show-clause-served
 returns-in-Show-clause-served g c =
     let made = subst (IsMadeOf (map (λ w. w.now) c.args.words.now)) c.in-Show.is c.in-Ok.ensures.made in
