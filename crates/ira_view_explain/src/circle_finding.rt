@@ -2,7 +2,7 @@ ghost use Rattle.std.specs.Prelude.{IfOk};
 ghost use Rattle.ira_view_page.specs.Parts.{AreParts};
 ghost use Rattle.ira_view_explain.specs.Refused.{AreStuckTold};
 
-use crate::numbered::numbered_page;
+use crate::numbered::{fill, numbered_page};
 use crate::ring_files::RingFiles;
 use ira_event::{Event, OutOfMemory};
 use ira_order::FaultyEvent;
@@ -18,19 +18,13 @@ fn stuck_line(stuck: &[StuckAt], place: u8) -> usize {
     }
 }
 
-/// Adds how many events can be put in order.
-fn add_ordered<A: Allocator>(text: &mut Page<A>, ordered: u32, events: usize) {
-    text.numbered("So none of them can come first. ", ordered);
-    text.words(" of ");
-    text.number(events as u64);
-    text.words(" events can be put in order; these come next.");
-}
-
 /// Adds a node's first event without a step.
 fn add_faulty<A: Allocator>(text: &mut Page<A>, event: FaultyEvent) {
-    text.numbered("Besides, node ", u32::from(event.at.place));
-    text.numbered(" has no step for event ", event.at.position);
-    text.words(": ");
+    fill(
+        text,
+        "Besides, node {} has no step for event {}: ",
+        [u32::from(event.at.place), event.at.position],
+    );
     text.fault(event.fault);
     text.words(".");
 }
@@ -98,7 +92,14 @@ impl<A: Allocator + Clone> CircleFinding<A> {
         page.table(&table);
         page.blank();
         let mut text = Page::new(ring.alloc);
-        add_ordered(&mut text, self.circle.ordered, ring.logs.number_of_events());
+        fill(
+            &mut text,
+            "So none of them can come first. {} of {} events can be put in order; these come next.",
+            [
+                u64::from(self.circle.ordered),
+                ring.logs.number_of_events() as u64,
+            ],
+        );
         page.paragraph_of(&text);
         if let Some(event) = self.faulty {
             let mut text = Page::new(ring.alloc);

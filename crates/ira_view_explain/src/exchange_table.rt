@@ -2,7 +2,7 @@ ghost use Rattle.ira_view_page.specs.Printable.{IsPrintable};
 
 use crate::carets::carets_below;
 use crate::faulty_link::FaultyLink;
-use crate::numbered::{numbered_page, page_of};
+use crate::numbered::numbered_page;
 use ira_view_evidence::{Exchange, nth_receipt, nth_sending};
 use ira_view_page::{Emphasis, Page, Row, Table, line_of};
 use std::alloc::Allocator;
@@ -49,11 +49,13 @@ impl<'l, A: Allocator> FaultyLink<'_, 'l, A> {
         let receipt = nth_receipt(self.logs, self.link, k);
         let mut number = Page::new(alloc);
         number.number_to(5, k as u64);
+        let mut same = Page::new(alloc);
+        same.words(comparison(sending, receipt));
         let mut row = Row::new(alloc);
         row.left(number);
         row.left(exchange_cell(alloc, self.writer_file, sending));
         row.left(exchange_cell(alloc, self.reader_file, receipt));
-        row.left(page_of(alloc, comparison(sending, receipt)));
+        row.left(same);
         let is_named = k == self.k;
         table.add(
             if is_named {

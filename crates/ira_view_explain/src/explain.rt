@@ -1,4 +1,4 @@
-ghost use Rattle.std.specs.Prelude.{◌≡◌, [], IfOk, None, Some, codes, map};
+ghost use Rattle.std.specs.Prelude.{◌≡◌, [], IfOk, None, Some, map};
 ghost use Rattle.ira_event.specs.LogTextFault.{LogTextFault};
 ghost use Rattle.ira_audit.specs.Judged.{IsJudged};
 ghost use Rattle.ira_audit.specs.LogTextAnswer.{IsLogTextAnswer};
@@ -12,7 +12,6 @@ ghost use Rattle.ira_view_explain.specs.HeadsTold.{AreHeadsTold, AreLogFiles};
 ghost use Rattle.ira_view_explain.specs.LogTold.{IsLogTold, IsStoppedTold};
 ghost use Rattle.ira_view_explain.specs.Refused.{IsNoRingTold, IsRefusedTold, IsTold};
 ghost use Rattle.ira_view_explain.specs.TextTold.{IsTextTold};
-ghost use Rattle.ira_view_page.specs.Page.{Added, AddedSome};
 
 use crate::end_alone::print_end_alone;
 use crate::heads_finding::HeadsFinding;

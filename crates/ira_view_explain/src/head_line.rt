@@ -1,6 +1,7 @@
 ghost use Rattle.std.specs.Prelude.{◌≡◌, ◌<◌, ℕ, MatchOption, min};
 ghost use Rattle.ira_view_explain.specs.HeadLine.{IsFirstStop, IsNumbered, IsWithin, head_number};
 
+use crate::numbered::fill;
 use ira_event::{MAX_NODES, MAX_VERSION, MAX_VERSION_1_NODES, scan_number, skip_word};
 use ira_view_page::{NamedText, Page};
 use std::alloc::Allocator;
@@ -54,10 +55,7 @@ impl HeadLine {
     pub(crate) fn print<A: Allocator>(self, text: &mut Page<A>) {
         match self {
             HeadLine::Version => text.words("`irlog 1` or `irlog 2`"),
-            HeadLine::Nodes { most } => {
-                text.words("`nodes N` with N from 2 to ");
-                text.number(most as u64);
-            }
+            HeadLine::Nodes { most } => fill(text, "`nodes N` with N from 2 to {}", [most as u64]),
             HeadLine::Place { nodes } => {
                 text.numbered("`place I` with I from 0 to ", nodes.saturating_sub(1));
             }

@@ -4,6 +4,7 @@ ghost use Rattle.ira_view_explain.specs.HeadsTold.{AreHeads, AreHeadsTold, AreLo
 ghost use Rattle.ira_view_page.specs.Printable.{IsPrintable};
 
 use crate::heads_hint::HeadsHint;
+use crate::numbered::fill;
 use ira_event::{HeadFault, LogHead, OutOfMemory, open_log};
 use ira_view_page::{Emphasis, Evidence, HeadRow, NamedText, Page, shown_width};
 use std::alloc::Allocator;
@@ -143,13 +144,20 @@ fn hint_of<A: Allocator>(
         HeadFault::Number if heads.len() < usize::from(nodes) => {
             Some(HeadsHint::MissingPlaces(missing_places(alloc, heads, nodes)?))
         }
-        HeadFault::Number => Some(HeadsHint::LargerRing),
+        HeadFault::Number => Some(HeadsHint::Words(
+            "files of a larger ring that ran in the same folder before may be left there.",
+        )),
         HeadFault::Size(_) => None,
         HeadFault::Place(_) => match repeated_place(heads) {
             Some(place) => Some(HeadsHint::PlaceTwice(place)),
-            None => Some(HeadsHint::OtherOrder),
+            None => Some(HeadsHint::Words(
+                "these are all the logs, in another order. A shell sorts 10.log before 2.log; in order of place: \
+                 ira logs --dir DIR, or ira logs $(ls FILES | sort -V)",
+            )),
         },
-        HeadFault::Version(_) => Some(HeadsHint::TwoVersions),
+        HeadFault::Version(_) => Some(HeadsHint::Words(
+            "a log of version 1 is one of version 2 but for its first line: write `irlog 2` there.",
+        )),
     })
 }
 
@@ -223,9 +231,7 @@ impl<A: Allocator + Clone> HeadsFinding<A> {
                 page.number_of(self.heads.len(), "file");
                 page.words(" given; ");
                 first.print_said(page, "log ", 2, "nodes ", nodes);
-                page.words(", so ");
-                page.number(nodes as u64);
-                page.words(" are due.");
+                fill(page, ", so {} are due.", [nodes]);
             }
             HeadFault::Size(_) => {
                 named.print_said(page, "Log ", 2, "nodes ", other);
@@ -235,11 +241,12 @@ impl<A: Allocator + Clone> HeadsFinding<A> {
             }
             HeadFault::Place(_) => {
                 named.print_said(page, "Log ", 3, "place ", named.head.place);
-                page.words("; log number ");
-                page.number(named.log as u64);
-                page.words(" is to be that of place ");
-                page.number(named.log as u64);
-                page.words(".");
+                let log = named.log as u64;
+                fill(
+                    page,
+                    "; log number {} is to be that of place {}.",
+                    [log, log],
+                );
             }
             HeadFault::Version(_) => {
                 named.print_said(page, "Log ", 1, "irlog ", named.head.version);

@@ -31,7 +31,6 @@ mod ring_hint;
 mod ring_search;
 mod rows_hint;
 mod rows_search;
-mod rule;
 mod steps_finding;
 mod stop_hint;
 mod stopped;

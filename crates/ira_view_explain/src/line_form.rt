@@ -1,50 +1,34 @@
 use crate::field::Field;
 use ira_event::skip_word;
 
-/// What a line of a log is by the words that it begins with.
-#[derive(Clone, Copy)]
-pub(crate) enum LineForm {
-    Draw,
-    Message,
-    Reset,
-    Yield,
-    End,
-}
+/// The lines of a log after its head: the first version that has them, the words that they begin with, and what
+/// stands after these. Those of version 2 come first.
+static FORMS: [(u8, &str, &[Field]); 7] = [
+    (2, "yield", &[]),
+    (2, "send reset ", &[Field::Hop]),
+    (2, "recv reset ", &[Field::Hop]),
+    (1, "draw ", &[Field::Id]),
+    (
+        1,
+        "send ",
+        &[Field::Round, Field::Id, Field::Hop, Field::Bit],
+    ),
+    (
+        1,
+        "recv ",
+        &[Field::Round, Field::Id, Field::Hop, Field::Bit],
+    ),
+    (1, "end ", &[Field::Count]),
+];
 
-impl LineForm {
-    /// The form of a line in a log of this version, and what follows the words.
-    pub(crate) fn of_line(line: &[u8], version: u8) -> Option<(LineForm, &[u8])> {
-        if let Some(rest) = skip_word(line, b"draw ") {
-            return Some((LineForm::Draw, rest));
-        }
-        if let Some(rest) = skip_word(line, b"end ") {
-            return Some((LineForm::End, rest));
-        }
-        if version > 1
-            && let Some(rest) = skip_word(line, b"yield")
+/// The fields of a line in a log of this version, by the words that it begins with, and what follows these.
+pub(crate) fn fields_of(line: &[u8], version: u8) -> Option<(&'static [Field], &[u8])> {
+    for (first, words, fields) in &FORMS {
+        if *first <= version
+            && let Some(rest) = skip_word(line, words.as_bytes())
         {
-            return Some((LineForm::Yield, rest));
-        }
-        let rest = match skip_word(line, b"send ") {
-            Some(rest) => rest,
-            None => skip_word(line, b"recv ")?,
-        };
-        if version > 1
-            && let Some(rest) = skip_word(rest, b"reset ")
-        {
-            return Some((LineForm::Reset, rest));
-        }
-        Some((LineForm::Message, rest))
-    }
-
-    /// What stands after the words.
-    pub(crate) fn fields(self) -> &'static [Field] {
-        match self {
-            LineForm::Draw => &[Field::Id],
-            LineForm::Message => &[Field::Round, Field::Id, Field::Hop, Field::Bit],
-            LineForm::Reset => &[Field::Hop],
-            LineForm::Yield => &[],
-            LineForm::End => &[Field::Count],
+            return Some((*fields, rest));
         }
     }
+    None
 }

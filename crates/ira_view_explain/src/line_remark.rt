@@ -4,6 +4,7 @@ ghost use Rattle.ira_view_explain.specs.LineRemark.{kind_of};
 use crate::field::Field;
 use crate::head_line::HeadLine;
 use crate::line_stop::DueInLine;
+use crate::numbered::fill;
 use ira_view_page::{Page, Remark};
 use std::alloc::Allocator;
 
@@ -54,23 +55,25 @@ impl LineRemark {
             }
             LineRemark::TooMany => text.words("record 100,001"),
             LineRemark::Last { records } => {
-                text.words("the last line; `end ");
-                text.number(records as u64);
-                text.words("` is due after it");
+                fill(
+                    text,
+                    "the last line; `end {}` is due after it",
+                    [records as u64],
+                );
             }
             LineRemark::End { records } => {
                 text.words("the log has ");
                 text.number_of(records, "record");
                 if records > 0 {
-                    text.words(" (lines 5 to ");
-                    text.number(records.saturating_add(4) as u64);
-                    text.words(")");
+                    fill(text, " (lines 5 to {})", [records.saturating_add(4) as u64]);
                 }
             }
             LineRemark::AfterEnd { end } => {
-                text.words("nothing stands after the end line (line ");
-                text.number(end as u64);
-                text.words(")");
+                fill(
+                    text,
+                    "nothing stands after the end line (line {})",
+                    [end as u64],
+                );
             }
         }
     }

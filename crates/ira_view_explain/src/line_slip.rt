@@ -1,5 +1,4 @@
 use crate::field::Field;
-use crate::line_form::LineForm;
 use crate::line_stop::DueInLine;
 use ira_view_page::Slip;
 
@@ -36,8 +35,7 @@ pub(crate) fn slip_of_line(line: &[u8], byte: usize, due: DueInLine, version: u8
 
 /// Whether the line begins as one that only version 2 has.
 fn is_of_version_2(line: &[u8]) -> bool {
-    matches!(
-        LineForm::of_line(line, 2),
-        Some((LineForm::Yield | LineForm::Reset, _))
-    )
+    line.starts_with(b"yield")
+        || line.starts_with(b"send reset ")
+        || line.starts_with(b"recv reset ")
 }

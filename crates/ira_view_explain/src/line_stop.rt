@@ -1,5 +1,5 @@
 use crate::field::Field;
-use crate::line_form::LineForm;
+use crate::line_form::fields_of;
 use ira_event::{MAX_NUMBER, skip_word};
 
 /// What is due at a place of a line.
@@ -37,7 +37,7 @@ pub(crate) enum LineStop {
 impl LineStop {
     /// Of a line after the head of a log of this version.
     pub(crate) fn find(line: &[u8], version: u8) -> LineStop {
-        let Some((form, rest)) = LineForm::of_line(line, version) else {
+        let Some((fields, rest)) = fields_of(line, version) else {
             return LineStop::Due {
                 byte: 0,
                 due: DueInLine::Word,
@@ -46,7 +46,7 @@ impl LineStop {
         let mut rest = rest;
         let mut is_first = true;
         let mut range = None;
-        for field in form.fields() {
+        for field in fields {
             if !is_first {
                 match skip_word(rest, b" ") {
                     Some(after) => rest = after,

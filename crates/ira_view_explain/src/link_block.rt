@@ -2,7 +2,7 @@ ghost use Rattle.std.specs.Prelude.{IfOk};
 ghost use Rattle.ira_view_explain.specs.Refused.{AreSidesTold};
 
 use crate::faulty_link::FaultyLink;
-use crate::numbered::numbered_page;
+use crate::numbered::{fill, numbered_page};
 use crate::ring_files::RingFiles;
 use ira_event::{Event, OutOfMemory};
 use ira_view_evidence::Exchange;
@@ -15,8 +15,7 @@ impl<A: Allocator + Clone> FaultyLink<'_, '_, A> {
         let mut text = numbered_page(self.alloc, "Node ", u32::from(self.link));
         text.words(" made ");
         text.number_of(self.sides.sent.len(), "sending");
-        text.numbered(", node ", u32::from(self.reader));
-        text.words(" ");
+        fill(&mut text, ", node {} ", [self.reader]);
         text.number_of(self.sides.received.len(), "receipt");
         text.words(".");
         page.paragraph_of(&text);
@@ -24,10 +23,11 @@ impl<A: Allocator + Clone> FaultyLink<'_, '_, A> {
 
     /// Adds that the receipts of a link take its sendings one by one.
     fn add_rule(&self, text: &mut Page<&A>) {
-        text.numbered("Link ", u32::from(self.link));
-        text.numbered(" leads from node ", u32::from(self.link));
-        text.numbered(" to node ", u32::from(self.reader));
-        text.words(", first in, first out: its ");
+        fill(
+            text,
+            "Link {} leads from node {} to node {}, first in, first out: its ",
+            [self.link, self.link, self.reader],
+        );
         text.ordinal(self.k);
         text.words(" receipt takes the ");
         text.ordinal(self.k);

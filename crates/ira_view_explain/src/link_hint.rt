@@ -1,5 +1,4 @@
-ghost use Rattle.ira_view_page.specs.Printable.{IsPrintable};
-
+use crate::numbered::fill;
 use crate::other_faults::OtherFaults;
 use crate::ring_hint::RingHint;
 use crate::rows_hint::RowsHint;
@@ -78,19 +77,6 @@ fn last_of(first: u32, count: u32) -> u32 {
     first.saturating_add(count).saturating_sub(1)
 }
 
-/// Adds sendings, or receipts, from a first one on.
-fn add_numbers<A: Allocator>(text: &mut Page<A>, one: &str, several: &str, first: u32, count: u32)
-    requires one { IsPrintable one.now }
-    requires several { IsPrintable several.now }
-{
-    if count == 1 {
-        text.numbered(one, first);
-    } else {
-        text.numbered(several, first);
-        text.numbered(" to ", last_of(first, count));
-    }
-}
-
 impl<A: Allocator> LinkHint<'_, A> {
     /// Whether a cause of the ring is likelier, where these other links don't match: that a node is missing on this one,
     /// or that there are logs of two runs.
@@ -113,8 +99,7 @@ impl<A: Allocator> LinkHint<'_, A> {
             LinkHint::Ring(hint) => hint.print(text),
             LinkHint::Rows(hint) => hint.print(text),
             LinkHint::OwedAtEnd { writer, file, line } => {
-                text.numbered("the log of node ", u32::from(*writer));
-                text.words(" ends (");
+                fill(text, "the log of node {} ends (", [*writer]);
                 text.place(file, *line);
                 text.words(
                     ") where it owes exactly this message: its sending is not recorded. Where the node was killed \
@@ -126,8 +111,7 @@ impl<A: Allocator> LinkHint<'_, A> {
                 state,
                 load,
             } => {
-                text.numbered("node ", u32::from(*reader));
-                text.words(" was then ");
+                fill(text, "node {} was then ", [*reader]);
                 text.state(state);
                 text.words(", so it drops ");
                 text.load(*load);
@@ -135,93 +119,91 @@ impl<A: Allocator> LinkHint<'_, A> {
                     " for its lesser pair: a dropped message is a receipt too, and is recorded.",
                 );
             }
-            LinkHint::PassedOn { writer } => {
-                text.numbered("node ", u32::from(*writer));
-                text.words(
-                    " records the messages that it begins, and none that it passes on: record each sending.",
-                );
-            }
-            LinkHint::SentTwice { sending } => {
-                text.numbered("sendings ", sending.saturating_sub(1));
-                text.numbered(" and ", *sending);
-                text.words(" are the same message: it was recorded twice, or sent twice.");
-            }
+            LinkHint::PassedOn { writer } => fill(
+                text,
+                "node {} records the messages that it begins, and none that it passes on: record each sending.",
+                [*writer],
+            ),
+            LinkHint::SentTwice { sending } => fill(
+                text,
+                "sendings {} and {} are the same message: it was recorded twice, or sent twice.",
+                [sending.saturating_sub(1), *sending],
+            ),
+            LinkHint::NoReceipt { first, count: 1 } => fill(
+                text,
+                "from receipt {} on each is the sending after its own: sending {} was lost, or its receipt is not \
+                 recorded.",
+                [*first, *first],
+            ),
             LinkHint::NoReceipt { first, count } => {
-                text.numbered("from receipt ", *first);
-                if *count == 1 {
-                    text.words(" on each is the sending after its own: ");
-                } else {
-                    text.numbered(" on each is the sending ", *count);
-                    text.words(" after its own: ");
-                }
-                add_numbers(text, "sending ", "sendings ", *first, *count);
-                text.words(if *count == 1 {
-                    " was lost, or its receipt is not recorded."
-                } else {
-                    " were lost, or their receipts are not recorded."
-                });
-            }
-            LinkHint::SeveralLost { count } => {
-                text.words("each receipt is a sending, in their order, and ");
-                text.number(*count as u64);
-                text.words(
-                    " sendings between them have none: they were lost, or their receipts are not recorded.",
+                fill(
+                    text,
+                    "from receipt {} on each is the sending {} after its own: ",
+                    [*first, *count],
+                );
+                fill(
+                    text,
+                    "sendings {} to {} were lost, or their receipts are not recorded.",
+                    [*first, last_of(*first, *count)],
                 );
             }
-            LinkHint::CameTwice { receipt, writer } => {
-                text.numbered("from receipt ", *receipt);
-                text.numbered(
-                    " on each is the sending before its own: message ",
-                    receipt.saturating_sub(1),
-                );
-                text.words(" came twice, or its receipt is recorded twice, or");
-                text.numbered(" a sending of node ", u32::from(*writer));
-                text.words(" is not recorded.");
-            }
-            LinkHint::SeveralTwice { count, writer } => {
-                text.number(*count as u64);
-                text.numbered(
-                    " receipts are of the load before them, and all others are the sendings, one by one: \
-                     messages came twice, or sendings of node ",
-                    u32::from(*writer),
-                );
-                text.words(" are not recorded.");
-            }
+            LinkHint::SeveralLost { count } => fill(
+                text,
+                "each receipt is a sending, in their order, and {} sendings between them have none: they were lost, or \
+                 their receipts are not recorded.",
+                [*count as u64],
+            ),
+            LinkHint::CameTwice { receipt, writer } => fill(
+                text,
+                "from receipt {} on each is the sending before its own: message {} came twice, or its receipt is \
+                 recorded twice, or a sending of node {} is not recorded.",
+                [*receipt, receipt.saturating_sub(1), u32::from(*writer)],
+            ),
+            LinkHint::SeveralTwice { count, writer } => fill(
+                text,
+                "{} receipts are of the load before them, and all others are the sendings, one by one: messages came \
+                 twice, or sendings of node {} are not recorded.",
+                [*count as u64, u64::from(*writer)],
+            ),
+            LinkHint::NoSending {
+                first,
+                count: 1,
+                writer,
+            } => fill(
+                text,
+                "without receipt {} all others are sendings, in their order: a sending of node {} is not recorded.",
+                [*first, u32::from(*writer)],
+            ),
             LinkHint::NoSending {
                 first,
                 count,
                 writer,
             } => {
-                text.words("without ");
-                add_numbers(text, "receipt ", "receipts ", *first, *count);
-                text.words(" all others are sendings, in their order: ");
-                text.words(if *count == 1 {
-                    "a sending of node "
-                } else {
-                    "sendings of node "
-                });
-                text.number(*writer as u64);
-                text.words(if *count == 1 {
-                    " is not recorded."
-                } else {
-                    " are not recorded."
-                });
+                fill(
+                    text,
+                    "without receipts {} to {} all others are sendings, in their order: ",
+                    [*first, last_of(*first, *count)],
+                );
+                fill(text, "sendings of node {} are not recorded.", [*writer]);
             }
             LinkHint::Reordered { first, last } => {
-                text.numbered("receipts ", *first);
                 if last_of(*first, 2) == *last {
-                    text.numbered(" and ", *last);
-                    text.numbered(" are sendings ", *last);
-                    text.numbered(" and ", *first);
+                    fill(
+                        text,
+                        "receipts {} and {} are sendings {} and {}",
+                        [*first, *last, *last, *first],
+                    );
                 } else {
-                    text.numbered(" to ", *last);
-                    text.words(" are the sendings of these numbers in another order");
+                    fill(
+                        text,
+                        "receipts {} to {} are the sendings of these numbers in another order",
+                        [*first, *last],
+                    );
                 }
                 text.words(": the link changed their order, or the records were sorted.");
             }
             LinkHint::NeverSent { writer, load, call } => {
-                text.numbered("by its log node ", u32::from(*writer));
-                text.words(" never sent ");
+                fill(text, "by its log node {} never sent ", [*writer]);
                 text.load(*load);
                 if let Some(call) = call {
                     text.words(", nor received ");

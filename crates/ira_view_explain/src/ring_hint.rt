@@ -1,4 +1,5 @@
 use crate::load_differences::{exchanged, field_of, noun_of};
+use crate::numbered::fill;
 use crate::numbering::Numbering;
 use crate::place_list::add_places;
 use ira_event::Load;
@@ -63,59 +64,56 @@ impl<A: Allocator> RingHint<A> {
             RingHint::Numbered(Numbering::Backwards) => text.words(
                 "numbered the other way round, all links match: your node I sends to node I-1.",
             ),
-            RingHint::Numbered(Numbering::Exchanged(a, b)) => {
-                text.numbered("with nodes ", u32::from(*a));
-                text.numbered(" and ", u32::from(*b));
-                text.words(
-                    " in each other's place all links match: their logs, or their places, are exchanged.",
-                );
-            }
+            RingHint::Numbered(Numbering::Exchanged(a, b)) => fill(
+                text,
+                "with nodes {} and {} in each other's place all links match: their logs, or their places, are \
+                 exchanged.",
+                [*a, *b],
+            ),
             RingHint::OtherOrder(order) => {
                 text.words("with the nodes in the order ");
                 add_places(text, order, MOST_PLACES);
                 text.words(" all links match: places are to be in the order of the ring.");
             }
+            RingHint::TwoRuns { first, last, .. } if first == last => text.words(
+                "neither log fits the other, and each is that of a node: perhaps they are of two runs.",
+            ),
             RingHint::TwoRuns {
                 first,
                 last,
                 others_first,
                 others_last,
-            } => {
-                if first == last {
-                    text.words("neither log fits the other, and each is that of a node");
-                } else {
-                    text.numbered("the logs of nodes ", u32::from(*first));
-                    text.numbered(" to ", u32::from(*last));
-                    text.numbered(
-                        " fit one another, and so do those of nodes ",
-                        u32::from(*others_first),
-                    );
-                    text.numbered(" to ", u32::from(*others_last));
-                    text.words(", but not these with those");
-                }
-                text.words(": perhaps they are of two runs.");
-            }
-            RingHint::SameRecords { place, other } => {
-                text.numbered("the logs of nodes ", u32::from(*place));
-                text.numbered(" and ", u32::from(*other));
-                text.words(" have the same records: perhaps one is a copy of the other.");
-            }
+            } => fill(
+                text,
+                "the logs of nodes {} to {} fit one another, and so do those of nodes {} to {}, but not these with \
+                 those: perhaps they are of two runs.",
+                [*first, *last, *others_first, *others_last],
+            ),
+            RingHint::SameRecords { place, other } => fill(
+                text,
+                "the logs of nodes {} and {} have the same records: perhaps one is a copy of the other.",
+                [*place, *other],
+            ),
             RingHint::OneRecorder {
                 place,
                 before,
                 after,
                 how,
             } => {
-                text.numbered("the log of node ", u32::from(*place));
-                text.numbered(" differs from what node ", u32::from(*before));
-                text.numbered(" sent and from what node ", u32::from(*after));
-                text.words(" received in nothing but ");
+                fill(
+                    text,
+                    "the log of node {} differs from what node {} sent and from what node {} received in nothing but ",
+                    [*place, *before, *after],
+                );
                 match field_of(*how) {
                     Some(field) => {
                         text.words("the ");
                         text.words(noun_of(field));
-                        text.numbered(": perhaps node ", u32::from(*place));
-                        text.words(" records another than crosses its links");
+                        fill(
+                            text,
+                            ": perhaps node {} records another than crosses its links",
+                            [*place],
+                        );
                         text.words(if field == LoadField::Id {
                             ", or its log is of another run."
                         } else {
@@ -135,11 +133,13 @@ impl<A: Allocator> RingHint<A> {
                 before,
                 passed,
             } => {
-                text.numbered("node ", u32::from(*place));
-                text.words(" records neither that it received ");
+                fill(text, "node {} records neither that it received ", [*place]);
                 text.load(*load);
-                text.numbered(", which node ", u32::from(*before));
-                text.words(" sent, nor that it passed it on as ");
+                fill(
+                    text,
+                    ", which node {} sent, nor that it passed it on as ",
+                    [*before],
+                );
                 text.load(*passed);
                 text.words(": perhaps both records are missing.");
             }
@@ -147,28 +147,22 @@ impl<A: Allocator> RingHint<A> {
                 place,
                 before,
                 after,
-            } => {
-                text.numbered("the log of node ", u32::from(*place));
-                text.numbered(
-                    " is that of a node, and fits neither what node ",
-                    u32::from(*before),
-                );
-                text.numbered(" sent nor what node ", u32::from(*after));
-                text.words(" received; the others fit one another: perhaps it is of another run.");
-            }
+            } => fill(
+                text,
+                "the log of node {} is that of a node, and fits neither what node {} sent nor what node {} received; \
+                 the others fit one another: perhaps it is of another run.",
+                [*place, *before, *after],
+            ),
             RingHint::NodeBetween {
                 writer,
                 reader,
                 nodes,
-            } => {
-                text.numbered("with one node more between node ", u32::from(*writer));
-                text.numbered(" and node ", u32::from(*reader));
-                text.numbered(
-                    " all links match: perhaps a log is missing there, of a ring of ",
-                    *nodes,
-                );
-                text.words(" nodes.");
-            }
+            } => fill(
+                text,
+                "with one node more between node {} and node {} all links match: perhaps a log is missing there, of a \
+                 ring of {} nodes.",
+                [u32::from(*writer), u32::from(*reader), *nodes],
+            ),
         }
     }
 }

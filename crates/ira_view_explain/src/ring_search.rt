@@ -1,9 +1,9 @@
 ghost use Rattle.std.specs.Prelude.{◌≡◌, ◌≢◌, ◌≤◌, ◌<◌, ℕ, IfOk, IfSome, IsTrue, length, take};
-ghost use Rattle.ira_order.specs.Ring.{log_of, next, prev};
+ghost use Rattle.ira_order.specs.Ring.{log_of, next};
 ghost use Rattle.ira_view_evidence.specs.LinkCause.{BeginsWith};
 ghost use Rattle.ira_view_evidence.specs.LoadDifference.{DifferAlike};
 ghost use Rattle.ira_view_explain.specs.RingHint.{AreOtherFaults, CanStand, IsOdd, IsPassedOn, IsSo, IsUnreceived, IsUnsent};
-ghost use Rattle.ira_view_explain.specs.RingHint.{OthersFit, RunsAt};
+ghost use Rattle.ira_view_explain.specs.RingHint.{RunsAt};
 ghost use Rattle.ira_view_explain.specs.declared.other_faults.OtherFaults.TheVariants as OtherFaults;
 
 use crate::faulty_link::FaultyLink;

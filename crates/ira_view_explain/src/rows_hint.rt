@@ -1,10 +1,8 @@
 use crate::load_differences::{exchanged, field_of, noun_of};
+use crate::numbered::fill;
 use ira_view_evidence::{LoadDifference, LoadField};
 use ira_view_page::Page;
 use std::alloc::Allocator;
-
-/// How hops differ that are raised by one on the way.
-const RAISED: &str = "each receipt that differs has the hop of its sending raised by one: perhaps ";
 
 /// How receipts of a link differ from their sendings, all those that do.
 #[derive(Clone, Copy)]
@@ -37,20 +35,18 @@ impl RowsHint {
                     " of this message differs: the link changed it, or one side recorded it wrongly.",
                 );
             }
-            RowsHint::RaisedByReader { reader } => {
-                text.words(RAISED);
-                text.numbered("node ", u32::from(reader));
-                text.words(
-                    " records a message as it passes it on. Record it as it was taken off the link.",
-                );
-            }
-            RowsHint::UnraisedByWriter { writer } => {
-                text.words(RAISED);
-                text.numbered("node ", u32::from(writer));
-                text.words(
-                    " records its sendings before the hop is raised. Record a message as it was put on the link.",
-                );
-            }
+            RowsHint::RaisedByReader { reader } => fill(
+                text,
+                "each receipt that differs has the hop of its sending raised by one: perhaps node {} records a message \
+                 as it passes it on. Record it as it was taken off the link.",
+                [reader],
+            ),
+            RowsHint::UnraisedByWriter { writer } => fill(
+                text,
+                "each receipt that differs has the hop of its sending raised by one: perhaps node {} records its \
+                 sendings before the hop is raised. Record a message as it was put on the link.",
+                [writer],
+            ),
             RowsHint::HopOfOneSide => text.words(
                 "only the hop differs: one side records it before it is raised, the other after.",
             ),

@@ -10,13 +10,22 @@ ghost use Rattle.ira_view_explain.specs.LinkHint.{IsBegun};
 ghost use Rattle.ira_view_explain.specs.StopHint.{CallsFor, IsCalledNext, IsSentAfter, IsSo, line_number};
 ghost use Rattle.ira_view_explain.specs.declared.stopped.Stopped.{Stopped};
 
-use crate::rule::Rule;
+use crate::numbered::fill;
 use crate::stop_hint::StopHint;
 use ira_event::{Event, Load, Msg, NodeLog, RingSize};
 use ira_node::{NodeState, Phase, StepFault};
 use ira_view_evidence::NodeEvidence;
 use ira_view_page::{Page, event_of, line_of};
 use std::alloc::Allocator;
+
+/// The rule by which a choosing node draws.
+const DRAWS: &str =
+    "Rule 2: a choosing node draws an ID of 1 to N, and owes the message with its pair, hop 1, clean.";
+
+/// The rule by which a node that yielded waits.
+const WAITS_FOR_RESET: &str =
+    "Rule 7: the node that yielded receives its reset with hop N, and nothing else before it; then it chooses in the \
+     next term.";
 
 /// An event without a step, with the state and the event before it.
 #[derive(Clone, Copy)]
@@ -79,8 +88,7 @@ impl Stopped {
     }
 
     fn add_due_reset<A: Allocator>(&self, text: &mut Page<A>) {
-        text.numbered("`recv reset ", u32::from(self.nodes));
-        text.words("` is due");
+        fill(text, "`recv reset {}` is due", [self.nodes]);
     }
 
     fn add_debt<A: Allocator>(&self, text: &mut Page<A>) {
@@ -101,8 +109,7 @@ impl Stopped {
 
     fn add_past<A: Allocator>(&self, text: &mut Page<A>) {
         if let Event::Got(Load::Msg(message)) = self.event {
-            text.numbered("its own pair with hop ", message.hop);
-            text.words(", and ");
+            fill(text, "its own pair with hop {}, and ", [message.hop]);
         }
         text.numbered("N is ", u32::from(self.nodes));
     }
@@ -120,53 +127,77 @@ impl Stopped {
     }
 
     /// The rules that say what is due in place of the event: one or two.
-    pub(crate) fn rules(&self) -> (Rule, Option<Rule>) {
+    pub(crate) fn rules(&self) -> (&'static str, Option<&'static str>) {
         match self.fault {
             StepFault::Owes | StepFault::NotOwed => self.debt_rules(),
             StepFault::NotChoosing => (self.draw_rule(), None),
-            StepFault::DrawRange => (Rule::Draws, None),
+            StepFault::DrawRange => (DRAWS, None),
             StepFault::MustDraw => self.choice_rules(),
-            StepFault::Ended => (Rule::Leads, Some(Rule::LeaderEnds)),
-            StepFault::HopPast => (Rule::OwnPastRing, None),
+            StepFault::Ended => (
+                "Rule 5: its own pair is back with hop N and clean, so the node leads.",
+                Some("Rule 6: a leader may yield, in a log of version 2, and has no other event."),
+            ),
+            StepFault::HopPast => (
+                "Rule 5: an equal pair with a hop above N has no step.",
+                None,
+            ),
             StepFault::HopLimit | StepFault::RoundLimit | StepFault::TermLimit => {
-                (Rule::Limits, None)
+                ("A round, a hop and a term are at most 1,000,000.", None)
             }
-            StepFault::NotLeader => (Rule::OnlyLeaderYields, None),
-            StepFault::WrongReset => (Rule::TakesReset, None),
-            StepFault::NotReset => (Rule::WaitsForReset, None),
+            StepFault::NotLeader => ("Rule 6: a leader may yield, and no other node.", None),
+            StepFault::WrongReset => (
+                "Rule 7: a reset is taken by a passive node, with a hop below N, and by the node that yielded, with \
+                 hop N.",
+                None,
+            ),
+            StepFault::NotReset => (WAITS_FOR_RESET, None),
         }
     }
 
-    fn debt_rules(&self) -> (Rule, Option<Rule>) {
+    fn debt_rules(&self) -> (&'static str, Option<&'static str>) {
         if self.state.owed.is_some() {
-            return (Rule::OwesNext, self.last.and_then(debt_rule));
+            return (
+                "Rule 3: what a node owes is its next event.",
+                self.last.and_then(debt_rule),
+            );
         }
         let rule = match (self.state.phase, self.last) {
             (Phase::Choosing { .. }, Some((_, Event::Got(Load::Reset(_))))) if self.sends_reset() =>
-                { Rule::ResetComesHome }
-            (Phase::Choosing { .. }, _) => Rule::Draws,
-            (Phase::Active { .. }, Some((_, Event::Got(_)))) => Rule::Drops,
-            (Phase::Yielding, _) => Rule::WaitsForReset,
-            _ => Rule::SendsDebtsAlone,
+                {
+                    "Rule 7: the node that yielded receives its reset with hop N, and owes nothing then."
+                }
+            (Phase::Choosing { .. }, _) => DRAWS,
+            (Phase::Active { .. }, Some((_, Event::Got(_)))) =>
+                "Rule 5: an active node drops a message whose pair is less than its own.",
+            (Phase::Yielding, _) => WAITS_FOR_RESET,
+            _ => "A node sends nothing but what it owes.",
         };
         (rule, None)
     }
 
     /// Why a node that draws isn't choosing.
-    fn draw_rule(&self) -> Rule {
+    fn draw_rule(&self) -> &'static str {
         match self.state.phase {
-            Phase::Yielding => Rule::WaitsForReset,
-            _ if self.position == 1 => Rule::Begins,
-            _ => Rule::MayChooseAgain,
+            Phase::Yielding => WAITS_FOR_RESET,
+            _ if self.position == 1 =>
+                "Rule 1: an initiator begins by choosing in round 1, any other node begins passive.",
+            _ =>
+                "Rule 5: a node chooses again only where its own pair is back with hop N and dirty.",
         }
     }
 
     /// Why a node that receives has to draw.
-    fn choice_rules(&self) -> (Rule, Option<Rule>) {
+    fn choice_rules(&self) -> (&'static str, Option<&'static str>) {
         match (self.state.phase, self.state.term) {
-            (Phase::Choosing { round: 1 }, 1) => (Rule::Draws, None),
-            (Phase::Choosing { round: 1 }, _) => (Rule::BeginsTerm, Some(Rule::Draws)),
-            _ => (Rule::ChoosesAgain, Some(Rule::Draws)),
+            (Phase::Choosing { round: 1 }, 1) => (DRAWS, None),
+            (Phase::Choosing { round: 1 }, _) => (
+                "Rule 7: a reset begins the next term, in which each node chooses in round 1.",
+                Some(DRAWS),
+            ),
+            _ => (
+                "Rule 5: its own pair is back with hop N and dirty, so the node chooses in the next round.",
+                Some(DRAWS),
+            ),
         }
     }
 
@@ -182,16 +213,31 @@ impl Stopped {
         match (self.fault, self.event, self.state.phase) {
             (StepFault::NotOwed, Event::Sent(sent), _) => self.sending_hint(log, sent),
             (StepFault::NotChoosing, _, Phase::Yielding) => Some(StopHint::ResetNotBack { nodes }),
-            (StepFault::NotChoosing, _, _) if self.position == 1 => Some(StopHint::StartsInitiator),
+            (StepFault::NotChoosing, _, _) if self.position == 1 => Some(StopHint::Words(
+                "a node that begins by itself has `start initiator` on line 4.",
+            )),
             (StepFault::NotChoosing | StepFault::Ended, Event::Draw(id), _)
-                if self.begins_again(log, id) => { Some(StopHint::NoResets) }
-            (StepFault::MustDraw, _, _) if self.position == 1 => Some(StopHint::StartsPassive),
-            (StepFault::MustDraw, _, _) if self.state.term > 1 => Some(StopHint::EachDraws),
+                if self.begins_again(log, id) => {
+                Some(StopHint::Words(
+                    "it chooses in round 1 again, and the log has no reset: perhaps a new term began, and its `yield` \
+                     and resets are not recorded.",
+                ))
+            }
+            (StepFault::MustDraw, _, _) if self.position == 1 => Some(StopHint::Words(
+                "a node that a message woke has `start passive` on line 4.",
+            )),
+            (StepFault::MustDraw, _, _) if self.state.term > 1 => Some(StopHint::Words(
+                "after a reset each node draws, initiator or not.",
+            )),
             (StepFault::DrawRange, _, _) => Some(StopHint::IdRange { nodes }),
-            (StepFault::Ended, Event::Sent(Load::Reset(1)), _) => Some(StopHint::YieldsFirst),
+            (StepFault::Ended, Event::Sent(Load::Reset(1)), _) => Some(StopHint::Words(
+                "the `yield` is recorded too, in front of its `send reset 1`.",
+            )),
             (StepFault::Owes, Event::Got(_), _) => self.unsent_hint(log),
             (StepFault::Owes, Event::Draw(_), _) => self.reset_hint(log),
-            (StepFault::NotLeader, _, Phase::Yielding) => Some(StopHint::HasYielded),
+            (StepFault::NotLeader, _, Phase::Yielding) => Some(StopHint::Words(
+                "it has yielded in this term already.",
+            )),
             (StepFault::NotLeader, _, Phase::Active { round, id }) => {
                 self.yield_hint(log, round, id)
             }
@@ -269,9 +315,13 @@ impl Stopped {
             return hop_hint(sent.hop, owed.hop);
         }
         match (sent.hop, owed.hop, log.events().position(is_clean_start)) {
-            (1, 1, None) => Some(StopHint::BitTurned),
-            (1, 1, Some(first)) if first + 1 < self.position as usize => Some(StopHint::BitKept),
-            (hop, due, _) if hop == due => Some(StopHint::OnlyBit),
+            (1, 1, None) => Some(StopHint::Words(
+                "the bit means the contrary: `clean` is \"unique so far\".",
+            )),
+            (1, 1, Some(first)) if first + 1 < self.position as usize => Some(StopHint::Words(
+                "the bit was kept from an earlier round: each own message starts clean.",
+            )),
+            (hop, due, _) if hop == due => Some(StopHint::Words("only the bit differs.")),
             _ => None,
         }
     }
@@ -340,26 +390,35 @@ impl Stopped {
             (None, Phase::Choosing { .. }, Load::Msg(begun)) if begun.hop == 1 => {
                 Some(StopHint::NotDrawn { id: begun.id })
             }
-            (None, Phase::Choosing { .. }, Load::Reset(_)) => Some(StopHint::ResetIsBack),
+            (None, Phase::Choosing { .. }, Load::Reset(_)) => Some(StopHint::Words(
+                "its own reset is back: the node that yielded takes it off the ring.",
+            )),
             _ => None,
         }
     }
 }
 
 /// The rule by which an event in a state led to a debt.
-fn debt_rule((before, event): (NodeState, Event)) -> Option<Rule> {
+fn debt_rule((before, event): (NodeState, Event)) -> Option<&'static str> {
     match (event, before.phase) {
-        (Event::Draw(_), _) => Some(Rule::Draws),
-        (Event::Yield, _) => Some(Rule::Yields),
-        (Event::Got(Load::Reset(_)), _) => Some(Rule::PassesReset),
+        (Event::Draw(_), _) => Some(DRAWS),
+        (Event::Yield, _) => Some("Rule 6: a leader that yields owes a reset with hop 1."),
+        (Event::Got(Load::Reset(_)), _) => Some(
+            "Rule 7: a passive node that receives a reset with a hop below N owes it with the hop raised by one, and \
+             passes it on before it draws.",
+        ),
         (Event::Got(Load::Msg(met)), Phase::Active { round, id }) => {
             Some(if (met.round, met.id) > (round, id) {
-                Rule::GivesIn
+                "Rule 5: an active node that receives a greater pair becomes passive and passes the message on, the \
+                 hop raised by one."
             } else {
-                Rule::PassesOwn
+                "Rule 5: an active node passes its own pair on with the bit dirty, where the hop is below N: somebody \
+                 else has the same pair."
             })
         }
-        (Event::Got(Load::Msg(_)), _) => Some(Rule::PassesOn),
+        (Event::Got(Load::Msg(_)), _) => Some(
+            "Rule 4: a passive node passes each message on, the hop raised by one, the bit unchanged.",
+        ),
         (Event::Sent(_), _) => None,
     }
 }
@@ -437,9 +496,9 @@ fn hop_hint(sent: u32, owed: u32) -> Option<StopHint>
     ensures { (log : Log) (stopped : Stopped) → IfSome result (IsSo log stopped) }
 {
     if sent.saturating_add(1) == owed {
-        Some(StopHint::HopNotRaised)
+        Some(StopHint::Words("the hop is not raised."))
     } else if owed.saturating_add(1) == sent {
-        Some(StopHint::HopRaisedTwice)
+        Some(StopHint::Words("the hop is raised twice."))
     } else {
         None
     }

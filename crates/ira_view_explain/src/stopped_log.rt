@@ -131,9 +131,9 @@ impl<'a, 'l, A: Allocator + Clone> StoppedLog<'a, 'l, A> {
         page.table(&self.state_table());
         page.blank();
         let (rule, further) = self.stopped.rules();
-        page.paragraph(rule.words());
+        page.paragraph(rule);
         if let Some(rule) = further {
-            page.paragraph(rule.words());
+            page.paragraph(rule);
         }
     }
 

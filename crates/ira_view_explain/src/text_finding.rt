@@ -1,4 +1,4 @@
-ghost use Rattle.std.specs.Prelude.{◌≡◌, ◌≢◌, ◌≤◌, IfOk, IfSome, length};
+ghost use Rattle.std.specs.Prelude.{◌≤◌, IfOk, IfSome};
 ghost use Rattle.ira_event.specs.Limits.{MAX_RECORDS};
 ghost use Rattle.ira_event.specs.LogTextFault.{LogTextFault, OpeningFault};
 ghost use Rattle.ira_event.specs.declared.log_fault.LogFault.{LogFault};
@@ -92,21 +92,21 @@ fn count_hint(line: &[u8], records: usize) -> Option<TextHint>
 }
 
 /// A usual cause why this line isn't the one of the head that is due.
-fn head_hint(due: HeadLine, line: &[u8]) -> Option<TextHint> {
+fn head_hint(due: HeadLine, line: &[u8]) -> Option<&'static str> {
     if let Some(slip) = Slip::of_format(line) {
-        return Some(TextHint::Slip(slip));
+        return Some(slip.hint());
     }
     match due {
         HeadLine::Nodes { .. } => {
             let nodes = number_of(line, b"nodes ")? as usize;
             if (MAX_VERSION_1_NODES..=MAX_NODES).contains(&nodes) {
-                Some(TextHint::LargeRing)
+                Some("logs of a ring of more than 64 nodes have version 2: `irlog 2`.")
             } else {
-                Some(TextHint::RingSize)
+                Some("a ring has 2 to 255 nodes.")
             }
         }
         HeadLine::Place { nodes } if number_of(line, b"place ") == Some(nodes) => {
-            Some(TextHint::PlaceIsSize)
+            Some("places count from 0; this one is N.")
         }
         HeadLine::Version => file_hint(line),
         HeadLine::Place { .. } | HeadLine::Start => None,
@@ -114,13 +114,20 @@ fn head_hint(due: HeadLine, line: &[u8]) -> Option<TextHint> {
 }
 
 /// A usual cause why the first line of a file is no log's.
-fn file_hint(line: &[u8]) -> Option<TextHint> {
+fn file_hint(line: &[u8]) -> Option<&'static str> {
     match line {
-        [0xff, 0xfe, ..] | [0xfe, 0xff, ..] | [_, 0, ..] => Some(TextHint::TwoByteLetters),
-        [0x1f, 0x8b, ..] => Some(TextHint::Compressed),
+        [0xff, 0xfe, ..] | [0xfe, 0xff, ..] | [_, 0, ..] => Some(
+            "the file is UTF-16, as `>` of a Windows shell writes. Write ASCII; to mend a file: iconv -f UTF-16 \
+             -t ASCII FILE",
+        ),
+        [0x1f, 0x8b, ..] => Some("the file is compressed: gunzip -c FILE"),
         _
             if line.windows(6).any(|part| part == b"irlog ".as_slice())
-                && !line.starts_with(b"irlog ") => { Some(TextHint::InFront) }
+                && !line.starts_with(b"irlog ") => {
+            Some(
+                "something stands in front of the line, such as a time: a log has its lines alone.",
+            )
+        }
         _ => None,
     }
 }
@@ -134,14 +141,17 @@ impl TextFinding {
         match fault {
             LogFault::TooLong => TextFinding {
                 stop: TextStop::TooLong,
-                hint: Some(TextHint::OtherFile),
+                hint: Some(TextHint::Words("such a file is seldom a log: look at the names.")),
             },
             LogFault::Head => TextFinding::of_head(file),
             LogFault::Line(number) | LogFault::Range(number) => {
                 TextFinding::of_line(file, number as usize)
             }
             LogFault::TooMany => {
-                let hint = Some(TextHint::TooMany);
+                let hint = Some(TextHint::Words(
+                    "a log has at most 100,000 records. With all logs of the ring `ira mend --out DIR` keeps as many \
+                     of each, as far as they fit together.",
+                ));
                 TextFinding::whole_line(file, MAX_RECORDS + 5, LineRemark::TooMany, hint)
             }
             LogFault::Cut => TextFinding::of_cut(file),
@@ -199,7 +209,7 @@ impl TextFinding {
                 stop,
                 stop,
                 LineRemark::Head(due),
-                head_hint(due, line),
+                head_hint(due, line).map(TextHint::Words),
             );
         }
         let end = line.len();
@@ -218,9 +228,12 @@ impl TextFinding {
                 },
             },
             hint: if stop == end {
-                Some(TextHint::NotBegun)
+                Some(TextHint::Words(
+                    "a node that was stopped before it had written its head. With all files of the ring \
+                     `ira mend --out DIR` gives it a log without events.",
+                ))
             } else if number == 1 {
-                file_hint(line)
+                file_hint(line).map(TextHint::Words)
             } else {
                 None
             },
@@ -234,7 +247,8 @@ impl TextFinding {
         let version = version_of(file);
         match LineStop::find(line, version) {
             LineStop::Due { byte, due } => {
-                let hint = slip_of_line(line, byte, due, version).map(TextHint::Slip);
+                let slip = slip_of_line(line, byte, due, version);
+                let hint = slip.map(|slip| TextHint::Words(slip.hint()));
                 TextFinding::at(number, byte, byte, LineRemark::Line { due, version }, hint)
             }
             LineStop::Range {
@@ -244,7 +258,9 @@ impl TextFinding {
                 is_zero,
             } => {
                 let hint = match is_zero {
-                    true if line.starts_with(b"draw ") => Some(TextHint::DrawOfZero),
+                    true if line.starts_with(b"draw ") => Some(TextHint::Words(
+                        "IDs count from 1: draw 1 to N.",
+                    )),
                     true => Some(TextHint::FromZero(field)),
                     false => None,
                 };
@@ -261,11 +277,12 @@ impl TextFinding {
         let next = whole.saturating_add(1);
         let piece = file.line(next);
         let is_end = number_of(piece, b"end ").is_some_and(|count| count as usize == records);
-        let hint = Some(if is_end {
-            TextHint::LineFeed
+        let hint = Some(TextHint::Words(if is_end {
+            "only the line feed is missing."
         } else {
-            TextHint::Crash
-        });
+            "a crash, or a file that was not closed. With all logs of the ring `ira mend --out DIR` keeps what stands \
+             in each up to its last whole line, as far as it fits together."
+        }));
         if piece.is_empty() {
             TextFinding::whole_line(file, whole, LineRemark::Last { records }, hint)
         } else {
@@ -292,9 +309,11 @@ impl TextFinding {
         let number = end + 1;
         let line = file.line(number);
         let hint = if line.starts_with(b"irlog") {
-            Some(TextHint::SecondLog)
+            Some(TextHint::Words(
+                "a second log follows: the file was opened to append to. Use a new file for each run.",
+            ))
         } else if file.from_line(number) == b"\n".as_slice() {
-            Some(TextHint::EmptyLine)
+            Some(TextHint::Words("an empty line."))
         } else {
             None
         };
