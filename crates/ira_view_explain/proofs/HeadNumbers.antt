@@ -1,14 +1,11 @@
 -- Lines of a word and a number.
-use Rattle.std.proofs.Common.{◌≡◌, ◌∙◌, ℕ, List, [], ◌++◌, Option, Some, append-nil, ap, arith, false, nat_eq, subst}
-use Rattle.std.proofs.Common.{sym, true}
-use Rattle.std.proofs.lemmas.Bool.Decides.{nat_tests}
+use Rattle.std.proofs.Common.{◌≡◌, ◌∙◌, ℕ, List, [], ◌++◌, Option, Some, append-nil, ap, subst, sym}
 use Rattle.ira_event.specs.Scan.{after_word, kept, kept_at}
 use Rattle.ira_event.proofs.RecordLines.{kept-again, kept-takes, word-again, word-takes}
 use Rattle.ira_event.proofs.Numerals.{numeral_same}
 use Rattle.ira_event.specs.Numeral.{IsNumeral}
 use Rattle.std.proofs.lemmas.List.{append_cancel_left}
-use Rattle.ira_event.specs.Limits.{MAX_NODES, MAX_VERSION_1_NODES}
-use Rattle.ira_view_explain.specs.HeadLine.{IsNumbered, most_nodes}
+use Rattle.ira_view_explain.specs.HeadLine.{IsNumbered}
 
 -- what such a line has after its word
 pub number_left : (word line rest : List ℕ) (n : ℕ) → IsNumbered word line n → after_word word line ≡ Some rest
@@ -44,11 +41,3 @@ pub one_number : (word line : List ℕ) (m n : ℕ) → IsNumbered word line m �
 one_number word line m n a b =
     let same : b.0 ≡ a.0 = append_cancel_left word b.0 a.0 (sym b.1 ∙ a.1) in
     numeral_same a.0 m n a.2 (subst (λ (t : List ℕ). IsNumeral t n) same b.2)
-
--- the most nodes of the first version, and of another
-pub first_version : (version most : ℕ) → version ≡ 1 → most ≡ MAX_VERSION_1_NODES → most ≡ most_nodes version
-first_version version most is same = (let test : nat_eq version 1 ≡ true = grind (arith, nat_tests, is) in rw test same)
-
-pub other_version : (version most : ℕ) → ¬ (version ≡ 1) → most ≡ MAX_NODES → most ≡ most_nodes version
-other_version version most not same =
-    (let test : nat_eq version 1 ≡ false = grind (arith, nat_tests, not) in rw test same)

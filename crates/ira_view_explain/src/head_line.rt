@@ -1,5 +1,5 @@
 ghost use Rattle.std.specs.Prelude.{◌≡◌, ◌<◌, ℕ, MatchOption, min};
-ghost use Rattle.ira_view_explain.specs.HeadLine.{IsFirstStop, IsNumbered, IsWithin, head_number};
+ghost use Rattle.ira_view_explain.specs.HeadLine.{IsFirstStop, IsNumbered, IsWithin, head_number, most_nodes};
 
 use crate::numbered::fill;
 use ira_event::{MAX_NODES, MAX_VERSION, MAX_VERSION_1_NODES, scan_number, skip_word};
@@ -25,11 +25,7 @@ impl HeadLine {
         let Some(version) = number_within(file.line(1), b"irlog ", 1, MAX_VERSION as usize) else {
             return HeadLine::Version;
         };
-        let most = if version == 1 {
-            MAX_VERSION_1_NODES
-        } else {
-            MAX_NODES
-        };
+        let most = most_nodes(version);
         let Some(nodes) = number_within(file.line(2), b"nodes ", 2, most) else {
             return HeadLine::Nodes { most };
         };
@@ -75,6 +71,17 @@ impl HeadLine {
                 common_length(line, b"start initiator").max(common_length(line, b"start passive"))
             }
         }
+    }
+}
+
+/// The most nodes of a ring whose logs have this version.
+fn most_nodes(version: u32) -> usize
+    ensures { result ≡ most_nodes version }
+{
+    if version == 1 {
+        MAX_VERSION_1_NODES
+    } else {
+        MAX_NODES
     }
 }
 
