@@ -1,5 +1,5 @@
 -- What comes of judging logs where something is expected of their election when they end.
-use Rattle.std.specs.Prelude.{◌≡◌, ℕ, List, ◌++◌, None, Option}
+use Rattle.std.specs.Prelude.{◌≡◌, ◌≢◌, ◌⊎◌, ℕ, List, [], ◌++◌, None, Option}
 use Rattle.ira_event.specs.Log.{Log}
 use Rattle.ira_audit.specs.GoodLogs.{AreGoodLogs}
 use Rattle.ira_audit.specs.Refusal.{IsLogsReason}
@@ -34,6 +34,15 @@ AsksNoPlaces logs (Leaders leaders) = AreNoPlaces logs leaders
 abbrev pub AreLinesOn : List Log → Expected → List ℕ → Type 0
 AreLinesOn logs Over lines = TellsUnfinished logs lines
 AreLinesOn logs (Leaders leaders) lines = AreDifferencesOf logs leaders lines
+
+-- it is so when the logs end: there are no lines on what isn't
+abbrev pub IsMet : List Log → Expected → Type 0
+IsMet logs expected = AreLinesOn logs expected []
+
+-- it isn't: there are some, or a node that is to lead is none of the ring
+abbrev pub IsMissed : List Log → Expected → Type 0
+IsMissed logs expected =
+    ((lines : List ℕ) × AreLinesOn logs expected lines × (lines ≢ [])) ⊎ AsksNoPlaces logs expected
 
 -- the text of a yes: as JSON with this status, with the nodes that are named and with what the events of the logs come
 -- to; or in words: its line, and these lines

@@ -1,6 +1,7 @@
-ghost use Rattle.std.specs.Prelude.{◌≡◌, IfOk, List, MatchOption, option_map, ℕ};
+ghost use Rattle.std.specs.Prelude.{◌≡◌, IfOk, List, MatchBool, MatchOption, option_map, ℕ};
 ghost use Rattle.ira_audit.specs.Judged.{IsJudged};
-ghost use Rattle.ira_commands.specs.Expected.{AreLinesOn, AsksNoPlaces, IsExpectedText, JudgesExpected, TellsExpected, named_by};
+ghost use Rattle.ira_commands.specs.Expected.{AreLinesOn, AsksNoPlaces, IsExpectedText, IsMet, IsMissed, JudgesExpected};
+ghost use Rattle.ira_commands.specs.Expected.{TellsExpected, named_by};
 
 use crate::command_fault::CommandFault;
 use crate::reply::Reply;
@@ -35,6 +36,20 @@ impl<'v> Expected<'v> {
         match self {
             Expected::Over => Ok(Some(unfinished_election(alloc, logs)?)),
             Expected::Leaders(leaders) => leaders.differences(alloc, logs),
+        }
+    }
+
+    /// Whether it is so when the logs end. It isn't where a node that is to lead is none of the ring.
+    pub fn is_met<A: Allocator + Clone>(
+        &self,
+        alloc: A,
+        logs: &GoodLogs<A>,
+    ) -> Result<bool, OutOfMemory>
+        ensures { IfOk result (λ met. MatchBool met (IsMet logs.now self.now) (IsMissed logs.now self.now)) }
+    {
+        match self.lines(alloc, logs)? {
+            Some(lines) => Ok(lines.bytes().is_empty()),
+            None => Ok(false),
         }
     }
 

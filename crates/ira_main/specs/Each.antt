@@ -4,94 +4,108 @@ use Rattle.std.specs.Prelude.{codes, if◌then◌else◌, slice_get, take, ⊤}
 use Rattle.std.specs.Borrow.{Bor}
 use Rattle.std.specs.List.{AllZip, filter_map, list_any}
 use Rattle.ira_event.specs.Sink.{SinkState, StopsIn, Takes}
-use Rattle.ira_audit.specs.Report.{IsReportable, report_line}
-use Rattle.ira_audit.specs.RingAnswer.{IsRingAnswer}
-use Rattle.ira_audit.specs.RingAudit.{RingAudit}
-use Rattle.ira_audit.specs.TextRuns.{AreTextsOfRuns}
-use Rattle.ira_audit.specs.declared.answer.Answer.{Answer}
+use Rattle.ira_audit.specs.Report.{IsReportable}
 use Rattle.ira_audit.specs.declared.answer.Answer.TheVariants as audit
 use Rattle.ira_view_page.specs.Printable.{shown}
 use Rattle.ira_view_json.specs.FolderValue.{folder_answer_value, unread_value}
 use Rattle.ira_view_json.specs.Line.{IsLineOf}
 use Rattle.ira_view.specs.declared.form.Form.{Form}
 use Rattle.ira_view.specs.declared.form.Form.TheVariants.{Json, Words}
+use Rattle.ira_main_cli.specs.declared.expectation.Expectation.{Expectation}
 use Rattle.ira_main_cli.specs.declared.log_source.LogSource.TheVariants.{Folder}
 use Rattle.ira_main_files.specs.FileName.{file_name}
 use Rattle.ira_main_files.specs.Shelf.{Reading}
 use Rattle.ira_main_files.specs.declared.file_name.FileName.{FileName}
 use Rattle.ira_main.specs.FilesRead.{HasTakenFiles, IsFilesFault, ReadsFiles, names_of}
+use Rattle.ira_main.specs.Judge.{leaders_expected}
+use Rattle.ira_main.specs.JudgedFolder.{IsJudgedOf, answer_of, judged_line, judged_status}
+use Rattle.ira_main.specs.LeadersFile.{HasLeadersIn, IsNoLeaders}
 use Rattle.ira_main.specs.Outcome.{Outcome}
 use Rattle.ira_main.specs.ProgramFault.{printed_name}
 use Rattle.ira_main.specs.SourceNames.{HasNames, IsNamesFault}
-use Rattle.ira_view.specs.Status.{answer_status, status_number}
+use Rattle.ira_view.specs.Status.{status_number}
 use Rattle.ira_main.specs.declared.folder_answer.FolderAnswer.{FolderAnswer}
 use Rattle.ira_main.specs.declared.folder_answer.FolderAnswer.TheVariants.{Judged, Unread}
+use Rattle.ira_main.specs.declared.folder_answer.FolderTexts.{FolderTexts}
+use Rattle.ira_main.specs.declared.judged_folder.JudgedFolder.{JudgedFolder}
+use Rattle.ira_main.specs.declared.judged_folder.JudgedFolder.TheVariants.{Answered}
 use Rattle.ira_main.specs.declared.program_fault.ProgramFault.{ProgramFault}
 use Rattle.ira_main.specs.declared.program_fault.ProgramFault.TheVariants.{CannotRead, CannotReadSome, CannotWriteAnswer}
-use Rattle.ira_main.specs.declared.program_fault.ProgramFault.TheVariants.{OutOfMemory}
+use Rattle.ira_main.specs.declared.program_fault.ProgramFault.TheVariants.{NoPlaceInLine, OutOfMemory}
 use Rattle.ira_view.specs.declared.status.Status.{Status}
 use Rattle.ira_view.specs.declared.status.Status.TheVariants as status
 
--- why the texts of a folder aren't judged: the first log of it wasn't read, or one of those that it names, or memory ran
--- out
-abbrev pub IsFolderFault : {S : Type 0} → Reading S → S → Bor (List ℕ) → ProgramFault → Type 0
-IsFolderFault reads shelf folder f =
-    IsNamesFault reads shelf (Folder folder) f
-    ⊎ ((names : List FileName) × HasNames reads shelf (Folder folder) names × IsFilesFault reads (names_of names) shelf f)
+-- why the texts of a folder aren't judged: there are no leaders in the file of these, if one is named; or the first log wasn't
+-- read, or one of those that it names, or memory ran out
+abbrev pub IsFolderFault : {S : Type 0} → Reading S → Option Expectation → S → Bor (List ℕ) → ProgramFault → Type 0
+IsFolderFault reads expected shelf folder f =
+    IsNoLeaders reads shelf (Folder folder) (leaders_expected expected) f
+    ⊎ (IsNamesFault reads shelf (Folder folder) f
+    ⊎ ((names : List FileName) × HasNames reads shelf (Folder folder) names × IsFilesFault reads (names_of names) shelf f))
 
--- the texts of a folder's logs were taken, or why they weren't
-abbrev pub IsFolderAudit : {S : Type 0} → Reading S → S → Bor (List ℕ) → Result RingAudit ProgramFault → Type 0
-IsFolderAudit reads shelf folder (Ok audit) =
-    (names : List FileName) × HasNames reads shelf (Folder folder) names × HasTakenFiles reads (names_of names) shelf audit
-IsFolderAudit reads shelf folder (Err f) = IsFolderFault reads shelf folder f
+-- the file of leaders was read, if one is named, and the texts of a folder's logs were taken; or why they weren't
+abbrev pub IsFolderAudit : {A S : Type 0} → Reading S → Option Expectation → S → Bor (List ℕ)
+    → Result (FolderTexts A) ProgramFault → Type 0
+IsFolderAudit reads expected shelf folder (Ok taken) =
+    HasLeadersIn reads shelf (Folder folder) (leaders_expected expected) taken.leaders.items
+    × (names : List FileName) × HasNames reads shelf (Folder folder) names
+    × HasTakenFiles reads (names_of names) shelf taken.audit
+IsFolderAudit reads expected shelf folder (Err f) = IsFolderFault reads expected shelf folder f
 
--- the files of a folder's logs were read, and this is the answer of their texts; after a yes they are the texts of runs
-pub record IsAnswerOf {S : Type 0} (reads : Reading S) (shelf : S) (folder : Bor (List ℕ)) (answer : Answer) : Type 0 where
+-- the file of leaders, if one is named, and those of a folder's logs were read, and the logs are judged so
+pub record IsAnswerOf {S : Type 0} (reads : Reading S) (expected : Option Expectation) (shelf : S) (folder : Bor (List ℕ))
+    (judged : JudgedFolder) : Type 0 where
+  pub read : List ℕ
+  pub leaders : HasLeadersIn reads shelf (Folder folder) (leaders_expected expected) read
   pub names : List FileName
   pub names_are : HasNames reads shelf (Folder folder) names
   pub texts : List (List ℕ)
   pub given : ReadsFiles reads (names_of names) shelf texts
-  pub judged : IsRingAnswer texts answer
-  pub runs : answer ≡ audit.Yes → AreTextsOfRuns texts
-  pub reportable : IsReportable answer
+  pub is : IsJudgedOf expected read texts judged
 
--- the answer is that of the folder of this number
-abbrev pub IsAnswerAt : {S : Type 0} → Reading S → S → List (Bor (List ℕ)) → ℕ → Answer → Type 0
-IsAnswerAt reads shelf folders i answer =
-    (folder : Bor (List ℕ)) → slice_get folders i ≡ Some folder → IsAnswerOf reads shelf folder answer
+-- the folder of this number is judged so
+abbrev pub IsAnswerAt : {S : Type 0} → Reading S → Option Expectation → S → List (Bor (List ℕ)) → ℕ → JudgedFolder → Type 0
+IsAnswerAt reads expected shelf folders i judged =
+    (folder : Bor (List ℕ)) → slice_get folders i ≡ Some folder → IsAnswerOf reads expected shelf folder judged
 
--- each answer that there is is that of its folder
-abbrev pub AreAnswersOf : {S : Type 0} → Reading S → S → List (Bor (List ℕ)) → List (Option Answer) → Type 0
-AreAnswersOf reads shelf folders answers =
-    (i : ℕ) (answer : Answer) → slice_get answers i ≡ Some (Some answer) → IsAnswerAt reads shelf folders i answer
+-- each folder that is judged is judged so
+abbrev pub AreAnswersOf : {S : Type 0} → Reading S → Option Expectation → S → List (Bor (List ℕ))
+    → List (Option JudgedFolder) → Type 0
+AreAnswersOf reads expected shelf folders answers = (i : ℕ) (judged : JudgedFolder)
+    → slice_get answers i ≡ Some (Some judged) → IsAnswerAt reads expected shelf folders i judged
 
--- what comes of a folder: the answer of the texts of its logs, or a file of theirs that wasn't read
-abbrev pub IsFolderAnswer : {S : Type 0} → Reading S → S → Bor (List ℕ) → FolderAnswer → Type 0
-IsFolderAnswer reads shelf folder (Judged answer) = IsAnswerOf reads shelf folder answer
-IsFolderAnswer reads shelf folder (Unread name) = IsFolderFault reads shelf folder (CannotRead name)
+-- this file wasn't read, or has no leaders
+abbrev pub NamesFile : ProgramFault → FileName → Type 0
+NamesFile f name = (f ≡ CannotRead name) ⊎ ((line : ℕ) × (f ≡ NoPlaceInLine line name))
+
+-- what comes of a folder: its logs are judged, or a file wasn't read
+abbrev pub IsFolderAnswer : {S : Type 0} → Reading S → Option Expectation → S → Bor (List ℕ) → FolderAnswer → Type 0
+IsFolderAnswer reads expected shelf folder (Judged judged) = IsAnswerOf reads expected shelf folder judged
+IsFolderAnswer reads expected shelf folder (Unread name) =
+    (f : ProgramFault) × IsFolderFault reads expected shelf folder f × NamesFile f name
 
 -- the answer, if there is one, doesn't say that memory ran out
 abbrev pub IsTellable : FolderAnswer → Type 0
-IsTellable (Judged answer) = IsReportable answer
+IsTellable (Judged judged) = IsReportable (answer_of judged)
 IsTellable (Unread name) = ⊤
 
 -- none of these answers says that memory ran out
 abbrev pub AreTellable : List FolderAnswer → Type 0
 AreTellable answers = (i : ℕ) (answer : FolderAnswer) → slice_get answers i ≡ Some answer → IsTellable answer
 
--- what is said of a folder after its name: the answer's line, or the file that wasn't read
+-- what is said of a folder after its name: what its logs are judged to be, or the file that wasn't read
 abbrev pub after_folder : FolderAnswer → List ℕ
-after_folder (Judged answer) = codes ": " ++ report_line answer
+after_folder (Judged judged) = codes ": " ++ judged_line judged
 after_folder (Unread name) = codes ": cannot read " ++ printed_name name ++ codes "\n"
 
 -- the line of a folder, whose name is as it is printed
 abbrev pub folder_line : List ℕ → FolderAnswer → List ℕ
 folder_line folder answer = shown folder ++ after_folder answer
 
--- the same as a line of JSON
+-- the same as a line of JSON: the answer of the logs, and the status that goes with what they are judged to be
 abbrev pub IsFolderObject : List ℕ → FolderAnswer → List ℕ → Type 0
-IsFolderObject folder (Judged answer) line =
-    IsLineOf (folder_answer_value folder (status_number (answer_status answer)) answer) line
+IsFolderObject folder (Judged judged) line =
+    IsLineOf (folder_answer_value folder (status_number (judged_status judged)) (answer_of judged)) line
 IsFolderObject folder (Unread name) line = IsLineOf (unread_value (Some folder) (file_name name) 2) line
 
 -- what is printed of a folder
@@ -99,26 +113,30 @@ abbrev pub IsFolderText : Form → List ℕ → FolderAnswer → List ℕ → Ty
 IsFolderText Json folder answer line = IsFolderObject folder answer line
 IsFolderText Words folder answer line = line ≡ folder_line folder answer
 
--- what is printed of the folders, one after another
-abbrev pub AreFolderTexts : Form → List (Bor (List ℕ)) → List FolderAnswer → List ℕ → Type 0
-AreFolderTexts form [] [] text = text ≡ []
-AreFolderTexts form (folder ∷ folders) (answer ∷ answers) text =
-    (line : List ℕ) × (rest : List ℕ) × (text ≡ line ++ rest) × IsFolderText form folder.now answer line
-    × AreFolderTexts form folders answers rest
-AreFolderTexts form folders answers text = ⊥
+-- what is told of a folder: what comes of it, and its line
+abbrev pub FolderTelling : Type 1
+FolderTelling = Bor (List ℕ) → FolderAnswer → List ℕ → Type 0
+
+-- this is told of folders, one after another
+abbrev pub AreTold : FolderTelling → List (Bor (List ℕ)) → List FolderAnswer → List ℕ → Type 0
+AreTold Told [] [] text = text ≡ []
+AreTold Told (folder ∷ folders) (answer ∷ answers) text =
+    (line : List ℕ) × (rest : List ℕ) × (text ≡ line ++ rest) × Told folder answer line × AreTold Told folders answers rest
+AreTold Told folders answers text = ⊥
 
 -- the file that wasn't read, if there is one
 abbrev pub unread_name : FolderAnswer → Option FileName
 unread_name (Unread name) = Some name
-unread_name (Judged answer) = None
+unread_name (Judged judged) = None
 
 abbrev pub unread_names : List FolderAnswer → List FileName
 unread_names answers = filter_map unread_name answers
 
--- the status of answers: no where one is no, else yes
+-- the status of answers: no where one is no or isn't as expected, else yes
 abbrev pub is_no : FolderAnswer → Bool
-is_no (Judged (audit.No reason)) = true
-is_no other = false
+is_no (Unread name) = false
+is_no (Judged (Answered audit.Yes)) = false
+is_no (Judged judged) = true
 
 abbrev pub each_status : List FolderAnswer → Status
 each_status answers = if list_any is_no answers then status.No else status.Yes
@@ -129,38 +147,39 @@ IsEachOutcome answers (Ok s) = (unread_names answers ≡ []) × (s ≡ each_stat
 IsEachOutcome answers (Err (CannotReadSome names)) = (names.items ≡ unread_names answers) × (names.items ≢ [])
 IsEachOutcome answers (Err other) = ⊥
 
--- each of these folders was judged for itself, and this is printed of them
-pub record AreTold {S : Type 0} (reads : Reading S) (form : Form) (shelf : S) (folders : List (Bor (List ℕ)))
-    (answers : List FolderAnswer) (text : List ℕ) : Type 0 where
-  pub judged : AllZip (IsFolderAnswer reads shelf) folders answers
-  pub texts : AreFolderTexts form folders answers text
-
--- what comes of the folders was printed in their order; or the output stopped within what comes of a first part of them, or
+-- this was told of the folders in their order; or the output stopped within what is told of a first part of them, or
 -- memory ran out after that was printed
-pub data JudgesEach {S : Type 0} (reads : Reading S) (form : Form) (folders : List (Bor (List ℕ))) (shelf : S)
-    (out out' : SinkState) (outcome : Outcome) : Type 0 where
-  told : (answers : List FolderAnswer) (text : List ℕ) → AreTold reads form shelf folders answers text
-      → Takes text out out' → IsEachOutcome answers outcome → JudgesEach reads form folders shelf out out' outcome
+pub data TellsEach (Told : FolderTelling) (folders : List (Bor (List ℕ))) (out out' : SinkState) (outcome : Outcome)
+    : Type 0 where
+  told : (answers : List FolderAnswer) (text : List ℕ) → AreTold Told folders answers text
+      → Takes text out out' → IsEachOutcome answers outcome → TellsEach Told folders out out' outcome
   stopped : (first : ℕ) (answers : List FolderAnswer) (text : List ℕ)
-      → AreTold reads form shelf (take first folders) answers text → StopsIn text out out'
-      → outcome ≡ Err CannotWriteAnswer → JudgesEach reads form folders shelf out out' outcome
+      → AreTold Told (take first folders) answers text → StopsIn text out out'
+      → outcome ≡ Err CannotWriteAnswer → TellsEach Told folders out out' outcome
   no_memory : (first : ℕ) (answers : List FolderAnswer) (text : List ℕ)
-      → AreTold reads form shelf (take first folders) answers text → Takes text out out'
-      → outcome ≡ Err OutOfMemory → JudgesEach reads form folders shelf out out' outcome
+      → AreTold Told (take first folders) answers text → Takes text out out'
+      → outcome ≡ Err OutOfMemory → TellsEach Told folders out out' outcome
+
+-- a folder was judged, and its line is printed
+abbrev pub IsJudgedLine : {S : Type 0} → Reading S → Form → Option Expectation → S → FolderTelling
+IsJudgedLine reads form expected shelf folder answer line =
+    IsFolderAnswer reads expected shelf folder answer × IsFolderText form folder.now answer line
+
+-- each of the folders was judged for itself, and its line printed
+abbrev pub JudgesEach : {S : Type 0} → Reading S → Form → Option Expectation → List (Bor (List ℕ)) → S
+    → SinkState → SinkState → Outcome → Type 0
+JudgesEach reads form expected folders shelf out out' outcome =
+    TellsEach (IsJudgedLine reads form expected shelf) folders out out' outcome
 
 -- ---- Helpers, no definitions.
 
--- each of some folders was judged, and what comes of them was printed
-abbrev pub TellsSome : {S : Type 0} → Reading S → Form → S → List (Bor (List ℕ)) → SinkState → SinkState
-    → List FolderAnswer → Type 0
-TellsSome reads form shelf folders out out' answers =
-    (text : List ℕ) × AreTold reads form shelf folders answers text × Takes text out out'
+-- this was told of each of some folders, and printed
+abbrev pub TellsSome : FolderTelling → List (Bor (List ℕ)) → SinkState → SinkState → List FolderAnswer → Type 0
+TellsSome Told folders out out' answers = (text : List ℕ) × AreTold Told folders answers text × Takes text out out'
 
 -- why it wasn't: the output stopped within it; or memory ran out, and nothing was printed
-abbrev pub IsUntold : {S : Type 0} → Reading S → Form → S → List (Bor (List ℕ)) → SinkState → SinkState → ProgramFault
-    → Type 0
-IsUntold reads form shelf folders out out' CannotWriteAnswer =
-    (answers : List FolderAnswer) × (text : List ℕ) × AreTold reads form shelf folders answers text
-    × StopsIn text out out'
-IsUntold reads form shelf folders out out' OutOfMemory = out' ≡ out
-IsUntold reads form shelf folders out out' other = ⊥
+abbrev pub IsUntold : FolderTelling → List (Bor (List ℕ)) → SinkState → SinkState → ProgramFault → Type 0
+IsUntold Told folders out out' CannotWriteAnswer =
+    (answers : List FolderAnswer) × (text : List ℕ) × AreTold Told folders answers text × StopsIn text out out'
+IsUntold Told folders out out' OutOfMemory = out' ≡ out
+IsUntold Told folders out out' other = ⊥

@@ -9,6 +9,7 @@ pub mod Given
 pub mod Guide
 pub mod InputAudit
 pub mod Judge
+pub mod JudgedFolder
 pub mod LeadersFile
 pub mod LeftFiles
 pub mod LogFiles

@@ -50,7 +50,7 @@ use Rattle.ira_main.specs.Outcome.{Outcome, PrintsLine}
 use Rattle.ira_main.specs.ProgramFault.{words_fault}
 use Rattle.ira_main.specs.Judge.{IsUnjudged, JudgesFiles}
 use Rattle.ira_main.specs.Show.{IsUnshown, ShowsFiles}
-use Rattle.ira_main.specs.SourceNames.{AreSeveralFolders, NamesOneRing}
+use Rattle.ira_main.specs.SourceNames.{AreSeveralFolders, IsOfOneRing}
 use Rattle.ira_main.specs.Version.{version_line}
 use Rattle.ira_main.specs.declared.program_fault.ProgramFault.{ProgramFault}
 use Rattle.ira_main.specs.declared.program_fault.ProgramFault.TheVariants.{CannotRead, OutOfMemory}
@@ -99,15 +99,15 @@ pub data CommandOutcome (A : Type 0) {S : Type 0} (reads : Reading S) (writes : 
   refused : (fault : WordsFault) → MayBeRefused words fault → shelf' ≡ shelf → out' ≡ out
       → outcome ≡ Err (words_fault fault)
       → CommandOutcome A reads writes words shelf shelf' out out' outcome
-  judged : (logs : LogsRequest) → IsLogsLine words logs → NamesOneRing reads shelf logs → shelf' ≡ shelf
+  judged : (logs : LogsRequest) → IsLogsLine words logs → IsOfOneRing reads shelf logs.logs → shelf' ≡ shelf
       → Tells (JudgesFiles A reads logs shelf) (IsUnjudged reads logs shelf) out out' outcome
       → CommandOutcome A reads writes words shelf shelf' out out' outcome
   each : (asked : EachRequest) → IsEachLine words asked → shelf' ≡ shelf
-      → JudgesEach reads (json_form asked.is_json) asked.folders.items shelf out out' outcome
+      → JudgesEach reads (json_form asked.is_json) asked.expected asked.folders.items shelf out out' outcome
       → CommandOutcome A reads writes words shelf shelf' out out' outcome
   folders : (logs : LogsRequest) (names : List (Bor (List ℕ))) → IsLogsLine words logs
-      → AreSeveralFolders reads shelf logs names → shelf' ≡ shelf
-      → JudgesEach reads (json_form logs.is_json) names shelf out out' outcome
+      → AreSeveralFolders reads shelf logs.logs names → shelf' ≡ shelf
+      → JudgesEach reads (json_form logs.is_json) logs.expected names shelf out out' outcome
       → CommandOutcome A reads writes words shelf shelf' out out' outcome
   explained : (explain : ExplainRequest) → IsExplainLine words explain → shelf' ≡ shelf
       → ExplainsAnswer A (json_form explain.is_json) reads explain.answer shelf out out' outcome

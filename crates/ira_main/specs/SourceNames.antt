@@ -1,5 +1,5 @@
 -- The names of the files that logs come from.
-use Rattle.std.specs.Prelude.{◌≡◌, ◌≢◌, ◌<◌, ◌≤◌, ◌⊎◌, ⊤, ℕ, All, Contains, IsSome, List, [], ◌∷◌, None, Ok, length, map}
+use Rattle.std.specs.Prelude.{◌≡◌, ◌≢◌, ◌<◌, ◌≤◌, ◌⊎◌, ⊤, ℕ, All, Contains, List, [], ◌∷◌, Ok, length, map}
 use Rattle.std.specs.Borrow.{Bor}
 use Rattle.std.specs.List.{range_with_len}
 use Rattle.ira_event.specs.Limits.{MAX_TEXT}
@@ -7,7 +7,6 @@ use Rattle.ira_event.specs.LogTextFault.{BeginsWithHead, BeginsWithNoHead}
 use Rattle.ira_event.specs.declared.log_head.LogHead.{LogHead}
 use Rattle.ira_main_cli.specs.declared.log_source.LogSource.{LogSource}
 use Rattle.ira_main_cli.specs.declared.log_source.LogSource.TheVariants.{Files, Folder}
-use Rattle.ira_main_cli.specs.declared.logs_request.LogsRequest.{LogsRequest}
 use Rattle.ira_main_files.specs.FileName.{log_name}
 use Rattle.ira_main_files.specs.Shelf.{Reading}
 use Rattle.ira_main_files.specs.declared.file_entry.FileEntry.{FileEntry}
@@ -48,22 +47,17 @@ abbrev pub AreGiven : LogSource → List (Bor (List ℕ)) → Type 0
 AreGiven (Files words) names = words.items ≡ names
 AreGiven (Folder folder) names = ⊥
 
--- the names that are given are several and lead to folders, and nothing is expected of an election
-pub record AreSeveralFolders {S : Type 0} (reads : Reading S) (shelf : S) (request : LogsRequest)
+-- the names that are given are several and lead to folders
+pub record AreSeveralFolders {S : Type 0} (reads : Reading S) (shelf : S) (source : LogSource)
     (folders : List (Bor (List ℕ))) : Type 0 where
-  pub expected : request.expected ≡ None
-  pub given : AreGiven request.logs folders
+  pub given : AreGiven source folders
   pub several : 2 ≤ length folders
   pub each : AreFolders reads shelf folders
 
--- of a source one name is given at most, or one of them leads to no folder
+-- the logs are those of one ring: one name is given at most, or one of them leads to no folder
 abbrev pub IsOfOneRing : {S : Type 0} → Reading S → S → LogSource → Type 0
 IsOfOneRing reads shelf (Files words) = (length words.items < 2) ⊎ HasNoFolder reads shelf words.items
 IsOfOneRing reads shelf (Folder folder) = ⊤
-
--- the logs are those of one ring
-abbrev pub NamesOneRing : {S : Type 0} → Reading S → S → LogsRequest → Type 0
-NamesOneRing reads shelf request = IsSome request.expected ⊎ IsOfOneRing reads shelf request.logs
 
 -- the names of the first logs in a folder, as many as the text that was read of its first one says
 abbrev pub HasFolderNames : {S : Type 0} → Reading S → S → Bor (List ℕ) → List FileName → Type 0

@@ -15,7 +15,7 @@ const COMMANDS_GUIDE: &[u8] = b"\
 
     ira < LOG
     ira logs [--over | --leads <P,..|any|FILE>] [--json] <LOGS>
-    ira logs --each [--json] <DIR>...
+    ira logs --each [--over | --leads <P,..|any|FILE>] [--json] <DIR>...
     ira explain [--json] [<LOGS>]
     ira explain --question <Q> [--case <K> | --cert <C>] [--json] <LOGS>
     ira show [OPTIONS] <LOGS>

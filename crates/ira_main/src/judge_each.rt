@@ -1,36 +1,42 @@
 ghost use Rattle.std.specs.Prelude.{◌≡◌, ◌<◌, IfOk, IfSome, MatchResult, length};
 ghost use Rattle.std.specs.List.{AllZip, list_any};
-ghost use Rattle.ira_main.specs.Each.{AreAnswersOf, AreFolderTexts, AreTellable, IsAnswerAt, IsAnswerOf, IsFolderAnswer};
-ghost use Rattle.ira_main.specs.Each.{IsUntold, JudgesEach, TellsSome, each_status, is_no, unread_names};
+ghost use Rattle.ira_main.specs.Each.{AreAnswersOf, AreTellable, AreTold, IsAnswerAt, IsAnswerOf, IsFolderAnswer};
+ghost use Rattle.ira_main.specs.Each.{IsFolderText, IsJudgedLine, IsUntold, JudgesEach, TellsSome, each_status, is_no};
+ghost use Rattle.ira_main.specs.Each.{unread_names};
 
 use crate::folder_answer::{FolderAnswer, judge_folder};
+use crate::judged_folder::JudgedFolder;
 use crate::program_fault::ProgramFault;
 use crate::read_files::{chunk_from, thread_count};
-use ira_audit::Answer;
 use ira_event::{MemorySink, OutOfMemory, Sink, WriteFault, write_bytes};
+use ira_main_cli::Expectation;
 use ira_main_files::{FileName, Shelf, TextSource};
 use ira_view::{Form, Status};
 use std::alloc::{AllocError, Allocator, Global};
 use std::thread::{self, Threads};
 
-/// The answer for the logs in the folder of this number. `None` where a file of theirs can't be read now, or memory is out.
-fn answer_at<A: Allocator + Clone, F: TextSource>(
+/// What the logs in the folder of this number are judged to be. `None` where a file can't be read now, or memory is out.
+fn answer_at<'a, A: Allocator + Clone, F: TextSource>(
     alloc: &A,
-    folders: &[&str],
+    expected: &Option<Expectation<'a>>,
+    folders: &[&'a str],
     number: usize,
     shelf: &F,
-) -> Option<Answer>
+) -> Option<JudgedFolder>
     requires { number < length folders.now }
-    ensures { IfSome result (IsAnswerAt F.reads shelf.now folders.now number) }
+    ensures { IfSome result (IsAnswerAt F.reads expected.now shelf.now folders.now number) }
 {
-    match judge_folder(alloc, folders[number], shelf) {
-        Ok(FolderAnswer::Judged(answer)) => Some(answer),
+    match judge_folder(alloc, expected, folders[number], shelf) {
+        Ok(FolderAnswer::Judged(judged)) => Some(judged),
         Ok(FolderAnswer::Unread(_)) | Err(OutOfMemory) => None,
     }
 }
 
 /// No answer yet, for so many folders.
-fn no_answers<A: Allocator>(alloc: A, folders: usize) -> Result<Vec<Option<Answer>, A>, AllocError>
+fn no_answers<A: Allocator>(
+    alloc: A,
+    folders: usize,
+) -> Result<Vec<Option<JudgedFolder>, A>, AllocError>
     ensures { IfOk result (λ answers. length answers.items ≡ folders) }
 {
     let mut answers = Vec::with_capacity(alloc, folders)?;
@@ -41,12 +47,13 @@ fn no_answers<A: Allocator>(alloc: A, folders: usize) -> Result<Vec<Option<Answe
 }
 
 /// Judges the logs in each of these folders. Threads that run at a time have a share of the folders each.
-fn judge_at_once<R, A, F>(
+fn judge_at_once<'a, R, A, F>(
     rt: &R,
     alloc: &A,
-    folders: &[&str],
+    expected: &Option<Expectation<'a>>,
+    folders: &[&'a str],
     shelf: &F,
-    answers: &mut [Option<Answer>],
+    answers: &mut [Option<JudgedFolder>],
 )
 where
     R: Threads + Sync,
@@ -54,28 +61,30 @@ where
     F: TextSource + Sync,
     requires { length answers.old ≡ length folders.now }
     ensures count { length answers.new ≡ length folders.now }
-    ensures each { AreAnswersOf F.reads shelf.now folders.now answers.new }
+    ensures each { AreAnswersOf F.reads expected.now shelf.now folders.now answers.new }
 {
-    let judge = |number: usize, answer: &mut Option<Answer>|
+    let judge = |number: usize, answer: &mut Option<JudgedFolder>|
         requires { number < length folders.now }
-        ensures { IfSome answer.new (IsAnswerAt F.reads shelf.entry.now folders.entry.now number) }
-    { *answer = answer_at(alloc, folders, number, shelf) };
+        ensures { IfSome answer.new
+            (IsAnswerAt F.reads expected.entry.now shelf.entry.now folders.entry.now number) }
+    { *answer = answer_at(alloc, expected, folders, number, shelf) };
     thread::for_each_mut(rt, answers, thread_count(rt), &judge);
 }
 
-/// What comes of a folder, of which the answer may be known.
+/// What comes of a folder, of which it may be known what its logs are judged to be.
 fn settled<'a, A: Allocator + Clone, F: TextSource>(
     alloc: &A,
-    answer: Option<Answer>,
+    expected: &Option<Expectation<'a>>,
+    answer: Option<JudgedFolder>,
     folder: &'a str,
     shelf: &F,
 ) -> Result<FolderAnswer<'a>, OutOfMemory>
-    requires { IfSome answer (IsAnswerOf F.reads shelf.now folder) }
-    ensures { IfOk result (IsFolderAnswer F.reads shelf.now folder.entry) }
+    requires { IfSome answer (IsAnswerOf F.reads expected.now shelf.now folder) }
+    ensures { IfOk result (IsFolderAnswer F.reads expected.now shelf.now folder.entry) }
 {
     match answer {
         Some(answer) => Ok(FolderAnswer::Judged(answer)),
-        None => judge_folder(alloc, folder, shelf),
+        None => judge_folder(alloc, expected, folder, shelf),
     }
 }
 
@@ -84,6 +93,7 @@ fn settled<'a, A: Allocator + Clone, F: TextSource>(
 fn folder_answers<'a, R, A, F>(
     rt: &R,
     alloc: &A,
+    expected: &Option<Expectation<'a>>,
     folders: &[&'a str],
     shelf: &F,
 ) -> Result<Vec<FolderAnswer<'a>, A>, OutOfMemory>
@@ -91,13 +101,14 @@ where
     R: Threads + Sync,
     A: Allocator + Clone + Sync,
     F: TextSource + Sync,
-    ensures { IfOk result (λ answers. AllZip (IsFolderAnswer F.reads shelf.now) folders.now answers.items) }
+    ensures { IfOk result (λ answers.
+        AllZip (IsFolderAnswer F.reads expected.now shelf.now) folders.now answers.items) }
 {
     let mut known = no_answers(alloc.clone()?, folders.len())?;
-    judge_at_once(rt, alloc, folders, shelf, &mut known);
+    judge_at_once(rt, alloc, expected, folders, shelf, &mut known);
     let mut answers = Vec::with_capacity(alloc.clone()?, folders.len())?;
     for (i, folder) in folders.iter().enumerate() {
-        answers.push(settled(alloc, known[i], folder, shelf)?)?;
+        answers.push(settled(alloc, expected, known[i], folder, shelf)?)?;
     }
     Ok(answers)
 }
@@ -111,7 +122,8 @@ fn folder_texts<A: Allocator + Clone>(
 ) -> Result<MemorySink<A>, OutOfMemory>
     requires number { length answers.now ≡ length folders.now }
     requires tellable { AreTellable answers.now }
-    ensures { IfOk result (λ text. AreFolderTexts form folders.now answers.now text.bytes) }
+    ensures { IfOk result (λ text.
+        AreTold (λ folder. IsFolderText form folder.now) folders.now answers.now text.bytes) }
 {
     let mut text = MemorySink::new(alloc.clone()?);
     for i in 0..folders.len() {
@@ -130,11 +142,11 @@ fn unread<'a>(alloc: Global, answers: &[FolderAnswer<'a>]) -> Result<Vec<FileNam
         .collect(alloc)
 }
 
-/// Whether an answer is no.
+/// Whether one of these answers is no.
 fn has_no(answers: &[FolderAnswer<'_>]) -> bool
     ensures { result ≡ list_any is_no answers.now }
 {
-    answers.iter().any(|answer| matches!(answer, FolderAnswer::Judged(Answer::No(_))))
+    answers.iter().any(|answer| answer.is_no())
 }
 
 /// The status of what comes of folders: yes where no answer is no.
@@ -153,6 +165,7 @@ fn tell_some<'a, R, A, F, W>(
     rt: &R,
     alloc: &A,
     form: Form,
+    expected: &Option<Expectation<'a>>,
     folders: &[&'a str],
     shelf: &F,
     out: &mut W,
@@ -163,10 +176,11 @@ where
     F: TextSource + Sync,
     W: Sink,
     ensures { MatchResult result
-        (λ answers. TellsSome F.reads form shelf.now folders.now (W.state out.old) (W.state out.new) answers.items)
-        (IsUntold F.reads form shelf.now folders.now (W.state out.old) (W.state out.new)) }
+        (λ answers. TellsSome (IsJudgedLine F.reads form expected.now shelf.now) folders.now (W.state out.old)
+        (W.state out.new) answers.items)
+        (IsUntold (IsJudgedLine F.reads form expected.now shelf.now) folders.now (W.state out.old) (W.state out.new)) }
 {
-    let answers = folder_answers(rt, alloc, folders, shelf)?;
+    let answers = folder_answers(rt, alloc, expected, folders, shelf)?;
     let text = folder_texts(alloc.clone()?, form, folders, &answers)?;
     match write_bytes(text.bytes(), out) {
         Ok(()) => Ok(answers),
@@ -174,12 +188,13 @@ where
     }
 }
 
-/// Judges the logs in each of some folders, and prints what comes of them in their order: of as many as threads run at a
-/// time once these are judged.
+/// Judges the logs in each of some folders, of whose elections this is expected, and prints what comes of them in their
+/// order: of as many as threads run at a time once these are judged.
 pub(crate) fn judge_each<'a, R, A, F, W>(
     rt: &R,
     alloc: A,
     form: Form,
+    expected: &Option<Expectation<'a>>,
     folders: &[&'a str],
     shelf: &F,
     out: &mut W,
@@ -189,13 +204,13 @@ where
     A: Allocator + Clone + Send + Sync,
     F: Shelf + Sync,
     W: Sink,
-    ensures { JudgesEach F.reads form folders.now shelf.now (W.state out.old) (W.state out.new) result }
+    ensures { JudgesEach F.reads form expected.now folders.now shelf.now (W.state out.old) (W.state out.new) result }
 {
     let size = thread_count(rt);
     let mut answers = Vec::new(alloc.clone()?);
     while answers.len() < folders.len() {
         let some = chunk_from(folders, answers.len(), size);
-        answers.append(&mut tell_some(rt, &alloc, form, some, shelf, out)?)?;
+        answers.append(&mut tell_some(rt, &alloc, form, expected, some, shelf, out)?)?;
     }
     let unread = unread(rt.alloc(), &answers)?;
     if unread.is_empty() {

@@ -44,7 +44,7 @@ pub(crate) fn judge_input<'a, A: Allocator + Clone, I: Read>(
 }
 
 /// What words expect of an election.
-fn expected_by<'t>(expectation: &'t Expectation<'_>, read: &'t [u64]) -> Expected<'t>
+pub(crate) fn expected_by<'t>(expectation: &'t Expectation<'_>, read: &'t [u64]) -> Expected<'t>
     ensures { IsExpectedBy expectation.now read.now result }
 {
     match expectation {
@@ -54,7 +54,9 @@ fn expected_by<'t>(expectation: &'t Expectation<'_>, read: &'t [u64]) -> Expecte
 }
 
 /// The leaders that are expected, if some are.
-fn expected_leaders<'t, 'a>(expected: &'t Option<Expectation<'a>>) -> Option<&'t AskedLeaders<'a>>
+pub(crate) fn expected_leaders<'t, 'a>(
+    expected: &'t Option<Expectation<'a>>,
+) -> Option<&'t AskedLeaders<'a>>
     ensures { option_map (λ asked. asked.now) result ≡ leaders_expected expected.now }
 {
     match expected {

@@ -13,6 +13,7 @@ mod guide;
 mod input_audit;
 mod judge_each;
 mod judge_files;
+mod judged_folder;
 mod leaders_file;
 mod left_files;
 mod log_files;

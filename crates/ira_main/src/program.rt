@@ -85,15 +85,22 @@ where
     match request {
         Request::OneLog => Progress::Ended(deliver(judge_input(alloc, input), out)),
         Request::Logs(logs) => {
-            if let Some(folders) = several_folders(&logs, shelf) {
+            if let Some(folders) = several_folders(&logs.logs, shelf) {
                 let form = Form::of_json(logs.is_json);
-                return Progress::Ended(judge_each(rt, alloc, form, folders, shelf, out));
+                let expected = &logs.expected;
+                return Progress::Ended(judge_each(rt, alloc, form, expected, folders, shelf, out));
             }
             Progress::Ended(deliver(judge_logs(rt, alloc, &logs, shelf), out))
         }
-        Request::Each(EachRequest { is_json, folders }) => {
+        Request::Each(
+            EachRequest {
+                is_json,
+                expected,
+                folders,
+            },
+        ) => {
             let form = Form::of_json(is_json);
-            Progress::Ended(judge_each(rt, alloc, form, &folders, shelf, out))
+            Progress::Ended(judge_each(rt, alloc, form, &expected, &folders, shelf, out))
         }
         Request::Explain(ExplainRequest { answer, is_json }) => {
             let form = Form::of_json(is_json);

@@ -4,12 +4,12 @@ ghost use Rattle.ira_main_files.specs.declared.file_name.FileName.TheVariants.{G
 ghost use Rattle.ira_main_files.specs.FileName.{log_name};
 ghost use Rattle.ira_main.specs.FilesRead.{IsFilesFault};
 ghost use Rattle.ira_main.specs.SourceNames.{AreFileNames, AreFolders, AreSeveralFolders, HasFolderNames, HasNames, HasNoFolder};
-ghost use Rattle.ira_main.specs.SourceNames.{IsLoneFolder, IsNamesFault, NamesOneRing, SaysLogs};
+ghost use Rattle.ira_main.specs.SourceNames.{IsLoneFolder, IsNamesFault, IsOfOneRing, SaysLogs};
 
 use crate::program_fault::ProgramFault;
 use crate::read_files::read_file;
 use ira_event::open_log;
-use ira_main_cli::{LogSource, LogsRequest};
+use ira_main_cli::LogSource;
 use ira_main_files::{FileEntry, FileName, TextSource};
 use std::alloc::{AllocError, Allocator};
 
@@ -90,17 +90,14 @@ fn are_folders<F: TextSource>(names: &[&str], shelf: &F) -> bool
 
 /// The folders that are named where names of files are due, where there are several and each is to be judged.
 pub(crate) fn several_folders<'t, 'a, F: TextSource>(
-    request: &'t LogsRequest<'a>,
+    source: &'t LogSource<'a>,
     shelf: &F,
 ) -> Option<&'t [&'a str]>
     ensures { MatchOption result
-        (NamesOneRing F.reads shelf.now request.now)
-        (λ folders. AreSeveralFolders F.reads shelf.now request.now folders.now) }
+        (IsOfOneRing F.reads shelf.now source.now)
+        (λ folders. AreSeveralFolders F.reads shelf.now source.now folders.now) }
 {
-    if request.expected.is_some() {
-        return None;
-    }
-    match &request.logs {
+    match source {
         LogSource::Files(names) if names.len() < 2 => None,
         LogSource::Files(names) if are_folders(names, shelf) => Some(names),
         LogSource::Files(_) | LogSource::Folder(_) => None,

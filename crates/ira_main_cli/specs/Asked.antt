@@ -161,9 +161,10 @@ pub record HasFolders (rows : List Row) (folders : List (Bor Text)) : Type 0 whe
   pub named : All (λ folder. folder.now ≢ []) folders
   pub folder : IsLeftOut (codes "dir") rows
 
--- the same where `--each` is given
+-- the same where `--each` is given, with what is expected of each election
 pub record HasFoldersToJudge (rows : List Row) (request : EachRequest) : Type 0 where
   pub json : request.is_json ≡ is_given (codes "json") rows
+  pub expected : HasExpectation rows request.expected
   pub each : is_given (codes "each") rows ≡ true
   pub folders : HasFolders rows request.folders.items
 
@@ -174,12 +175,10 @@ pub record NamesFolders (rows : List Row) : Type 0 where
   pub given : all_of (codes "LOG") rows ≡ Some names
   pub named : All (λ name. name ≢ []) names
 
--- where each folder is to be judged folders are named, and nothing more is asked of them, and else logs are
+-- where each folder is to be judged folders are named, and else logs are
 pub record NamesLogsToJudge (rows : List Row) : Type 0 where
   pub logs : NamesLogs rows
   pub expected : NamesExpectation rows
-  pub over : is_given (codes "each") rows ≡ true → is_given (codes "over") rows ≡ false
-  pub leaders : is_given (codes "each") rows ≡ true → IsLeftOut (codes "leads") rows
   pub folders : is_given (codes "each") rows ≡ true → NamesFolders rows
 
 -- the request has the values of these options, and the logs that are named beside them; events and JSON are wanted

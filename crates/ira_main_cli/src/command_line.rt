@@ -49,7 +49,7 @@ use std::alloc::{AllocError, Global};
 
 const USAGE: &str =
     "ira < LOG\n       ira logs [--over | --leads <P,..|any|FILE>] [--json] <LOGS>\n       \
-    ira logs --each [--json] <DIR>...\n       \
+    ira logs --each [--over | --leads <P,..|any|FILE>] [--json] <DIR>...\n       \
     ira explain [--json] [<LOGS>]\n       \
     ira explain --question <Q> [--case <K> | --cert <C>] [--json] <LOGS>\n       \
     ira show [OPTIONS] <LOGS>\n       \
@@ -417,11 +417,11 @@ fn logs<'a>(alloc: Global, matches: &ArgMatches<'a>) -> Result<Request<'a>, Opti
     let is_json = flag(matches, "json");
     let expected = expectation(alloc, matches)?;
     if flag(matches, "each") {
-        if expected.is_some() {
-            return Err(OptionsFault::EachAndExpected);
-        }
-        let folders = folders(alloc, matches)?;
-        return Ok(Request::Each(EachRequest { is_json, folders }));
+        return Ok(Request::Each(EachRequest {
+            is_json,
+            expected,
+            folders: folders(alloc, matches)?,
+        }));
     }
     Ok(Request::Logs(LogsRequest {
         is_json,

@@ -13,8 +13,6 @@ pub enum OptionsFault {
     Folders,
     /// One of the folders to be judged each has an empty name.
     EmptyFolder,
-    /// Folders are to be judged each, and something is expected of their elections.
-    EachAndExpected,
     /// It is asked whether an election is over, and who leads then.
     OverAndLeads,
     /// A case is named, and no question.
@@ -44,7 +42,6 @@ impl OptionsFault {
         match self {
             OptionsFault::Sources
             | OptionsFault::Folders
-            | OptionsFault::EachAndExpected
             | OptionsFault::OverAndLeads
             | OptionsFault::CaseAndCertificate
             | OptionsFault::CutAndQuestion => ErrorKind::ArgumentConflict,
@@ -64,7 +61,6 @@ impl OptionsFault {
             OptionsFault::Sources => "the logs are named either by <LOG>... or by --dir <DIR>",
             OptionsFault::Folders => "--each takes the names of folders alone: --each <DIR>...",
             OptionsFault::EmptyFolder => "--each takes names of folders, and none is empty",
-            OptionsFault::EachAndExpected => "--each goes with neither --over nor --leads",
             OptionsFault::OverAndLeads => "--over and --leads exclude one another",
             OptionsFault::CaseWithoutQuestion => "--case <K> needs --question <Q>",
             OptionsFault::CertificateWithoutQuestion => "--cert <C> needs --question <Q>",

@@ -1,5 +1,5 @@
 use Rattle.std.proofs.Common.{◌+◌, arith, sym, subst, take}
-use Rattle.ira_main.specs.Each.{AreFolderTexts}
+use Rattle.ira_main.specs.Each.{AreTold, IsFolderText}
 use Rattle.ira_main.proofs.Folders.{next_text}
 use Rattle.ira_main.proofs.judge_each.folder_texts.Goals as goal
 
@@ -7,6 +7,7 @@ pub loop-i-preserved : goal.loop-i-preserved
 loop-i-preserved g c =
     let i = c.loop-i.i in
     let it = c.in_ok-add_text.ensures in
-    subst (AreFolderTexts c.args.form (take (i + 1) c.args.folders.now) (take (i + 1) c.args.answers.now)) (sym it.2)
-    (next_text c.args.form c.args.folders.now c.args.answers.now i _ _ c.loop-i.text.bytes it.0 (omega arith)
-    (omega arith) c.loop-i.invariant it.1)
+    subst (AreTold (λ folder. IsFolderText c.args.form folder.now) (take (i + 1) c.args.folders.now)
+    (take (i + 1) c.args.answers.now)) (sym it.2)
+    (next_text (λ folder. IsFolderText c.args.form folder.now) c.args.folders.now c.args.answers.now i _ _
+    c.loop-i.text.bytes it.0 (omega arith) (omega arith) c.loop-i.invariant it.1)

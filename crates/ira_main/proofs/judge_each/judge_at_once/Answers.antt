@@ -1,7 +1,7 @@
 use Rattle.std.proofs.Common.{◌∙◌, Option, Some, IfSome, arith, subst}
 use Rattle.std.proofs.lemmas.Option.{get_or_from_slice_get, slice_get_within}
-use Rattle.ira_audit.specs.declared.answer.Answer.{Answer}
 use Rattle.ira_main.specs.Each.{IsAnswerAt}
+use Rattle.ira_main.specs.declared.judged_folder.JudgedFolder.{JudgedFolder}
 use Rattle.ira_main.proofs.judge_each.judge_at_once.Goals as goal
 
 pub returns : goal.returns
@@ -17,6 +17,6 @@ returns g c =
             slice_get_within news i (Some answer) at,
             c.for_each_mut.auto.s,
           ))).1 in
-          subst (λ (o : Option Answer). IfSome o (IsAnswerAt reads c.args.shelf.now folders i))
+          subst (λ (o : Option JudgedFolder). IfSome o (IsAnswerAt reads c.args.expected.now c.args.shelf.now folders i))
           (changed.left ∙ get_or_from_slice_get news i (Some answer) (Some answer) at) changed.call;
     }

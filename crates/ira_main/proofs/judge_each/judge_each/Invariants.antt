@@ -1,12 +1,12 @@
 use Rattle.std.proofs.Common.{◌-◌, ℕ, List, length, take}
 use Rattle.ira_event.specs.Sink.{Takes}
-use Rattle.ira_main.specs.Each.{AreTold}
+use Rattle.ira_main.specs.Each.{AreTold, IsJudgedLine}
 use Rattle.ira_main.proofs.judge_each.judge_each.Given as goal
 
 abbrev pub invariant-loop-form : goal.invariant-loop-form
 invariant-loop-form g l =
     (first : ℕ) × (text : List ℕ)
-    × AreTold g.F.TextSource.reads l.form l.shelf (take first l.folders) l.answers.items text
+    × AreTold (IsJudgedLine g.F.TextSource.reads l.form l.expected l.shelf) (take first l.folders) l.answers.items text
     × Takes text (g.W.Sink.state l.fn.out) (g.W.Sink.state l.out)
 
 abbrev pub decreases-loop-form : goal.decreases-loop-form

@@ -9,7 +9,7 @@ returns-in_err-write_bytes-in-Judged g c =
 
 pub returns-in_ok-write_bytes-in-Judged : goal.returns-in_ok-write_bytes-in-Judged
 returns-in_ok-write_bytes-in-Judged g c =
-    rw c.in-Judged.is (Wrote-then _ _ _ _ _ _ c.in_ok-write_bytes-in-Judged.ensures c.write_report.ensures)
+    rw c.in-Judged.is (Wrote-then _ _ _ _ _ _ c.in_ok-write_bytes-in-Judged.ensures c.write.ensures)
 
 pub returns-in-Unread : goal.returns-in-Unread
 returns-in-Unread g c = rw c.in-Unread.is c.write_file_named.ensures
