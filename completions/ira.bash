@@ -13,7 +13,7 @@ _ira_options() {
         check) echo --question --cert --depth --json --dir --help ;;
         decide) echo --question --out --json --dir --help ;;
         pairs) echo --help ;;
-        ask) echo --nodes --help ;;
+        ask) echo --nodes --dir --help ;;
         run) echo --nodes --seed --out --initiators --draws --cap --terms --alone --help ;;
         upgrade) echo --out --dir --help ;;
         mend) echo --out --start --lost --dir --help ;;

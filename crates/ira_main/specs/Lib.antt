@@ -1,3 +1,4 @@
+pub mod Ask
 pub mod AskedRun
 pub mod CertFile
 pub mod Delivery

@@ -8,7 +8,6 @@ use Rattle.ira_view.specs.Form.{json_form}
 use Rattle.ira_view.specs.declared.form.Form.{Form}
 use Rattle.ira_commands.specs.Answers.{Answers}
 use Rattle.ira_commands.specs.Judging.{JudgesLog}
-use Rattle.ira_commands.specs.Ask.{AsksSentence}
 use Rattle.ira_commands.specs.Pairs.{AsksPairs}
 use Rattle.ira_commands.specs.Reply.{Reply, Reports}
 use Rattle.ira_commands.specs.Run.{RunsRing}
@@ -38,6 +37,7 @@ use Rattle.ira_main_files.specs.FileName.{file_name}
 use Rattle.ira_main_files.specs.ReadText.{IsReadTo}
 use Rattle.ira_main_files.specs.Shelf.{Reading, Writing}
 use Rattle.ira_main_files.specs.declared.file_name.FileName.{FileName}
+use Rattle.ira_main.specs.Ask.{AsksOf, IsUnasked}
 use Rattle.ira_main.specs.AskedRun.{run_of}
 use Rattle.ira_main.specs.Delivery.{Tells, TellsAndKeeps, TellsAndRecords}
 use Rattle.ira_main.specs.Draw.{DrawsFiles, IsUndrawn}
@@ -133,7 +133,7 @@ pub data CommandOutcome (A : Type 0) {S : Type 0} (reads : Reading S) (writes : 
   pairs : (nodes : ℕ) → IsPairsLine words nodes → shelf' ≡ shelf → Tells (AsksPairs nodes) IsNoMemory out out' outcome
       → CommandOutcome A reads writes words shelf shelf' out out' outcome
   asked : (ask : AskRequest) → IsAskLine words ask → shelf' ≡ shelf
-      → Tells (AsksSentence ask.nodes ask.sentence.now) IsNoMemory out out' outcome
+      → Tells (AsksOf reads ask shelf) (IsUnasked reads ask.size shelf) out out' outcome
       → CommandOutcome A reads writes words shelf shelf' out out' outcome
   recorded : (request : RunRequest) → IsRunLine words request
       → TellsAndRecords writes request.folder (RunsRing request.is_alone (run_of request)) IsNoMemory

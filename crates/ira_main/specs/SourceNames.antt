@@ -59,11 +59,15 @@ abbrev pub IsOfOneRing : {S : Type 0} → Reading S → S → LogSource → Type
 IsOfOneRing reads shelf (Files words) = (length words.items < 2) ⊎ HasNoFolder reads shelf words.items
 IsOfOneRing reads shelf (Folder folder) = ⊤
 
--- the names of the first logs in a folder, as many as the text that was read of its first one says
+-- there are so many logs in a folder, as the text says that was read of its first one
+abbrev pub SaysLogsIn : {S : Type 0} → Reading S → S → Bor (List ℕ) → ℕ → Type 0
+SaysLogsIn reads shelf folder number =
+    (text : List ℕ) × reads.text shelf (log_name folder.now 0) (Ok text) × SaysLogs text number
+
+-- the names of these
 abbrev pub HasFolderNames : {S : Type 0} → Reading S → S → Bor (List ℕ) → List FileName → Type 0
-HasFolderNames reads shelf folder names =
-    (text : List ℕ) × reads.text shelf (log_name folder.now 0) (Ok text)
-    × (number : ℕ) × SaysLogs text number × (names ≡ map (λ place. Log folder place) (range_with_len 0 number))
+HasFolderNames reads shelf folder names = (number : ℕ) × SaysLogsIn reads shelf folder number
+    × (names ≡ map (λ place. Log folder place) (range_with_len 0 number))
 
 -- the names of the logs of a source: those that are given, or those in a folder
 abbrev pub HasNames : {S : Type 0} → Reading S → S → LogSource → List FileName → Type 0

@@ -24,6 +24,7 @@ const COMMANDS_GUIDE: &[u8] = b"\
     ira decide --question <Q> [--out <C>] [--json] <LOGS>
     ira pairs <N>
     ira ask --nodes <N> <SENTENCE>
+    ira ask --dir <DIR> <SENTENCE>
     ira run --nodes <N> --seed <S> --out <DIR> [OPTIONS]
     ira upgrade --out <DIR> <LOGS>
     ira mend --out <DIR> [--start <S>] [--lost <P,..>] <LOGS>

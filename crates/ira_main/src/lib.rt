@@ -2,6 +2,7 @@
 #![tactic(auto)]
 
 mod answer_files;
+mod ask_files;
 mod asked_run;
 mod cert_file;
 mod delivery;

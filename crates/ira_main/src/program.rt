@@ -1,6 +1,5 @@
 ghost use Rattle.std.specs.Prelude.{◌≡◌, ◌≤◌, ◌+◌, ℕ, List, MatchResult, map};
 ghost use Rattle.ira_event.specs.Sink.{SinkState};
-ghost use Rattle.ira_commands.specs.Ask.{AsksSentence};
 ghost use Rattle.ira_commands.specs.Pairs.{AsksPairs};
 ghost use Rattle.ira_main_files.specs.Shelf.{writing_by};
 ghost use Rattle.ira_main.specs.Given.{IsNoMemory};
@@ -10,6 +9,7 @@ ghost use Rattle.ira_main.specs.Unread.{IsWhy, TellsUnread, wants_json};
 ghost use Rattle.ira_main.specs.Serve.{Serves};
 
 use crate::answer_files::answer_files;
+use crate::ask_files::ask_files;
 use crate::asked_run::{record_run_alone, record_run_on_threads};
 use crate::delivery::{deliver, deliver_and_keep, record_and_deliver};
 use crate::draw_files::draw_files;
@@ -27,10 +27,10 @@ use crate::tell_unread::tell_unread;
 use crate::tell_why::why_unread;
 use crate::upgrade_files::upgrade_files;
 use crate::version::print_version;
-use ira_commands::{LogsCommand, Reply, ask_pairs, ask_sentence};
+use ira_commands::{LogsCommand, Reply, ask_pairs};
 use ira_event::{MAX_TEXT, Sink};
 use ira_main_cli::{
-    AskRequest, CaseSelection, EachRequest, ExplainRequest, ExplainedAnswer, Request, read_words,
+    CaseSelection, EachRequest, ExplainRequest, ExplainedAnswer, Request, read_words,
 };
 use ira_main_files::{CountingReader, Shelf};
 use ira_view::{Form, Status};
@@ -45,16 +45,6 @@ fn pairs<'a, A: Allocator + Clone>(alloc: A, nodes: u64) -> Result<Reply<A>, Pro
     ensures { MatchResult result (AsksPairs nodes) IsNoMemory }
 {
     Ok(ask_pairs(alloc, nodes)?)
-}
-
-// The question that a sentence stands for.
-fn ask<'a, A: Allocator + Clone>(
-    alloc: A,
-    asked: &AskRequest<'a>,
-) -> Result<Reply<A>, ProgramFault<'a>>
-    ensures { MatchResult result (AsksSentence asked.now.nodes asked.now.sentence.now) IsNoMemory }
-{
-    Ok(ask_sentence(alloc, asked.nodes, asked.sentence.as_bytes())?)
 }
 
 /// Does what the words ask for, unless that waits: it leaves a check, the evidence of one, and a run with a thread for
@@ -150,7 +140,7 @@ where
             Progress::Ended(deliver_and_keep(reply, decide.certificate, shelf, out))
         }
         Request::Pairs(nodes) => Progress::Ended(deliver(pairs(alloc, nodes), out)),
-        Request::Ask(asked) => Progress::Ended(deliver(ask(alloc, &asked), out)),
+        Request::Ask(asked) => Progress::Ended(deliver(ask_files(alloc, &asked, shelf), out)),
         Request::Run(ring) => {
             if ring.is_alone {
                 let reply = record_run_alone(&alloc, &ring);

@@ -4,7 +4,7 @@ ghost use Rattle.ira_main_files.specs.declared.file_name.FileName.TheVariants.{G
 ghost use Rattle.ira_main_files.specs.FileName.{log_name};
 ghost use Rattle.ira_main.specs.FilesRead.{IsFilesFault};
 ghost use Rattle.ira_main.specs.SourceNames.{AreFileNames, AreFolders, AreSeveralFolders, HasFolderNames, HasNames, HasNoFolder};
-ghost use Rattle.ira_main.specs.SourceNames.{IsLoneFolder, IsNamesFault, IsOfOneRing, SaysLogs};
+ghost use Rattle.ira_main.specs.SourceNames.{IsLoneFolder, IsNamesFault, IsOfOneRing, SaysLogs, SaysLogsIn};
 
 use crate::program_fault::ProgramFault;
 use crate::read_files::read_file;
@@ -104,7 +104,20 @@ pub(crate) fn several_folders<'t, 'a, F: TextSource>(
     }
 }
 
-/// The names of the logs in a folder. The first is read, which says how many there are; it is read again with the others.
+/// How many logs there are in a folder, as the first says, which is read.
+pub(crate) fn logs_in<'a, A: Allocator + Clone, F: TextSource>(
+    alloc: &A,
+    folder: &'a str,
+    shelf: &F,
+) -> Result<u8, ProgramFault<'a>>
+    ensures { MatchResult result (SaysLogsIn F.reads shelf.now folder.entry)
+        (IsFilesFault F.reads (log_name folder.now 0 ∷ []) shelf.now) }
+{
+    let first = read_file(alloc, FileName::Log(folder, 0), shelf)?;
+    Ok(number_of_logs(first.bytes()))
+}
+
+/// The names of the logs in a folder. The first is read again with the others.
 fn folder_names<'a, A: Allocator + Clone, F: TextSource>(
     alloc: &A,
     folder: &'a str,
@@ -113,8 +126,7 @@ fn folder_names<'a, A: Allocator + Clone, F: TextSource>(
     ensures { MatchResult result (λ names. HasFolderNames F.reads shelf.now folder.entry names.items)
         (IsFilesFault F.reads (log_name folder.now 0 ∷ []) shelf.now) }
 {
-    let first = read_file(alloc, FileName::Log(folder, 0), shelf)?;
-    let number = number_of_logs(first.bytes());
+    let number = logs_in(alloc, folder, shelf)?;
     Ok(names_in_folder(alloc.clone()?, folder, number)?)
 }
 

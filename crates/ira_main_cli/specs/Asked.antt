@@ -9,6 +9,8 @@ use Rattle.ira_main_cli.specs.declared.asked_leaders.AskedLeaders.{AskedLeaders}
 use Rattle.ira_main_cli.specs.declared.asked_leaders.AskedLeaders.TheVariants.{Any, File, Places}
 use Rattle.ira_main_cli.specs.declared.asked_moment.AskedMoment.{AskedMoment}
 use Rattle.ira_main_cli.specs.declared.asked_moment.AskedMoment.TheVariants.{AtCut, AtEnd, OfQuestion}
+use Rattle.ira_main_cli.specs.declared.asked_size.AskedSize.{AskedSize}
+use Rattle.ira_main_cli.specs.declared.asked_size.AskedSize.TheVariants as ring
 use Rattle.ira_main_cli.specs.declared.case_selection.CaseSelection.{CaseSelection}
 use Rattle.ira_main_cli.specs.declared.check_request.CheckRequest.{CheckRequest}
 use Rattle.ira_main_cli.specs.declared.decide_request.DecideRequest.{DecideRequest}
@@ -269,9 +271,20 @@ HasTopic rows topic.Logs = first_of (codes "TOPIC") rows ≡ Some (codes "logs")
 abbrev pub NamesTopic : List Row → Type 0
 NamesTopic rows = (topic : GuideTopic) × HasTopic rows topic
 
--- the sentence and the number of nodes are the values of these
+-- how many nodes the ring has is the value of the one option, or said by the folder that is that of the other
+abbrev pub HasSize : List Row → AskedSize → Type 0
+HasSize rows (ring.Nodes nodes) = HasNumber rows (codes "nodes") nodes × IsLeftOut (codes "dir") rows
+HasSize rows (ring.Folder folder) =
+    (first_of (codes "dir") rows ≡ Some folder.now) × IsLeftOut (codes "nodes") rows
+
+-- one of them is given, and not both
+pub record NamesSize (rows : List Row) : Type 0 where
+  pub one : IsLeftOut (codes "nodes") rows ⊎ IsLeftOut (codes "dir") rows
+  pub some : IsLeftOut (codes "nodes") rows → IsLeftOut (codes "dir") rows → ⊥
+
+-- the sentence is the value of this, and how many nodes the ring has is said
 pub record HasSentence (rows : List Row) (ask : AskRequest) : Type 0 where
-  pub nodes : HasNumber rows (codes "nodes") ask.nodes
+  pub size : HasSize rows ask.size
   pub sentence : first_of (codes "SENTENCE") rows ≡ Some ask.sentence.now
 
 -- the ring has the values of these options, at most 100,000 draws, and one thread exactly where `--alone` is given

@@ -104,7 +104,8 @@ pairs_app = command_app (codes "pairs") (required (word_rule (Unsigned 0 1844674
 
 abbrev pub ask_app : App
 ask_app =
-    command_app (codes "ask") (required (number_rule (codes "nodes")) ∷ required (word_rule String (codes "SENTENCE")) ∷ [])
+    command_app (codes "ask")
+    (number_rule (codes "nodes") ∷ folder_rule (codes "dir") ∷ required (word_rule String (codes "SENTENCE")) ∷ [])
 
 abbrev pub run_app : App
 run_app =

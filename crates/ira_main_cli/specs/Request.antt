@@ -7,7 +7,7 @@ use Rattle.clap.specs.declared.parser.matches.ArgMatches.{ArgMatches}
 use Rattle.ira_main_cli.specs.Asked.{HasAnswerToExplain, HasFiles, HasFilesToDecide, HasFilesToRewrite, HasFoldersToJudge}
 use Rattle.ira_main_cli.specs.Asked.{HasLogsToDraw, HasLogsToJudge, HasLogsToMend, HasLogsToShow, HasOptions, HasSentence, HasTopic, IsOfFiles}
 use Rattle.ira_main_cli.specs.Asked.{NamesAnswer, NamesLogs, NamesLogsToDraw, NamesLogsToJudge, NamesLogsToMend}
-use Rattle.ira_main_cli.specs.Asked.{NamesLogsToShow, NamesTopic}
+use Rattle.ira_main_cli.specs.Asked.{NamesLogsToShow, NamesSize, NamesTopic}
 use Rattle.ira_main_cli.specs.CommandLine.{ira_app, rules_named}
 use Rattle.ira_main_cli.specs.Options.{HasNumber}
 use Rattle.ira_main_cli.specs.declared.ask_request.AskRequest.{AskRequest}
@@ -47,6 +47,7 @@ pub record GoTogetherAfter (name : Text) (rows : List Row) : Type 0 where
   pub decide : name ≡ codes "decide" → NamesLogs rows
   pub upgrade : name ≡ codes "upgrade" → NamesLogs rows
   pub mend : name ≡ codes "mend" → NamesLogsToMend rows
+  pub ask : name ≡ codes "ask" → NamesSize rows
   pub guide : name ≡ codes "guide" → NamesTopic rows
 
 -- so do those of the words, of which the first names the command
@@ -121,7 +122,7 @@ IsDecideLine words decide = IsCommandLine words (Decide decide)
 abbrev pub IsPairsLine : List Text → ℕ → Type 0
 IsPairsLine words nodes = IsCommandLine words (Pairs nodes)
 
--- `ask`, a number of nodes and a sentence
+-- `ask`, a number of nodes or a folder, and a sentence
 abbrev pub IsAskLine : List Text → AskRequest → Type 0
 IsAskLine words ask = IsCommandLine words (Ask ask)
 

@@ -1,7 +1,8 @@
+use crate::asked_size::AskedSize;
+
 /// A sentence, and the ring of which its question is to be.
 #[derive(Clone, Copy)]
 pub struct AskRequest<'a> {
-    /// How many nodes the ring has: any number, and not only a ring's size.
-    pub nodes: u64,
+    pub size: AskedSize<'a>,
     pub sentence: &'a str,
 }

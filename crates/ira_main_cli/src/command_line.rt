@@ -3,10 +3,10 @@ ghost use Rattle.clap.specs.Words.{app_of, found_of, kind_of, rows_of};
 ghost use Rattle.clap.specs.declared.error.kind.ErrorKind.TheVariants as kind;
 ghost use Rattle.ira_main_cli.specs.Asked.{AsksLogs, HasAnswer, HasAnswerToExplain, HasFiles, HasFilesToDecide, HasFilesToRewrite};
 ghost use Rattle.ira_main_cli.specs.Asked.{HasExpectation, HasFolders, HasLeaders, HasLogs, HasLogsToDraw, HasLogsToMend, HasLogsToShow};
-ghost use Rattle.ira_main_cli.specs.Asked.{HasLost, HasMoment, HasOptions, HasSentence, HasTopic};
+ghost use Rattle.ira_main_cli.specs.Asked.{HasLost, HasMoment, HasOptions, HasSentence, HasSize, HasTopic};
 ghost use Rattle.ira_main_cli.specs.Asked.{MayHaveLogs, MayNameLogs, NamesAnswer, NamesExpectation, NamesFolders};
 ghost use Rattle.ira_main_cli.specs.Asked.{NamesLogs, NamesLogsToDraw, NamesLogsToJudge, NamesLogsToMend, NamesLogsToShow};
-ghost use Rattle.ira_main_cli.specs.Asked.{NamesMoment, NamesStart, NamesTopic, SaysStart};
+ghost use Rattle.ira_main_cli.specs.Asked.{NamesMoment, NamesSize, NamesStart, NamesTopic, SaysStart};
 ghost use Rattle.ira_main_cli.specs.CommandEntry.{with_entry};
 ghost use Rattle.ira_main_cli.specs.CommandLine.{commands, ira_app, ira_top};
 ghost use Rattle.ira_main_cli.specs.FoundOptions.{AreFoundAfter, AreTyped, IsOneOf};
@@ -22,6 +22,7 @@ use crate::argument::Need::{Default, Optional, Required};
 use crate::ask_request::AskRequest;
 use crate::asked_leaders::AskedLeaders;
 use crate::asked_moment::AskedMoment;
+use crate::asked_size::AskedSize;
 use crate::case_selection::CaseSelection;
 use crate::check_request::CheckRequest;
 use crate::command_entry::CommandEntry;
@@ -58,6 +59,7 @@ const USAGE: &str =
     ira decide --question <Q> [--out <C>] [--json] <LOGS>\n       \
     ira pairs <N>\n       \
     ira ask --nodes <N> <SENTENCE>\n       \
+    ira ask --dir <DIR> <SENTENCE>\n       \
     ira run --nodes <N> --seed <S> --out <DIR> [OPTIONS]\n       \
     ira upgrade --out <DIR> <LOGS>\n       \
     ira mend --out <DIR> [--start <S>] [--lost <P,..>] <LOGS>\n       \
@@ -256,7 +258,8 @@ const COMMANDS: &[CommandEntry] = &[
         name: "ask",
         about: "Prints the question whether a sentence on the nodes of a ring ever holds",
         arguments: &[
-            Argument("nodes", Value("N", NUMBER), Required, NODES_HELP),
+            Argument("nodes", Value("N", NUMBER), Optional, NODES_HELP),
+            DIR,
             Argument("SENTENCE", Word(TEXT), Required, SENTENCE_HELP),
         ],
     },
@@ -615,15 +618,34 @@ fn decide<'a>(alloc: Global, matches: &ArgMatches<'a>) -> Result<DecideRequest<'
     })
 }
 
-/// The sentence whose question is asked for.
-fn ask<'a>(matches: &ArgMatches<'a>) -> AskRequest<'a>
-    requires { AreFoundAfter (codes "ask") (rows_of (found_of matches.now)) }
-    ensures { HasSentence (rows_of (found_of matches.now)) result }
+/// How many nodes the ring has that is asked about.
+fn asked_size<'a>(matches: &ArgMatches<'a>) -> Result<AskedSize<'a>, OptionsFault>
+    requires { AreTyped (rows_of (found_of matches.now)) }
+    ensures found { IfOk result (HasSize (rows_of (found_of matches.now))) }
+    ensures refused { IfErr result (λ why. NamesSize (rows_of (found_of matches.now)) → ⊥) }
 {
-    AskRequest {
-        nodes: given_number(matches, "nodes"),
-        sentence: given_text(matches, "SENTENCE"),
+    match number(matches, "nodes") {
+        None => match text(matches, "dir") {
+            None => Err(OptionsFault::Size),
+            Some(folder) => Ok(AskedSize::Folder(folder)),
+        },
+        Some(nodes) => match text(matches, "dir") {
+            None => Ok(AskedSize::Nodes(nodes)),
+            Some(_) => Err(OptionsFault::Size),
+        },
     }
+}
+
+/// The sentence whose question is asked for.
+fn ask<'a>(matches: &ArgMatches<'a>) -> Result<AskRequest<'a>, OptionsFault>
+    requires { AreFoundAfter (codes "ask") (rows_of (found_of matches.now)) }
+    ensures asked { IfOk result (HasSentence (rows_of (found_of matches.now))) }
+    ensures refused { IfErr result (λ why. NamesSize (rows_of (found_of matches.now)) → ⊥) }
+{
+    Ok(AskRequest {
+        size: asked_size(matches)?,
+        sentence: given_text(matches, "SENTENCE"),
+    })
 }
 
 /// The ring to run.
@@ -735,7 +757,7 @@ fn found_request<'a>(
         "check" => Ok(Request::Check(check(alloc, matches)?)),
         "decide" => Ok(Request::Decide(decide(alloc, matches)?)),
         "pairs" => Ok(Request::Pairs(given_number(matches, "N"))),
-        "ask" => Ok(Request::Ask(ask(matches))),
+        "ask" => Ok(Request::Ask(ask(matches)?)),
         "run" => Ok(Request::Run(run(matches))),
         "upgrade" => Ok(Request::Upgrade(rewrite(alloc, matches)?)),
         "mend" => Ok(Request::Mend(mend(alloc, matches)?)),

@@ -25,6 +25,8 @@ pub enum OptionsFault {
     CutAndQuestion,
     /// A value isn't a list of numbers with commas between them, each below 2^64.
     NoNumbers,
+    /// How many nodes a ring has is said both by a number and by a folder, or by neither.
+    Size,
     /// A value is neither of the two kinds of start.
     Start,
     /// There is no guide on what is named.
@@ -44,7 +46,8 @@ impl OptionsFault {
             | OptionsFault::Folders
             | OptionsFault::OverAndLeads
             | OptionsFault::CaseAndCertificate
-            | OptionsFault::CutAndQuestion => ErrorKind::ArgumentConflict,
+            | OptionsFault::CutAndQuestion
+            | OptionsFault::Size => ErrorKind::ArgumentConflict,
             OptionsFault::CaseWithoutQuestion | OptionsFault::CertificateWithoutQuestion => {
                 ErrorKind::MissingRequiredArgument
             }
@@ -70,6 +73,7 @@ impl OptionsFault {
             OptionsFault::NoNumbers => {
                 "--lost <P,..> and --at <N0,N1,..> are numbers with commas between them, as 2,3"
             }
+            OptionsFault::Size => "the ring's size is said either by --nodes <N> or by --dir <DIR>",
             OptionsFault::Start => "--start <S> is initiator or passive",
             OptionsFault::Topic => "guide [TOPIC] is questions or logs",
             OptionsFault::OutOfMemory => "out of memory",

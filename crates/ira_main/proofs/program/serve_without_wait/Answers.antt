@@ -115,7 +115,7 @@ returns-in-Pairs-clause-served g c =
 pub returns-in-Ask-clause-served : goal.returns-in-Ask-clause-served
 returns-in-Ask-clause-served g c =
     let made = subst (IsMadeOf (map (λ w. w.now) c.args.words.now)) c.in-Ask.is c.in-Ok.ensures.made in
-    with_words (some_words _ _ _ made.first) refl (asked _ made refl (told _ _ _ _ _ _ c.ask.ensures
+    with_words (some_words _ _ _ made.first) refl (asked _ made refl (told _ _ _ _ _ _ c.ask_files.ensures
     c.deliver-in-Ask.ensures))
 
 pub returns-then-ring-clause-served : goal.returns-then-ring-clause-served
