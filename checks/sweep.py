@@ -58,6 +58,7 @@ LINES = [
     ["explain", "--question", *ABSENT],
     ["explain", "--question", "active_beside_passive.ask", "0.log", "1.log"],
     ["explain", "--question", "two_leaders.ask", "--cert", "one_step_short.cert", "0.log", "1.log"],
+    ["explain", "--leads", "1", "0.log", "1.log"],
     ["show", "--leads", "1", "0.log", "1.log"],
     ["show", "--leads", "any", "0.log", "1.log"],
     ["show", "--question", "active_beside_passive.ask", "0.log", "1.log"],

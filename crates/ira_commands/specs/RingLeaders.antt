@@ -1,7 +1,8 @@
 -- Who is to lead when the logs of a ring end.
 use Rattle.std.specs.Prelude.{◌≡◌, ℕ, List, [], None, Option, Some}
 use Rattle.ira_event.specs.Log.{Log}
-use Rattle.ira_view.specs.Differences.{AreDifferences, ArePlaces, TellsOfLeader}
+use Rattle.ira_view_page.specs.declared.named_text.NamedText.{NamedText}
+use Rattle.ira_view.specs.Differences.{AreDifferences, AreDifferencesExplained, ArePlaces, TellsOfLeader}
 use Rattle.ira_commands.specs.declared.ring_leaders.RingLeaders.{RingLeaders}
 use Rattle.ira_commands.specs.declared.ring_leaders.RingLeaders.TheVariants.{Any, NotAsked, Places}
 
@@ -23,3 +24,9 @@ abbrev pub AreDifferencesOf : List Log → RingLeaders → List ℕ → Type 0
 AreDifferencesOf logs NotAsked differences = differences ≡ []
 AreDifferencesOf logs Any differences = TellsOfLeader logs differences
 AreDifferencesOf logs (Places places) differences = AreDifferences logs places.now differences
+
+-- why the nodes lead or don't that such lines name, of logs in these files
+abbrev pub AreReasonsOf : List NamedText → List Log → RingLeaders → List ℕ → Type 0
+AreReasonsOf files logs NotAsked why = why ≡ []
+AreReasonsOf files logs Any why = why ≡ []
+AreReasonsOf files logs (Places places) why = AreDifferencesExplained files logs places.now why

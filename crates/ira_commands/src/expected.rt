@@ -94,7 +94,7 @@ fn expected_text<A: Allocator + Clone>(
 }
 
 /// A yes, and what isn't as expected when the logs end.
-fn tell_expected<A: Allocator + Clone>(
+pub(crate) fn tell_expected<A: Allocator + Clone>(
     alloc: A,
     form: Form,
     expected: Expected<'_>,

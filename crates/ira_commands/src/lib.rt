@@ -12,6 +12,7 @@ mod decide;
 mod expected;
 mod explain;
 mod explain_check;
+mod explain_leaders;
 mod explain_question;
 mod files;
 mod given_files;

@@ -1,10 +1,10 @@
 ghost use Rattle.std.specs.Prelude.{◌≡◌, IfOk, MatchOption, option_map};
-ghost use Rattle.ira_commands.specs.RingLeaders.{AreDifferencesOf, AreNoPlaces, named_places};
+ghost use Rattle.ira_commands.specs.RingLeaders.{AreDifferencesOf, AreNoPlaces, AreReasonsOf, named_places};
 
 use ira_audit::GoodLogs;
 use ira_event::OutOfMemory;
-use ira_view::{differences, missing_leader};
-use ira_view_page::{Page, PageText};
+use ira_view::{differences, explain_differences, missing_leader};
+use ira_view_page::{NamedText, Page, PageText};
 use std::alloc::{AllocError, Allocator};
 
 /// Who is to lead when the logs of a ring end.
@@ -33,6 +33,21 @@ impl<'v> RingLeaders<'v> {
             RingLeaders::NotAsked => Ok(Some(Page::new(alloc).finish()?)),
             RingLeaders::Any => Ok(Some(missing_leader(alloc, logs)?)),
             RingLeaders::Places(places) => differences(alloc, logs, places),
+        }
+    }
+
+    /// Why the nodes lead or don't that such lines name, of logs in these files.
+    pub(crate) fn reasons<A: Allocator + Clone>(
+        &self,
+        alloc: A,
+        files: &[NamedText<'_>],
+        logs: &GoodLogs<A>,
+    ) -> Result<PageText<A>, OutOfMemory>
+        ensures { IfOk result (AreReasonsOf files.now logs.now self.now) }
+    {
+        match *self {
+            RingLeaders::NotAsked | RingLeaders::Any => Page::new(alloc).finish(),
+            RingLeaders::Places(places) => explain_differences(alloc, files, logs, places),
         }
     }
 

@@ -22,7 +22,7 @@ use Rattle.ira_main_cli.specs.declared.draw_request.DrawRequest.{DrawRequest}
 use Rattle.ira_main_cli.specs.declared.each_request.EachRequest.{EachRequest}
 use Rattle.ira_main_cli.specs.declared.explain_request.ExplainRequest.{ExplainRequest}
 use Rattle.ira_main_cli.specs.declared.explained_answer.ExplainedAnswer.{ExplainedAnswer}
-use Rattle.ira_main_cli.specs.declared.explained_answer.ExplainedAnswer.TheVariants.{OneLog, Logs, Findings, Certificate}
+use Rattle.ira_main_cli.specs.declared.explained_answer.ExplainedAnswer.TheVariants.{OneLog, Logs, Leaders, Findings, Certificate}
 use Rattle.ira_main_cli.specs.declared.guide_topic.GuideTopic.{GuideTopic}
 use Rattle.ira_main_cli.specs.declared.log_source.LogSource.{LogSource}
 use Rattle.ira_main_cli.specs.declared.logs_request.LogsRequest.{LogsRequest}
@@ -42,7 +42,7 @@ use Rattle.ira_main.specs.AskedRun.{run_of}
 use Rattle.ira_main.specs.Delivery.{Tells, TellsAndKeeps, TellsAndRecords}
 use Rattle.ira_main.specs.Draw.{DrawsFiles, IsUndrawn}
 use Rattle.ira_main.specs.Each.{JudgesEach}
-use Rattle.ira_main.specs.Explain.{ExplainsInput}
+use Rattle.ira_main.specs.Explain.{ExplainsInput, ExplainsLeadersIn, IsUnexplained}
 use Rattle.ira_main.specs.Given.{IsNoMemory, IsUnread, OfFiles}
 use Rattle.ira_main.specs.Guide.{guide_text}
 use Rattle.ira_main.specs.Mend.{IsUnmended, MendsLogs}
@@ -80,6 +80,8 @@ abbrev pub ExplainsAnswer : Type 0 → Form → {S : Type 0} → Reading S → E
 ExplainsAnswer A form reads OneLog shelf out out' outcome = ⊥
 ExplainsAnswer A form reads (Logs source) shelf out out' outcome =
     TellsOfLogs A reads None None source shelf out out' outcome (Explain form)
+ExplainsAnswer A form reads (Leaders named source) shelf out out' outcome =
+    Tells (ExplainsLeadersIn A reads form named source shelf) (IsUnexplained reads named source shelf) out out' outcome
 ExplainsAnswer A form reads (Findings asked source) shelf out out' outcome =
     TellsOfLogs A reads (Some asked.question) None source shelf out out' outcome (ExplainQuestion form asked.case)
 ExplainsAnswer A form reads (Certificate question certificate source) shelf out out' outcome =

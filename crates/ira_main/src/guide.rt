@@ -17,6 +17,7 @@ const COMMANDS_GUIDE: &[u8] = b"\
     ira logs [--over | --leads <P,..|any|FILE>] [--json] <LOGS>
     ira logs --each [--over | --leads <P,..|any|FILE>] [--json] <DIR>...
     ira explain [--json] [<LOGS>]
+    ira explain --leads <P,..|any|FILE> [--json] <LOGS>
     ira explain --question <Q> [--case <K> | --cert <C>] [--json] <LOGS>
     ira show [OPTIONS] <LOGS>
     ira draw --out <FILE> [OPTIONS] <LOGS>

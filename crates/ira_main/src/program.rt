@@ -13,7 +13,7 @@ use crate::ask_files::ask_files;
 use crate::asked_run::{record_run_alone, record_run_on_threads};
 use crate::delivery::{deliver, deliver_and_keep, record_and_deliver};
 use crate::draw_files::draw_files;
-use crate::explain_files::{explain_check_files, explain_input};
+use crate::explain_files::{explain_check_files, explain_input, explain_leaders_files};
 use crate::given::Inputs;
 use crate::guide::print_guide;
 use crate::judge_each::judge_each;
@@ -102,6 +102,10 @@ where
                     let command = LogsCommand::Explain { form };
                     let inputs = Inputs::asked(None, &logs, None);
                     Progress::Ended(deliver(answer_files(rt, alloc, command, inputs, shelf), out))
+                }
+                ExplainedAnswer::Leaders { leaders, logs } => {
+                    let reply = explain_leaders_files(rt, alloc, form, &leaders, &logs, shelf);
+                    Progress::Ended(deliver(reply, out))
                 }
                 ExplainedAnswer::Findings { asked, logs } => {
                     let CaseSelection { question, case } = asked;

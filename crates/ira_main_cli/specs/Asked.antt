@@ -86,6 +86,17 @@ pub record NamesMoment (rows : List Row) : Type 0 where
   pub one : IsLeftOut (codes "at") rows ⊎ IsLeftOut (codes "question") rows
   pub question : IsLeftOut (codes "question") rows → IsLeftOut (codes "case") rows
 
+-- ---- leaders
+
+-- who is to lead: some node, where the option says `any`, or else the nodes of its numbers, or where it lists none those
+-- that the file of this name has; nothing is asked where it is left out
+abbrev pub HasLeaders : List Row → Option AskedLeaders → Type 0
+HasLeaders rows None = IsLeftOut (codes "leads") rows
+HasLeaders rows (Some Any) = first_of (codes "leads") rows ≡ Some (codes "any")
+HasLeaders rows (Some (Places places)) = HasNumbers rows (codes "leads") places.items
+HasLeaders rows (Some (File name)) =
+    (first_of (codes "leads") rows ≡ Some name.now) × (name.now ≢ codes "any") × ¬ WritesNumbers name.now
+
 -- ---- an answer to explain
 
 -- neither a question nor anything of one is named
@@ -98,6 +109,7 @@ pub record AsksNothing (rows : List Row) : Type 0 where
 pub record HasFindings (rows : List Row) (asked : CaseSelection) (logs : LogSource) : Type 0 where
   pub asked_is : HasQuestion rows asked
   pub certificate : IsLeftOut (codes "cert") rows
+  pub leads : IsLeftOut (codes "leads") rows
   pub logs_are : HasLogs rows logs
 
 -- what is named is the question, the certificate and the logs
@@ -105,22 +117,27 @@ pub record HasCertificate (rows : List Row) (question certificate : List ℕ) (l
   pub question_is : first_of (codes "question") rows ≡ Some question
   pub case : IsLeftOut (codes "case") rows
   pub certificate_is : first_of (codes "cert") rows ≡ Some certificate
+  pub leads : IsLeftOut (codes "leads") rows
   pub logs_are : HasLogs rows logs
 
 -- the answer is that of what is named
 abbrev pub HasAnswer : List Row → ExplainedAnswer → Type 0
-HasAnswer rows explained.OneLog = AsksNothing rows × IsLeftOut (codes "dir") rows × (all_of (codes "LOG") rows ≡ None)
-HasAnswer rows (explained.Logs source) = AsksNothing rows × HasLogs rows source
+HasAnswer rows explained.OneLog =
+    AsksNothing rows × HasLeaders rows None × IsLeftOut (codes "dir") rows × (all_of (codes "LOG") rows ≡ None)
+HasAnswer rows (explained.Logs source) = AsksNothing rows × HasLeaders rows None × HasLogs rows source
+HasAnswer rows (explained.Leaders leaders source) =
+    AsksNothing rows × HasLeaders rows (Some leaders) × HasLogs rows source
 HasAnswer rows (explained.Findings asked logs) = HasFindings rows asked logs
 HasAnswer rows (explained.Certificate question certificate logs) = HasCertificate rows question.now certificate.now logs
 
 -- options and names that go together: the logs aren't named by both, a case or a certificate, and not both, is named
--- with a question alone, and a question with logs alone
+-- with a question alone, a question with logs alone, and leaders with logs and no question
 pub record NamesAnswer (rows : List Row) : Type 0 where
   pub logs : MayNameLogs rows
   pub question : IsLeftOut (codes "question") rows → IsLeftOut (codes "case") rows × IsLeftOut (codes "cert") rows
   pub asked_of_logs : IsLeftOut (codes "question") rows ⊎ NamesLogs rows
   pub one : IsLeftOut (codes "case") rows ⊎ IsLeftOut (codes "cert") rows
+  pub leads : IsLeftOut (codes "leads") rows ⊎ (IsLeftOut (codes "question") rows × NamesLogs rows)
 
 -- the answer is that of what is named, and JSON is wanted exactly where `--json` is given
 pub record HasAnswerToExplain (rows : List Row) (explain : ExplainRequest) : Type 0 where
@@ -128,15 +145,6 @@ pub record HasAnswerToExplain (rows : List Row) (explain : ExplainRequest) : Typ
   pub json : explain.is_json ≡ is_given (codes "json") rows
 
 -- ---- the other requests
-
--- who is to lead: some node, where the option says `any`, or else the nodes of its numbers, or where it lists none those
--- that the file of this name has; nothing is asked where it is left out
-abbrev pub HasLeaders : List Row → Option AskedLeaders → Type 0
-HasLeaders rows None = IsLeftOut (codes "leads") rows
-HasLeaders rows (Some Any) = first_of (codes "leads") rows ≡ Some (codes "any")
-HasLeaders rows (Some (Places places)) = HasNumbers rows (codes "leads") places.items
-HasLeaders rows (Some (File name)) =
-    (first_of (codes "leads") rows ≡ Some name.now) × (name.now ≢ codes "any") × ¬ WritesNumbers name.now
 
 -- what is expected of an election: that it is over, where `--over` is given, or who is to lead; both aren't given
 abbrev pub HasExpectation : List Row → Option Expectation → Type 0

@@ -1,7 +1,7 @@
 ghost use Rattle.std.specs.Prelude.{◌≡◌, ◌↔◌, [], IfErr, IfOk, IsTrue, Ok, codes, fold, map, option_map};
 ghost use Rattle.clap.specs.Words.{app_of, found_of, kind_of, rows_of};
 ghost use Rattle.clap.specs.declared.error.kind.ErrorKind.TheVariants as kind;
-ghost use Rattle.ira_main_cli.specs.Asked.{AsksLogs, HasAnswer, HasAnswerToExplain, HasFiles, HasFilesToDecide, HasFilesToRewrite};
+ghost use Rattle.ira_main_cli.specs.Asked.{AsksLogs, AsksNothing, HasAnswer, HasAnswerToExplain, HasFiles, HasFilesToDecide, HasFilesToRewrite};
 ghost use Rattle.ira_main_cli.specs.Asked.{HasExpectation, HasFolders, HasLeaders, HasLogs, HasLogsToDraw, HasLogsToMend, HasLogsToShow};
 ghost use Rattle.ira_main_cli.specs.Asked.{HasLost, HasMoment, HasOptions, HasSentence, HasSize, HasTopic};
 ghost use Rattle.ira_main_cli.specs.Asked.{MayHaveLogs, MayNameLogs, NamesAnswer, NamesExpectation, NamesFolders};
@@ -52,6 +52,7 @@ const USAGE: &str =
     "ira < LOG\n       ira logs [--over | --leads <P,..|any|FILE>] [--json] <LOGS>\n       \
     ira logs --each [--over | --leads <P,..|any|FILE>] [--json] <DIR>...\n       \
     ira explain [--json] [<LOGS>]\n       \
+    ira explain --leads <P,..|any|FILE> [--json] <LOGS>\n       \
     ira explain --question <Q> [--case <K> | --cert <C>] [--json] <LOGS>\n       \
     ira show [OPTIONS] <LOGS>\n       \
     ira draw --out <FILE> [OPTIONS] <LOGS>\n       \
@@ -190,6 +191,7 @@ const COMMANDS: &[CommandEntry] = &[
         name: "explain",
         about: "Judges logs, or one log on standard input, and says why the answer is so",
         arguments: &[
+            LEADS,
             Argument("question", Value("Q", TEXT), Optional, WHY_QUESTION_HELP),
             Argument("case", Value("K", NUMBER), Optional, WHY_CASE_HELP),
             Argument("cert", Value("C", TEXT), Optional, WHY_CERT_HELP),
@@ -459,12 +461,10 @@ fn explained_answer<'a>(
             Some(_) => Err(OptionsFault::CaseWithoutQuestion),
             None => match text(matches, "cert") {
                 Some(_) => Err(OptionsFault::CertificateWithoutQuestion),
-                None => match found_logs(alloc, matches)? {
-                    None => Ok(ExplainedAnswer::OneLog),
-                    Some(logs) => Ok(ExplainedAnswer::Logs(logs)),
-                },
+                None => explained_logs(alloc, matches),
             },
         },
+        Some(_) if text(matches, "leads").is_some() => Err(OptionsFault::LeadsAndQuestion),
         Some(question) => match text(matches, "cert") {
             None => Ok(ExplainedAnswer::Findings {
                 asked: CaseSelection {
@@ -482,6 +482,28 @@ fn explained_answer<'a>(
                 }),
             },
         },
+    }
+}
+
+/// The answer to explain, where no question is named.
+fn explained_logs<'a>(
+    alloc: Global,
+    matches: &ArgMatches<'a>,
+) -> Result<ExplainedAnswer<'a>, OptionsFault>
+    requires typed { AreTyped (rows_of (found_of matches.now)) }
+    requires nothing { AsksNothing (rows_of (found_of matches.now)) }
+    ensures asked { IfOk result (HasAnswer (rows_of (found_of matches.now))) }
+    ensures refused { IfErr result (λ why. NamesAnswer (rows_of (found_of matches.now)) → why ≡ options.OutOfMemory) }
+{
+    match asked_leaders(alloc, matches)? {
+        None => match found_logs(alloc, matches)? {
+            None => Ok(ExplainedAnswer::OneLog),
+            Some(logs) => Ok(ExplainedAnswer::Logs(logs)),
+        },
+        Some(leaders) => Ok(ExplainedAnswer::Leaders {
+            leaders,
+            logs: log_source(alloc, matches)?,
+        }),
     }
 }
 

@@ -1,3 +1,4 @@
+use crate::asked_leaders::AskedLeaders;
 use crate::case_selection::CaseSelection;
 use crate::log_source::LogSource;
 
@@ -8,6 +9,11 @@ pub enum ExplainedAnswer<'a> {
     OneLog,
     /// That of the logs of a ring together.
     Logs(LogSource<'a>),
+    /// The same, and after a yes whether those lead who are to.
+    Leaders {
+        leaders: AskedLeaders<'a>,
+        logs: LogSource<'a>,
+    },
     /// What is found for a question, or for one case of it.
     Findings {
         asked: CaseSelection<'a>,

@@ -15,6 +15,8 @@ pub enum OptionsFault {
     EmptyFolder,
     /// It is asked whether an election is over, and who leads then.
     OverAndLeads,
+    /// A question is named, and who is to lead.
+    LeadsAndQuestion,
     /// A case is named, and no question.
     CaseWithoutQuestion,
     /// A certificate is named, and no question.
@@ -45,6 +47,7 @@ impl OptionsFault {
             OptionsFault::Sources
             | OptionsFault::Folders
             | OptionsFault::OverAndLeads
+            | OptionsFault::LeadsAndQuestion
             | OptionsFault::CaseAndCertificate
             | OptionsFault::CutAndQuestion
             | OptionsFault::Size => ErrorKind::ArgumentConflict,
@@ -65,6 +68,9 @@ impl OptionsFault {
             OptionsFault::Folders => "--each takes the names of folders alone: --each <DIR>...",
             OptionsFault::EmptyFolder => "--each takes names of folders, and none is empty",
             OptionsFault::OverAndLeads => "--over and --leads exclude one another",
+            OptionsFault::LeadsAndQuestion => {
+                "--leads <P,..|any|FILE> and --question <Q> exclude one another"
+            }
             OptionsFault::CaseWithoutQuestion => "--case <K> needs --question <Q>",
             OptionsFault::CertificateWithoutQuestion => "--cert <C> needs --question <Q>",
             OptionsFault::CaseAndCertificate => "--case <K> and --cert <C> exclude one another",

@@ -5,7 +5,9 @@ use Rattle.ira_view_moment.specs.Moment.{AreLeaders, IsMoment, Moment, whole_cut
 use Rattle.ira_view_election.specs.ElectionAt.{SomeNodeLeads, StandsAt}
 use Rattle.ira_view_election.specs.Election.{Standing, over, unfinished_text}
 use Rattle.ira_view_show.specs.Leaders.{differences_text, missing_text}
+use Rattle.ira_view_show.specs.Reasons.{AreReasonsBelow}
 use Rattle.ira_view_show.specs.Summary.{leader_from}
+use Rattle.ira_view_page.specs.declared.named_text.NamedText.{NamedText}
 
 -- each node that is to lead is one of the ring
 abbrev pub ArePlaces : List Log → List ℕ → Type 0
@@ -17,6 +19,12 @@ pub record AreDifferences (logs : List Log) (named differences : List ℕ) : Typ
   pub is_end : IsMoment logs (whole_cut logs) moment
   pub text : differences ≡ differences_text named moment.nodes
   pub none : (differences ≡ []) ↔ AreLeaders moment named
+
+-- why the nodes lead or don't then that have such a line, of logs in these files
+pub record AreDifferencesExplained (files : List NamedText) (logs : List Log) (named text : List ℕ) : Type 0 where
+  pub moment : Moment
+  pub is_end : IsMoment logs (whole_cut logs) moment
+  pub why : AreReasonsBelow files logs moment named text
 
 -- the line that no node leads when the logs end: none exactly where some node leads then
 pub record TellsOfLeader (logs : List Log) (differences : List ℕ) : Type 0 where

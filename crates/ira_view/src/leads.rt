@@ -1,32 +1,20 @@
-ghost use Rattle.std.specs.Prelude.{◌≡◌, ◌≤◌, ℕ, Contains, IfOk, MatchOption};
-ghost use Rattle.ira_view.specs.Differences.{AreDifferences, ArePlaces, TellsOfLeader, TellsUnfinished};
+ghost use Rattle.std.specs.Prelude.{◌≡◌, IfOk, MatchOption, nat_lt};
+ghost use Rattle.std.specs.List.{list_all};
+ghost use Rattle.ira_view.specs.Differences.{AreDifferences, AreDifferencesExplained, ArePlaces, TellsOfLeader, TellsUnfinished};
 
 use ira_audit::GoodLogs;
 use ira_event::OutOfMemory;
 use ira_view_election::{election_at_end, print_unfinished};
 use ira_view_moment::Moment;
-use ira_view_page::{Page, PageText};
-use ira_view_show::{leader_missing, leads_differ};
-use std::alloc::{AllocError, Allocator};
+use ira_view_page::{NamedText, Page, PageText};
+use ira_view_show::{explain_leads, leader_missing, leads_differ};
+use std::alloc::Allocator;
 
-/// The numbers as places of a ring of so many nodes, where each is one.
-fn places<A: Allocator>(
-    alloc: A,
-    named: &[u64],
-    nodes: u8,
-) -> Result<Option<Vec<u8, A>>, AllocError>
-    ensures { IfOk result (λ found. MatchOption found
-        ((place : ℕ) × Contains named.now place × (nodes ≤ place))
-        (λ places. places.items ≡ named.now)) }
+/// Whether the numbers are places of a ring of so many nodes.
+fn are_places(named: &[u64], nodes: u8) -> bool
+    ensures { result ≡ list_all (λ place. nat_lt place nodes) named.now }
 {
-    let mut places = Vec::with_capacity(alloc, named.len())?;
-    for place in named {
-        if *place >= u64::from(nodes) {
-            return Ok(None);
-        }
-        places.push(*place as u8)?;
-    }
-    Ok(Some(places))
+    named.iter().all(|place| *place < u64::from(nodes))
 }
 
 /// A line for each node of which those that are named say otherwise than the logs whether it leads at their end.
@@ -40,11 +28,25 @@ pub fn differences<A: Allocator + Clone>(
         (¬ (ArePlaces logs.now named.now)) (AreDifferences logs.now named.now)) }
 {
     let logs = logs.logs();
-    let Some(places) = places(alloc.clone()?, named, logs.size().get())? else {
+    if !are_places(named, logs.size().get()) {
         return Ok(None);
-    };
+    }
     let moment = Moment::at_end(alloc.clone()?, logs)?;
-    Ok(Some(leads_differ(alloc, &moment, &places)?))
+    Ok(Some(leads_differ(alloc, &moment, named)?))
+}
+
+/// Why the nodes lead or don't that have such a line, of logs in these files.
+pub fn explain_differences<A: Allocator + Clone>(
+    alloc: A,
+    files: &[NamedText<'_>],
+    logs: &GoodLogs<A>,
+    named: &[u64],
+) -> Result<PageText<A>, OutOfMemory>
+    ensures { IfOk result (AreDifferencesExplained files.now logs.now named.now) }
+{
+    let logs = logs.logs();
+    let moment = Moment::at_end(alloc.clone()?, logs)?;
+    explain_leads(alloc, files, logs, &moment, named)
 }
 
 /// A line where no node leads when the logs end.

@@ -32,7 +32,7 @@ pub use findings_view::FindingsView;
 pub use form::Form;
 pub use html::{refused_html, refused_lines, ring_html};
 pub use ira_view_explain_question::AskedFiles;
-pub use leads::{differences, missing_leader, unfinished_election};
+pub use leads::{differences, explain_differences, missing_leader, unfinished_election};
 pub use mended_lines::write_mended;
 pub use posed_check::{PosedCheck, explain_checked, pose_check};
 pub use question::{explain_certified, explain_findings};

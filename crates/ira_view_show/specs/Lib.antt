@@ -9,6 +9,8 @@ pub mod Leaders
 pub mod Listed
 pub mod MomentText
 pub mod NodeLines
+pub mod OwnReceipt
+pub mod Reasons
 pub mod RoundLines
 pub mod Showed
 pub mod Summary

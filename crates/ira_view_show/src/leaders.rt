@@ -14,17 +14,17 @@ use ira_view_page::{Leads, Page, PageText};
 use std::alloc::Allocator;
 
 /// Whether a node in the phase leads.
-fn is_leader(phase: Phase) -> bool
+pub(crate) fn is_leader(phase: Phase) -> bool
     ensures { result ≡ is_leader phase }
 {
     matches!(phase, Phase::Leader { .. })
 }
 
 /// Whether a place is named.
-fn is_named(named: &[u8], place: u8) -> bool
+pub(crate) fn is_named(named: &[u64], place: u8) -> bool
     ensures { result ≡ list_any (λ n. n == place) named.now }
 {
-    named.iter().any(|n| *n == place)
+    named.iter().any(|n| *n == u64::from(place))
 }
 
 /// Adds that a node is about to draw, where it is.
@@ -71,7 +71,7 @@ fn compare<A: Allocator>(
 pub fn leads_differ<A: Allocator, M: Allocator>(
     alloc: A,
     moment: &Moment<M>,
-    named: &[u8],
+    named: &[u64],
 ) -> Result<PageText<A>, OutOfMemory>
     ensures text { IfOk result (λ text. text ≡ differences_text named.now moment.now.nodes) }
     ensures none { IfOk result (λ text. (text ≡ []) ↔ AreLeaders moment.now named.now) }

@@ -1,24 +1,29 @@
-use Rattle.std.proofs.Common.{ap, arith, length}
+use Rattle.std.proofs.Common.{◌≡◌, ◌∙◌, ◌<◌, ℕ, Contains, List, [], ◌∷◌, ap, arith, length, nat_lt, refl, suc, true}
+use Rattle.std.specs.List.{list_all}
+use Rattle.std.proofs.lemmas.Bool.{and_from, both_ways}
+use Rattle.std.proofs.lemmas.Bool.Decides.{nat_tests}
 use Rattle.ira_view.proofs.leads.differences.Goals as goal
 
-pub returns-in_default : goal.returns-in_default
-returns-in_default g c =
-    let found = rw c.in_default.is at c.in_ok-places.ensures in
-    λ are. omega (
-      arith,
-      are found.0 found.1,
-      found.2,
-      c.get.ensures.value,
-      c.size.ensures.value,
-      ap length c.logs-logs.ensures.value,
-    )
+-- numbers each of which is below another pass the test
+all_below : (n : ℕ) (xs : List ℕ) → ((x : ℕ) → Contains xs x → x < n) → list_all (λ x. nat_lt x n) xs ≡ true
+all_below n [] below = refl
+all_below n (x ∷ xs) below =
+    let first : x < n = below x (0, omega arith, refl) in
+    and_from (nat_lt x n) (list_all (λ y. nat_lt y n) xs) (grind (arith, nat_tests, first))
+    (all_below n xs (λ y has. below y (suc has.0, omega (arith, has.1), has.2)))
+
+pub returns-then-not-are_places : goal.returns-then-not-are_places
+returns-then-not-are_places g c = λ are.
+    let nodes : length c.args.logs.now ≡ c.get.result =
+    omega (arith, c.get.ensures.value, c.size.ensures.value, ap length c.logs-logs.ensures.value) in
+    let all = all_below c.get.result c.args.named.now
+    (λ place named. (let within = are place named in omega (arith, within, nodes))) in
+    both_ways c.are_places.result c.if-not-are_places.true (c.are_places.ensures ∙ all)
 
 pub returns : goal.returns
-returns g c =
-    let places = rw c.in-Some.is at c.in_ok-places.ensures in
-    record {
-      moment = c.in_ok-moment.moment;
-      is_end = rw c.logs-logs.ensures.value at c.in_ok-moment.ensures;
-      text = rw (c.deref.ensures.value, places) at c.in_ok-leads_differ.ensures.text;
-      none = rw (c.deref.ensures.value, places) at c.in_ok-leads_differ.ensures.none;
-    }
+returns g c = record {
+  moment = c.in_ok-moment.moment;
+  is_end = rw c.logs-logs.ensures.value at c.in_ok-moment.ensures;
+  text = c.in_ok-leads_differ.ensures.text;
+  none = c.in_ok-leads_differ.ensures.none;
+}
