@@ -48,7 +48,7 @@ public class Ring {
 
         /** Once the node takes itself for the leader: its place comes into a file for all nodes, which begins empty. */
         void leads() throws IOException {
-            Files.writeString(leaders, place + "\n", StandardOpenOption.APPEND);
+            Files.writeString(leaders, place + "\n", StandardOpenOption.CREATE, StandardOpenOption.APPEND);
         }
 
         /** Writes the end line, without which the log counts as cut off. */

@@ -3,8 +3,8 @@
 Each node has a recorder of its own, and calls it from one thread, each time after the step that the record
 tells of: `drew` once the ID is drawn, `sent` once the message is on the link, `received` once it is taken off.
 Where leaders may yield, the log is one of version 2, and has `yielded` and the two calls of resets besides.
-`leads`, once the node takes itself for the leader, is no record: its place comes into the file `leaders`, which is
-for all nodes, and which who starts the ring makes empty.
+`leads`, once the node takes itself for the leader, is no record: where it hasn't yielded until its log is closed, its
+place comes into the file `leaders`, which is for all nodes, and which who starts the ring makes empty.
 """
 
 import os

@@ -39,7 +39,7 @@ func (r *Recorder) Passed(word string, m Message) {
 // Leads is called once the node takes itself for the leader: its place comes into a file for all nodes, which begins
 // empty.
 func (r *Recorder) Leads() {
-	leaders, err := os.OpenFile(r.leaders, os.O_APPEND|os.O_WRONLY, 0)
+	leaders, err := os.OpenFile(r.leaders, os.O_APPEND|os.O_CREATE|os.O_WRONLY, 0o644)
 	if err == nil {
 		_, err = fmt.Fprintf(leaders, "%d\n", r.place)
 		leaders.Close()

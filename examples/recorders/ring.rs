@@ -37,7 +37,7 @@ impl Recorder {
 
     /// Once the node takes itself for the leader: its place comes into a file for all nodes, which begins empty.
     pub fn leads(&mut self) -> io::Result<()> {
-        let mut leaders = File::options().append(true).open(&self.leaders)?;
+        let mut leaders = File::options().append(true).create(true).open(&self.leaders)?;
         leaders.write_all(format!("{}\n", self.place).as_bytes())
     }
 
