@@ -7,14 +7,14 @@ use Rattle.ira_ask.specs.declared.picks.Picks.{Picks}
 use Rattle.ira_ask.specs.declared.places.Places.{Places}
 use Rattle.ira_ask.specs.declared.sentence.Sentence.{Sentence as Spelled}
 use Rattle.ira_ask.specs.declared.sentence_fault.SentenceFault.{SentenceFault}
-use Rattle.ira_ask.specs.declared.sentence_fault.SentenceFault.TheVariants.{Part, TooDeep, OutOfMemory}
+use Rattle.ira_ask.specs.declared.sentence_fault.SentenceFault.TheVariants.{TooDeep, OutOfMemory}
 use Rattle.ira_ask.specs.declared.asked_clauses.AskedClauses.{AskedClauses}
 use Rattle.ira_ask.specs.Asked.{together}
 use Rattle.ira_ask.specs.AskedTexts.{AreAsked, Writes, asked_of}
 use Rattle.ira_ask.specs.Choices.{PicksOf, choices}
 use Rattle.ira_ask.specs.Reading.{AreSpelled, Spells}
 use Rattle.ira_ask.specs.Sentence.{Sentence}
-use Rattle.ira_ask.specs.SentenceAnswer.{Answers, HasClauses, IsSentenceFault, long_question, part, too_deep}
+use Rattle.ira_ask.specs.SentenceAnswer.{Answers, HasClauses, IsSentenceFault, long_question, stops, too_deep}
 use Rattle.ira_ask.specs.SentenceText.{IsSentenceText, MayBeClause, StopsAt}
 
 clause-of : (t : Option (List ℕ)) (f : Option Formula) → Spells t f → MayBeClause f
@@ -31,10 +31,10 @@ clauses_of clauses s h = record {
 }
 
 pub stop_fault : (n : ℕ) (text : List ℕ) (e : SentenceFault) → length text ≤ 65536
-    → (e ≡ OutOfMemory) ⊎ ((byte : ℕ) × StopsAt text byte × (e ≡ Part byte))
+    → (e ≡ OutOfMemory) ⊎ StopsAt text e
     → (e ≡ OutOfMemory) ⊎ IsSentenceFault n text e
 stop_fault n text e short (inl h) = inl h
-stop_fault n text e short (inr h) = inr (part h.0 short h.1 h.2)
+stop_fault n text e short (inr h) = inr (stops short h)
 
 pub deep_fault : (n : ℕ) (text : List ℕ) (s : Sentence) (spelled : Spelled) (e : SentenceFault) → length text ≤ 65536
     → IsSentenceText text s → AreSpelled spelled s

@@ -6,14 +6,13 @@ use Rattle.ira_pred.specs.QuestionText.{IsShort}
 use Rattle.ira_ask.specs.declared.picks.Picks.{Picks}
 use Rattle.ira_ask.specs.declared.picks.Picks.TheVariants.{Nobody, One, Two, Alike}
 use Rattle.ira_ask.specs.declared.sentence_fault.SentenceFault.{SentenceFault}
-use Rattle.ira_ask.specs.declared.sentence_fault.SentenceFault.TheVariants.{Part}
 use Rattle.ira_ask.specs.declared.sentence_fault.SentenceFault.TheVariants.{OutOfMemory}
 use Rattle.ira_ask.specs.Asked.{asked}
 use Rattle.ira_ask.specs.Choices.{PicksOf, choices}
 use Rattle.ira_ask.specs.Sentence.{Sentence}
-use Rattle.ira_ask.specs.SentenceAnswer.{HasClauses, IsAsked, IsSentenceFault, too_long, part, too_deep, many_cases}
+use Rattle.ira_ask.specs.SentenceAnswer.{HasClauses, IsAsked, IsSentenceFault, stops, too_long, too_deep, many_cases}
 use Rattle.ira_ask.specs.SentenceAnswer.{long_question}
-use Rattle.ira_ask.specs.SentenceText.{IsSentenceText}
+use Rattle.ira_ask.specs.SentenceText.{IsSentenceText, IsStop, no_clause, no_part}
 use Rattle.ira_ask.proofs.Parting.{one_sentence, one_stop, sentence_or_stop}
 
 -- nodes are picked in one way
@@ -49,7 +48,7 @@ one_question n text a b h k =
 pub fault_or_question : (n : ℕ) (text : List ℕ) (q : QuestionCases) (f : SentenceFault) → IsAsked n text q
     → ¬ (IsSentenceFault n text f)
 fault_or_question n text q f h (too_long long e) = let short = h.short_text in absurd (omega arith)
-fault_or_question n text q f h (part byte short stop e) = sentence_or_stop text h.sentence byte h.text_is stop
+fault_or_question n text q f h (stops short stop) = sentence_or_stop text h.sentence f h.text_is stop
 fault_or_question n text q f h (too_deep s short is bad e) =
     bad (subst HasClauses (one_sentence text h.sentence s h.text_is is) h.clauses)
 fault_or_question n text q f h (many_cases s p short is clauses of many e) =
@@ -63,27 +62,27 @@ fault_or_question n text q f h (long_question s p short is clauses of few bad e)
 pub one_fault : (n : ℕ) (text : List ℕ) (f g : SentenceFault) → IsSentenceFault n text f
     → IsSentenceFault n text g → f ≡ g
 one_fault n text f g (too_long a e) (too_long b d) = e ∙ sym d
-one_fault n text f g (part i a stop e) (part j b halt d) = e ∙ ap Part (one_stop text i j stop halt) ∙ sym d
+one_fault n text f g (stops a stop) (stops b halt) = one_stop text f g stop halt
 one_fault n text f g (too_deep s a is bad e) (too_deep t b it not d) = e ∙ sym d
 one_fault n text f g (many_cases s p a is cs of many e) (many_cases t q b it ds also more d) = e ∙ sym d
 one_fault n text f g (long_question s p a is cs of few bad e) (long_question t q b it ds also less not d) = e ∙ sym d
-one_fault n text f g (too_long a e) (part j b halt d) = absurd (omega arith)
+one_fault n text f g (too_long a e) (stops b halt) = absurd (omega arith)
 one_fault n text f g (too_long a e) (too_deep t b it not d) = absurd (omega arith)
 one_fault n text f g (too_long a e) (many_cases t q b it ds also more d) = absurd (omega arith)
 one_fault n text f g (too_long a e) (long_question t q b it ds also less not d) = absurd (omega arith)
-one_fault n text f g (part i a stop e) (too_long b d) = absurd (omega arith)
-one_fault n text f g (part i a stop e) (too_deep t b it not d) = absurd (sentence_or_stop text t i it stop)
-one_fault n text f g (part i a stop e) (many_cases t q b it ds also more d) = absurd (sentence_or_stop text t i it stop)
-one_fault n text f g (part i a stop e) (long_question t q b it ds also less not d) =
-    absurd (sentence_or_stop text t i it stop)
+one_fault n text f g (stops a stop) (too_long b d) = absurd (omega arith)
+one_fault n text f g (stops a stop) (too_deep t b it not d) = absurd (sentence_or_stop text t f it stop)
+one_fault n text f g (stops a stop) (many_cases t q b it ds also more d) = absurd (sentence_or_stop text t f it stop)
+one_fault n text f g (stops a stop) (long_question t q b it ds also less not d) =
+    absurd (sentence_or_stop text t f it stop)
 one_fault n text f g (too_deep s a is bad e) (too_long b d) = absurd (omega arith)
-one_fault n text f g (too_deep s a is bad e) (part j b halt d) = absurd (sentence_or_stop text s j is halt)
+one_fault n text f g (too_deep s a is bad e) (stops b halt) = absurd (sentence_or_stop text s g is halt)
 one_fault n text f g (too_deep s a is bad e) (many_cases t q b it ds also more d) =
     absurd (bad (subst HasClauses (one_sentence text t s it is) ds))
 one_fault n text f g (too_deep s a is bad e) (long_question t q b it ds also less not d) =
     absurd (bad (subst HasClauses (one_sentence text t s it is) ds))
 one_fault n text f g (many_cases s p a is cs of many e) (too_long b d) = absurd (omega arith)
-one_fault n text f g (many_cases s p a is cs of many e) (part j b halt d) = absurd (sentence_or_stop text s j is halt)
+one_fault n text f g (many_cases s p a is cs of many e) (stops b halt) = absurd (sentence_or_stop text s g is halt)
 one_fault n text f g (many_cases s p a is cs of many e) (too_deep t b it not d) =
     absurd (not (subst HasClauses (one_sentence text s t is it) cs))
 one_fault n text f g (many_cases s p a is cs of many e) (long_question t q b it ds also less not d) =
@@ -91,8 +90,8 @@ one_fault n text f g (many_cases s p a is cs of many e) (long_question t q b it 
     let more = subst (λ x. 32385 < length (choices n x)) same.1 many in
     absurd (omega (arith, more, less))
 one_fault n text f g (long_question s p a is cs of few bad e) (too_long b d) = absurd (omega arith)
-one_fault n text f g (long_question s p a is cs of few bad e) (part j b halt d) = absurd
-    (sentence_or_stop text s j is halt)
+one_fault n text f g (long_question s p a is cs of few bad e) (stops b halt) = absurd
+    (sentence_or_stop text s g is halt)
 one_fault n text f g (long_question s p a is cs of few bad e) (too_deep t b it not d) =
     absurd (not (subst HasClauses (one_sentence text s t is it) cs))
 one_fault n text f g (long_question s p a is cs of few bad e) (many_cases t q b it ds also more d) =
@@ -102,7 +101,11 @@ one_fault n text f g (long_question s p a is cs of few bad e) (many_cases t q b 
 
 pub no_memory : (n : ℕ) (text : List ℕ) → ¬ (IsSentenceFault n text OutOfMemory)
 no_memory n text (too_long a e) = cc
-no_memory n text (part byte a stop e) = cc
+no_memory n text (stops a stop) = out stop.stop
+  where
+    out : {s : Sentence} {rest : List ℕ} → ¬ (IsStop s rest OutOfMemory)
+    out (no_part none e) = cc
+    out (no_clause part may word none e) = cc
 no_memory n text (too_deep s a is bad e) = cc
 no_memory n text (many_cases s p a is cs of many e) = cc
 no_memory n text (long_question s p a is cs of few bad e) = cc

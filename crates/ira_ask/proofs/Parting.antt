@@ -1,11 +1,12 @@
 -- A sentence's text is parted in one way.
 use Rattle.std.proofs.Common.{◌≡◌, ◌≢◌, ◌<◌, ◌≤◌, ◌⊎◌, ℕ, ◌^◌, List, [], ◌∷◌, ◌++◌, Option, Some, None, refl, sym, ap}
 use Rattle.std.proofs.Common.{subst}
-use Rattle.std.proofs.Common.{◌∙◌, arith, append_assoc, inl, inr, length}
+use Rattle.std.proofs.Common.{◌∙◌, arith, append_assoc, cond, inl, inr, nat_eq}
+use Rattle.std.specs.List.{list_any}
 use Rattle.std.specs.Prelude.{codes, decimal}
-use Rattle.std.proofs.lemmas.List.{append_cancel_left, append-nil}
+use Rattle.std.proofs.lemmas.List.{append_cancel_left, append_cancel_right, append-nil}
 use Rattle.ira_event.proofs.Numerals.{Lacks-numeral}
-use Rattle.ira_event.proofs.Pieces.{Lacks, Lacks-append, split_same, first_differs}
+use Rattle.ira_event.proofs.Pieces.{Lacks, Lacks-append, split_same, first_differs, or_parts}
 use Rattle.ira_event.proofs.Spelled.{decimal_is_numeral}
 use Rattle.ira_pred.specs.declared.rel.Rel.{Rel}
 use Rattle.ira_pred.specs.declared.rel.Rel.TheVariants.{Less, Equal, Greater}
@@ -13,9 +14,14 @@ use Rattle.ira_pred.specs.Formula.{Formula, always, leader, active, passive, cho
 use Rattle.ira_pred.specs.Formula.{both, either, negated, HasNumbersInRange}
 use Rattle.ira_pred.specs.QuestionText.{IsClauseText, clause_text, rel_sign}
 use Rattle.ira_pred.proofs.ClauseTexts.{clause_is, clause_same}
+use Rattle.ira_ask.specs.declared.sentence_fault.SentenceFault.{SentenceFault}
+use Rattle.ira_ask.specs.declared.sentence_fault.SentenceFault.TheVariants.{NoClause}
+use Rattle.ira_ask.specs.declared.sentence_part.SentencePart.{SentencePart}
+use Rattle.ira_ask.specs.declared.sentence_part.SentencePart.TheVariants.{Any, Other, EachOther, All}
 use Rattle.ira_ask.specs.Sentence.{Sentence}
-use Rattle.ira_ask.specs.SentenceText.{ArePartsOfSentence, BeginsWith, Ends, IsClause, IsSentenceText, MayBeClause}
-use Rattle.ira_ask.specs.SentenceText.{StopsAt, part_text, parts_text, sentence_text}
+use Rattle.ira_ask.specs.SentenceText.{ArePartsOfSentence, BeginsWith, HasWord, IsClause, IsSentenceText, IsStop}
+use Rattle.ira_ask.specs.SentenceText.{MayBeClause, MayFollow, StopsAt, no_clause, no_part, part_text, parts_text}
+use Rattle.ira_ask.specs.SentenceText.{sentence_text, word_of}
 
 -- ---- a clause has no comma, and is known by its text
 
@@ -68,6 +74,51 @@ pub part-regrouped : (word : List ℕ) (f : Formula) (more : List ℕ)
     → part_text word f ++ more ≡ word ++ (clause_text f ++ (44 ∷ 32 ∷ more))
 part-regrouped word f more = simp append_assoc
 
+word-lacks : (part : SentencePart) → Lacks 44 (word_of part)
+word-lacks Any = refl
+word-lacks Other = refl
+word-lacks EachOther = refl
+word-lacks All = refl
+
+no-comma-first : (w c : ℕ) (x y ws : List ℕ) → Lacks 44 (w ∷ ws) → 44 ∷ x ≡ w ∷ y → ⊥
+no-comma-first w c x y ws h e =
+    let p = or_parts (nat_eq w 44) (list_any (λ z. nat_eq z 44) ws) h in
+    first_differs w 44 y x p.0 (sym e)
+
+-- a text that goes on with a comma begins with the word, if all of it does
+word-front : (word text x y : List ℕ) → Lacks 44 word → text ++ (44 ∷ y) ≡ word ++ x
+    → (rest : List ℕ) × (text ≡ word ++ rest)
+word-front [] text x y h e = (text, refl)
+word-front (w ∷ ws) [] x y h e = absurd (no-comma-first w 44 y (ws ++ x) ws h e)
+word-front (w ∷ ws) (t ∷ ts) x y h e =
+    let p = or_parts (nat_eq w 44) (list_any (λ z. nat_eq z 44) ws) h in
+    let first : t ≡ w = cc in
+    let others : ts ++ (44 ∷ y) ≡ ws ++ x = cc in
+    let found = word-front ws ts x y p.1 others in
+    (found.0, ap (λ a. a ∷ ts) first ∙ ap (λ b. w ∷ b) found.1)
+
+has-word : (part : SentencePart) (text : List ℕ) → BeginsWith (word_of part) (text ++ codes ", ") → HasWord part text
+has-word part text h =
+    word-front (word_of part) text _ (codes " ") (word-lacks part) (h.3 ∙ part-regrouped (word_of part) h.0 h.1)
+
+-- a part is known by the second letter of its word
+abbrev second : List ℕ → ℕ
+second (a ∷ b ∷ text) = b
+second text = 0
+
+abbrev of-letter : ℕ → SentencePart
+of-letter b = cond (nat_eq b 110) Any (cond (nat_eq b 116) Other (cond (nat_eq b 97) EachOther All))
+
+known : (part : SentencePart) (x : List ℕ) → of-letter (second (word_of part ++ x)) ≡ part
+known Any x = refl
+known Other x = refl
+known EachOther x = refl
+known All x = refl
+
+one-word : (part other : SentencePart) (text : List ℕ) → HasWord part text → HasWord other text → part ≡ other
+one-word part other text h k =
+    sym (known part h.0) ∙ ap (λ t. of-letter (second t)) (sym h.1 ∙ k.1) ∙ known other k.0
+
 -- a part of a word is known
 pub part_same : (word : List ℕ) (f g : Formula) (x y : List ℕ) → IsClause f → IsClause g
     → part_text word f ++ x ≡ part_text word g ++ y → (f ≡ g) × (x ≡ y)
@@ -117,6 +168,10 @@ front_same word (Some f) (Some g) x y h k p q e = let same = part_same word f g 
 
 -- ---- sentences
 
+-- a text begins with no part that may follow these
+abbrev Ends : Sentence → List ℕ → Type 0
+Ends before text = (part : SentencePart) → MayFollow before part → ¬ (BeginsWith (word_of part) text)
+
 pub sentence-regrouped : (s : Sentence) (x : List ℕ) → sentence_text s ++ x ≡ parts_text (codes "any ") s.any
     ++ (parts_text (codes "other ") s.other ++ (parts_text (codes "each other ") s.each_other
     ++ (parts_text (codes "all ") s.all ++ x)))
@@ -142,7 +197,7 @@ last_same : (a b : Sentence) (x y : List ℕ) → ArePartsOfSentence a → ArePa
     → parts_text (codes "all ") a.all ++ x ≡ parts_text (codes "all ") b.all ++ y → (a.all ≡ b.all) × (x ≡ y)
 last_same a b x y h k p q e =
     front_same (codes "all ") a.all b.all x y h.all_is k.all_is
-    (λ none. p (codes "all ") (none, inr (inr (inr refl)))) (λ none. q (codes "all ") (none, inr (inr (inr refl)))) e
+    (p All) (q All) e
 
 sentence_made : (a b : Sentence) → a.any ≡ b.any → a.other ≡ b.other → a.each_other ≡ b.each_other
     → a.all ≡ b.all → a ≡ b
@@ -156,14 +211,14 @@ each-ends : (s : Sentence) (x : List ℕ) → Ends s x → s.any ≢ None → s.
     → ¬ (BeginsWith (codes "each other ") (parts_text (codes "all ") s.all ++ x))
 each-ends s x h some none =
     no-part (codes "each other ") each_all s.all x
-    (λ last. h (codes "each other ") (last, inr (inr (inl (refl, some, none)))))
+    (λ last. h EachOther (last, some, none))
 
 other-ends : (s : Sentence) (x : List ℕ) → Ends s x → s.any ≢ None → s.other ≡ None
     → ¬ (BeginsWith (codes "other ") (parts_text (codes "each other ") s.each_other ++ (parts_text
     (codes "all ") s.all ++ x)))
 other-ends s x h some none =
     no-part-2 (codes "other ") other_each other_all s.each_other s.all x
-    (λ rest last. h (codes "other ") (last, inr (inl (refl, some, none, rest))))
+    (λ rest last. h Other (last, some, none, rest))
 
 any-ends : (s : Sentence) (x : List ℕ) → ArePartsOfSentence s → Ends s x → s.any ≡ None
     → ¬ (BeginsWith (codes "any ") (parts_text (codes "other ") s.other
@@ -171,7 +226,7 @@ any-ends : (s : Sentence) (x : List ℕ) → ArePartsOfSentence s → Ends s x �
 any-ends s x p h none =
     let others = p.others none in
     rw (others.0, others.1)
-    (no-part (codes "any ") any_all s.all x (λ last. h (codes "any ") (last, inl (refl, none))))
+    (no-part (codes "any ") any_all s.all x (λ last. h Any (last, none)))
 
 -- what follows the parts that pick nodes, where none does
 bare : (s : Sentence) (x : List ℕ) → ArePartsOfSentence s → s.any ≡ None
@@ -217,23 +272,24 @@ parts_same a b x y h k p q e =
 
 -- nothing comes next where a text is over
 pub over : (s : Sentence) → Ends s []
-over s word follows h =
-    elim follows.1 [
-      | inl p ↦ begun 97 _ (h.3 ∙ ap (λ w. part_text w h.0 ++ h.1) p.0)
-      | inr (inl p) ↦ begun 111 _ (h.3 ∙ ap (λ w. part_text w h.0 ++ h.1) p.0)
-      | inr (inr (inl p)) ↦ begun 101 _ (h.3 ∙ ap (λ w. part_text w h.0 ++ h.1) p.0)
-      | inr (inr (inr p)) ↦ begun 97 _ (h.3 ∙ ap (λ w. part_text w h.0 ++ h.1) p)
-    ]
-  where
-    begun : (c : ℕ) (x : List ℕ) → [] ≡ c ∷ x → ⊥
-    begun c x e = cc
+over s Any follows h = cc
+over s Other follows h = cc
+over s EachOther follows h = cc
+over s All follows h = cc
+
+-- nor where it stops
+ends-of : (s : Sentence) (rest : List ℕ) (f : SentenceFault) → IsStop s rest f → Ends s (rest ++ codes ", ")
+ends-of s rest f (no_part none e) part follows begins = none part follows (has-word part rest begins)
+ends-of s rest f (no_clause part may word none e) other follows begins =
+    none (subst (λ p. BeginsWith (word_of p) (rest ++ codes ", ")) (one-word other part rest
+    (has-word other rest begins) word) begins)
 
 spelled-over : (text : List ℕ) (s : Sentence) → IsSentenceText text s → text ++ codes ", " ≡ sentence_text s ++ []
 spelled-over text s h = h.spelled ∙ sym (append-nil (sentence_text s))
 
-stopped : (text : List ℕ) (byte : ℕ) (h : StopsAt text byte)
+stopped : (text : List ℕ) (f : SentenceFault) (h : StopsAt text f)
     → text ++ codes ", " ≡ sentence_text h.before ++ (h.rest ++ codes ", ")
-stopped text byte h = ap (λ t. t ++ codes ", ") h.text_is ∙ append_assoc (sentence_text h.before) h.rest (codes ", ")
+stopped text f h = ap (λ t. t ++ codes ", ") h.text_is ∙ append_assoc (sentence_text h.before) h.rest (codes ", ")
 
 pub one_sentence : (text : List ℕ) (a b : Sentence) → IsSentenceText text a → IsSentenceText text b → a ≡ b
 one_sentence text a b h k =
@@ -243,15 +299,23 @@ pub ends-in-comma : (x : List ℕ) → [] ≡ x ++ codes ", " → ⊥
 ends-in-comma [] e = cc
 ends-in-comma (c ∷ cs) e = cc
 
-pub sentence_or_stop : (text : List ℕ) (s : Sentence) (byte : ℕ) → IsSentenceText text s → StopsAt text byte → ⊥
-sentence_or_stop text s byte h k =
-    let same = parts_same s k.before [] (k.rest ++ codes ", ") h.parts k.parts (over s) k.stops
-    (sym (spelled-over text s h) ∙ stopped text byte k) in
+pub sentence_or_stop : (text : List ℕ) (s : Sentence) (f : SentenceFault) → IsSentenceText text s → StopsAt text f → ⊥
+sentence_or_stop text s f h k =
+    let same = parts_same s k.before [] (k.rest ++ codes ", ") h.parts k.parts (over s)
+    (ends-of k.before k.rest f k.stop) (sym (spelled-over text s h) ∙ stopped text f k) in
     ends-in-comma k.rest same.1
 
-pub one_stop : (text : List ℕ) (a b : ℕ) → StopsAt text a → StopsAt text b → a ≡ b
-one_stop text a b h k =
+one-fault : (s : Sentence) (rest : List ℕ) (f g : SentenceFault) → IsStop s rest f → IsStop s rest g → f ≡ g
+one-fault s rest f g (no_part none e) (no_part also d) = e ∙ sym d
+one-fault s rest f g (no_part none e) (no_clause part may word lacks d) = absurd (none part may word)
+one-fault s rest f g (no_clause part may word lacks e) (no_part none d) = absurd (none part may word)
+one-fault s rest f g (no_clause part may word lacks e) (no_clause other can also too d) =
+    e ∙ ap NoClause (one-word part other rest word also) ∙ sym d
+
+pub one_stop : (text : List ℕ) (f g : SentenceFault) → StopsAt text f → StopsAt text g → f ≡ g
+one_stop text f g h k =
     let same = parts_same h.before k.before (h.rest ++ codes ", ")
-    (k.rest ++ codes ", ") h.parts k.parts h.stops k.stops
-    (sym (stopped text a h) ∙ stopped text b k) in
-    h.byte_is ∙ ap (λ s. length (sentence_text s)) same.0 ∙ sym k.byte_is
+    (k.rest ++ codes ", ") h.parts k.parts (ends-of h.before h.rest f h.stop) (ends-of k.before k.rest g k.stop)
+    (sym (stopped text f h) ∙ stopped text g k) in
+    one-fault k.before k.rest f g (subst (λ r. IsStop k.before r f) (append_cancel_right h.rest k.rest _ same.1)
+    (subst (λ s. IsStop s h.rest f) same.0 h.stop)) k.stop

@@ -4,7 +4,7 @@ use Rattle.std.proofs.Common.{length}
 use Rattle.std.proofs.Common.{take, drop, get_or, Option, Some, None, refl, sym, ap, subst, ◌∙◌, arith, append_assoc}
 use Rattle.std.proofs.Common.{length-append}
 use Rattle.std.specs.Prelude.{codes, position}
-use Rattle.std.specs.List.{list_any, position_or_len}
+use Rattle.std.specs.List.{position_or_len}
 use Rattle.std.proofs.Math.Seq.{split_at}
 use Rattle.std.proofs.lemmas.Bool.Decides.{nat_tests}
 use Rattle.std.proofs.lemmas.List.{append_cancel_left, append-nil, get_or-take, length-take, take-append-drop}
@@ -12,13 +12,14 @@ use Rattle.std.proofs.lemmas.List.Folds.{list_any_none}
 use Rattle.std.proofs.lemmas.List.Quantifiers.{position-Some}
 use Rattle.std.proofs.lemmas.List.Sums.{fails_before_first}
 use Rattle.ira_event.specs.Scan.{after_word}
-use Rattle.ira_event.proofs.Pieces.{Lacks, split_same, first_differs, or_parts}
+use Rattle.ira_event.proofs.Pieces.{split_same, first_differs}
 use Rattle.ira_event.proofs.RecordLines.{word-takes, word-again}
 use Rattle.ira_pred.specs.Formula.{Formula}
 use Rattle.ira_pred.specs.QuestionText.{clause_text}
+use Rattle.ira_ask.specs.declared.sentence_part.SentencePart.{SentencePart}
 use Rattle.ira_ask.specs.Reading.{HasNoComma, HasNoPart, IsClauseText, SplitsPart, TakesPart, fits, left_text}
-use Rattle.ira_ask.specs.SentenceText.{BeginsWith, part_text}
-use Rattle.ira_ask.proofs.Parting.{clause-lacks, part-regrouped}
+use Rattle.ira_ask.specs.SentenceText.{BeginsWith, HasWord, part_text, word_of}
+use Rattle.ira_ask.proofs.Parting.{clause-lacks}
 
 -- ---- the first comma
 
@@ -93,37 +94,13 @@ no_split text front rest i e f all w clause more lacks is =
 
 -- ---- a part of a word
 
-not-nothing : (a b x : List ℕ) (c : ℕ) → [] ≡ a ++ (b ++ (c ∷ x)) → ⊥
-not-nothing [] [] x c e = cc
-not-nothing [] (d ∷ b) x c e = cc
-not-nothing (d ∷ a) b x c e = cc
+pub word_comes : (part : SentencePart) (text after : List ℕ) → after_word (word_of part) text ≡ Some after
+    → HasWord part text
+word_comes part text after w = (after, word-takes (word_of part) text after w)
 
-pub nothing_begins : (word : List ℕ) → ¬ (BeginsWith word [])
-nothing_begins word h =
-    not-nothing word (clause_text h.0) (32 ∷ h.1) 44 (h.3 ∙ part-regrouped word h.0 h.1)
-
-no-comma-first : (w c : ℕ) (x y ws : List ℕ) → Lacks 44 (w ∷ ws) → 44 ∷ x ≡ w ∷ y → ⊥
-no-comma-first w c x y ws h e =
-    let p = or_parts (nat_eq w 44) (list_any (λ z. nat_eq z 44) ws) h in
-    first_differs w 44 y x p.0 (sym e)
-
--- a text that goes on with a comma begins with the word, if all of it does
-word-front : (word text x y : List ℕ) → Lacks 44 word → text ++ (44 ∷ y) ≡ word ++ x
-    → (rest : List ℕ) × (text ≡ word ++ rest)
-word-front [] text x y h e = (text, refl)
-word-front (w ∷ ws) [] x y h e = absurd (no-comma-first w 44 y (ws ++ x) ws h e)
-word-front (w ∷ ws) (t ∷ ts) x y h e =
-    let p = or_parts (nat_eq w 44) (list_any (λ z. nat_eq z 44) ws) h in
-    let first : t ≡ w = cc in
-    let others : ts ++ (44 ∷ y) ≡ ws ++ x = cc in
-    let found = word-front ws ts x y p.1 others in
-    (found.0, ap (λ a. a ∷ ts) first ∙ ap (λ b. w ∷ b) found.1)
-
-pub other_word : (word text : List ℕ) → HasNoComma word → after_word word text ≡ None
-    → ¬ (BeginsWith word (text ++ codes ", "))
-other_word word text lacks none h =
-    let found = word-front word text _ (codes " ") lacks (h.3 ∙ part-regrouped word h.0 h.1) in
-    none-some (after_word word text) found.0 none (ap (after_word word) found.1 ∙ word-again word found.0)
+pub no_word : (word text more : List ℕ) → after_word word text ≡ None → text ≡ word ++ more → ⊥
+no_word word text more none e =
+    none-some (after_word word text) more none (ap (after_word word) e ∙ word-again word more)
 
 begun : (word text after : List ℕ) (f : Formula) (more : List ℕ) → after_word word text ≡ Some after
     → text ++ codes ", " ≡ part_text word f ++ more → after ++ codes ", " ≡ clause_text f ++ codes ", " ++ more
@@ -167,10 +144,12 @@ part_fits word text after clause (Some left) w split short =
     let g = length-append left (codes ", ") in
     (omega (arith, a, b, c, d, e, f, g), omega (arith, a, b, c, d, e, f, g))
 
-pub part_taken : (word text after clause : List ℕ) (left : Option (List ℕ)) → after_word word text ≡ Some after
+pub part_taken : (part : SentencePart) (text after clause : List ℕ) (left : Option (List ℕ))
+    → after_word (word_of part) text ≡ Some after
     → SplitsPart after clause left → length text ≤ 65536 → IsClauseText clause
-    → TakesPart word (Some text) left (Some clause)
-part_taken word text after clause left w split short is =
+    → TakesPart part (Some text) left (Some clause)
+part_taken part text after clause left w split short is =
+    let word = word_of part in
     let fit = part_fits word text after clause left w split short in (
       is.0,
       is.1,

@@ -8,14 +8,15 @@ use Rattle.ira_pred.specs.Formula.{Formula}
 use Rattle.ira_pred.specs.QuestionText.{clause_text}
 use Rattle.ira_ask.specs.declared.sentence.Sentence.{Sentence as Spelled}
 use Rattle.ira_ask.specs.declared.sentence_fault.SentenceFault.{SentenceFault}
-use Rattle.ira_ask.specs.declared.sentence_fault.SentenceFault.TheVariants.{Part, TooDeep, OutOfMemory}
+use Rattle.ira_ask.specs.declared.sentence_fault.SentenceFault.TheVariants.{NoClause, TooDeep, OutOfMemory}
+use Rattle.ira_ask.specs.declared.sentence_part.SentencePart.{SentencePart}
+use Rattle.ira_ask.specs.declared.sentence_part.SentencePart.TheVariants.{All}
 use Rattle.ira_ask.specs.declared.picks.Picks.{Picks}
 use Rattle.ira_ask.specs.Asked.{together}
 use Rattle.ira_ask.specs.Choices.{PicksOf}
 use Rattle.ira_ask.specs.Sentence.{Sentence}
-use Rattle.ira_ask.specs.SentenceText.{BeginsWith, IsClause, IsSentenceText, MayBeClause, MayFollow}
-use Rattle.ira_ask.specs.SentenceText.{ArePartsOfSentence, StopsAt}
-use Rattle.ira_ask.specs.SentenceText.{part_text, sentence_text}
+use Rattle.ira_ask.specs.SentenceText.{ArePartsOfSentence, BeginsWith, HasWord, IsClause, IsSentenceText, MayBeClause}
+use Rattle.ira_ask.specs.SentenceText.{MayFollow, StopsAt, part_text, sentence_text, word_of}
 
 -- the text is that of a clause
 abbrev pub IsClauseText : List ℕ → Type 0
@@ -48,16 +49,30 @@ SplitsPart text clause left = HasNoComma clause × (text ++ codes ", " ≡ claus
 abbrev pub HasNoPart : List ℕ → Type 0
 HasNoPart text = (clause more : List ℕ) → HasNoComma clause → text ++ codes ", " ≢ clause ++ codes ", " ++ more
 
--- the part of this word is taken, or none of this word comes next and nothing is
-abbrev pub TakesPart : List ℕ → Option (List ℕ) → Option (List ℕ) → Option (List ℕ) → Type 0
-TakesPart word old new None =
-    (new ≡ old) × ¬ (BeginsWith word (left_text old))
-TakesPart word old new (Some clause) =
-    (f : Formula) × IsClause f × (clause ≡ clause_text f) × (left_text old ≡ part_text word f ++ left_text new)
+-- the word of this part comes next
+abbrev pub Comes : SentencePart → Option (List ℕ) → Type 0
+Comes part None = ⊥
+Comes part (Some left) = HasWord part left
+
+-- it does, and yet no such part
+abbrev pub LacksClause : SentencePart → Option (List ℕ) → Type 0
+LacksClause part left = Comes part left × ¬ (BeginsWith (word_of part) (left_text left))
+
+-- the part is taken, or its word doesn't come next and nothing is
+abbrev pub TakesPart : SentencePart → Option (List ℕ) → Option (List ℕ) → Option (List ℕ) → Type 0
+TakesPart part old new None = (new ≡ old) × ¬ (Comes part old)
+TakesPart part old new (Some clause) =
+    (f : Formula) × IsClause f × (clause ≡ clause_text f) × (left_text old ≡ part_text (word_of part) f ++ left_text new)
     × fits (Some clause) × fits new
 
 abbrev pub texts : Option (Bor (List ℕ)) → Option (List ℕ)
 texts text = option_map (λ t. t.now) text
+
+-- so it is, or no clause follows its word, or memory ran out
+abbrev pub Takes : SentencePart → Option (List ℕ) → Option (List ℕ) → Result (Option (Bor (List ℕ))) SentenceFault
+    → Type 0
+Takes part old new (Ok clause) = TakesPart part old new (texts clause)
+Takes part old new (Err f) = (f ≡ OutOfMemory) ⊎ ((f ≡ NoClause part) × LacksClause part old)
 
 -- no clause is too long
 pub record AreShort (spelled : Spelled) : Type 0 where
@@ -79,8 +94,7 @@ pub record HasRead (text : List ℕ) (left any other each_other : Option (List �
   pub any_fits : fits any
   pub other_fits : fits other
   pub each_other_fits : fits each_other
-  pub last :
-      (word : List ℕ) → MayFollow sentence word → word ≢ codes "all " → ¬ (BeginsWith word (left_text left))
+  pub last : (part : SentencePart) → MayFollow sentence part → Comes part left → part ≡ All
 
 -- these are the clauses of the sentence
 pub record AreSpelled (spelled : Spelled) (s : Sentence) : Type 0 where
@@ -96,7 +110,7 @@ Picked spelled picks = (s : Sentence) → AreSpelled spelled s → ArePartsOfSen
 -- the text was read, or where it stops, or memory ran out
 abbrev pub Reads : List ℕ → Result Spelled SentenceFault → Type 0
 Reads text (Ok spelled) = (s : Sentence) × IsSentenceText text s × AreSpelled spelled s × AreShort spelled
-Reads text (Err f) = (f ≡ OutOfMemory) ⊎ ((byte : ℕ) × StopsAt text byte × (f ≡ Part byte))
+Reads text (Err f) = (f ≡ OutOfMemory) ⊎ StopsAt text f
 
 -- the clause of both was made, where there is something to ask, or why not
 abbrev pub Joins : {X : Type 0} → (X → Option (List ℕ)) → Option (List ℕ) → Option (List ℕ)

@@ -5,7 +5,7 @@ use Rattle.ira_pred.specs.Question.{QuestionCases}
 use Rattle.ira_pred.specs.QuestionText.{IsShort, question_text}
 use Rattle.ira_ask.specs.declared.picks.Picks.{Picks}
 use Rattle.ira_ask.specs.declared.sentence_fault.SentenceFault.{SentenceFault}
-use Rattle.ira_ask.specs.declared.sentence_fault.SentenceFault.TheVariants.{TooLong, Part, TooDeep, ManyCases}
+use Rattle.ira_ask.specs.declared.sentence_fault.SentenceFault.TheVariants.{TooLong, TooDeep, ManyCases}
 use Rattle.ira_ask.specs.declared.sentence_fault.SentenceFault.TheVariants.{LongQuestion, OutOfMemory}
 use Rattle.ira_ask.specs.Asked.{asked, together}
 use Rattle.ira_ask.specs.Choices.{PicksOf, choices}
@@ -35,7 +35,7 @@ pub data IsSentenceFault (n : ℕ) (text : List ℕ) (f : SentenceFault) : Type 
   -- the text is too long
   too_long : MAX_SENTENCE < length text → f ≡ TooLong → IsSentenceFault n text f
   -- it is no sentence's
-  part : (byte : ℕ) → length text ≤ MAX_SENTENCE → StopsAt text byte → f ≡ Part byte → IsSentenceFault n text f
+  stops : length text ≤ MAX_SENTENCE → StopsAt text f → IsSentenceFault n text f
   -- the clause of a node and that of all are nested too deep together
   too_deep : (s : Sentence) → length text ≤ MAX_SENTENCE → IsSentenceText text s → ¬ (HasClauses s) → f ≡ TooDeep
       → IsSentenceFault n text f

@@ -1,8 +1,12 @@
 -- How a sentence is spelled.
-use Rattle.std.specs.Prelude.{◌≡◌, ◌≢◌, ℕ, ◌≤◌, ◌⊎◌, ⊤, List, [], ◌++◌, length, codes, Option, Some, None}
+use Rattle.std.specs.Prelude.{◌≡◌, ◌≢◌, ℕ, ◌≤◌, ⊤, List, [], ◌++◌, codes, if◌then◌else◌, is_some, Option, Some, None}
 use Rattle.ira_pred.specs.Limits.{MAX_DEPTH}
 use Rattle.ira_pred.specs.Formula.{Formula, depth, HasNumbersInRange}
 use Rattle.ira_pred.specs.QuestionText.{clause_text}
+use Rattle.ira_ask.specs.declared.sentence_fault.SentenceFault.{SentenceFault}
+use Rattle.ira_ask.specs.declared.sentence_fault.SentenceFault.TheVariants.{NoClause, NoPart}
+use Rattle.ira_ask.specs.declared.sentence_part.SentencePart.{SentencePart}
+use Rattle.ira_ask.specs.declared.sentence_part.SentencePart.TheVariants.{Any, Other, EachOther, All}
 use Rattle.ira_ask.specs.Sentence.{Sentence}
 
 -- the most bytes that a sentence has
@@ -45,28 +49,49 @@ pub record IsSentenceText (text : List ℕ) (s : Sentence) : Type 0 where
   pub parts : ArePartsOfSentence s
   pub spelled : text ++ codes ", " ≡ sentence_text s
 
--- a part of this word may follow these
-abbrev pub MayFollow : Sentence → List ℕ → Type 0
-MayFollow s word =
-    (s.all ≡ None)
-    × (((word ≡ codes "any ") × (s.any ≡ None))
-    ⊎ ((word ≡ codes "other ") × (s.any ≢ None) × (s.other ≡ None) × (s.each_other ≡ None))
-    ⊎ ((word ≡ codes "each other ") × (s.any ≢ None) × (s.each_other ≡ None))
-    ⊎ (word ≡ codes "all "))
+-- the word of a part, and a space
+abbrev pub word_of : SentencePart → List ℕ
+word_of Any = codes "any "
+word_of Other = codes "other "
+word_of EachOther = codes "each other "
+word_of All = codes "all "
+
+-- this part may follow these
+abbrev pub MayFollow : Sentence → SentencePart → Type 0
+MayFollow s Any = (s.all ≡ None) × (s.any ≡ None)
+MayFollow s Other = (s.all ≡ None) × (s.any ≢ None) × (s.other ≡ None) × (s.each_other ≡ None)
+MayFollow s EachOther = (s.all ≡ None) × (s.any ≢ None) × (s.each_other ≡ None)
+MayFollow s All = s.all ≡ None
 
 -- a text begins with a part of this word
 abbrev pub BeginsWith : List ℕ → List ℕ → Type 0
 BeginsWith word text = (f : Formula) × (more : List ℕ) × IsClause f × (text ≡ part_text word f ++ more)
 
--- it begins with no part that may follow these
-abbrev pub Ends : Sentence → List ℕ → Type 0
-Ends before text = (word : List ℕ) → MayFollow before word → ¬ (BeginsWith word text)
+-- it begins with the word of this part
+abbrev pub HasWord : SentencePart → List ℕ → Type 0
+HasWord part text = (more : List ℕ) × (text ≡ word_of part ++ more)
 
--- the text is no sentence's: it begins with these parts, maybe with none, and at this byte with no part that may follow
-pub record StopsAt (text : List ℕ) (byte : ℕ) : Type 0 where
+-- the last of these parts, if there is one
+abbrev pub last_part : Sentence → Option SentencePart
+last_part s =
+    if is_some s.all then Some All
+    else if is_some s.each_other then Some EachOther
+    else if is_some s.other then Some Other
+    else if is_some s.any then Some Any
+    else None
+
+-- after these parts the rest of a text is no sentence's: it begins with the word of a part that may follow, but with no
+-- such part; or with no such word
+pub data IsStop (before : Sentence) (rest : List ℕ) (fault : SentenceFault) : Type 0 where
+  no_clause : (part : SentencePart) → MayFollow before part → HasWord part rest
+      → ¬ (BeginsWith (word_of part) (rest ++ codes ", ")) → fault ≡ NoClause part → IsStop before rest fault
+  no_part : ((part : SentencePart) → MayFollow before part → ¬ (HasWord part rest)) → fault ≡ NoPart (last_part before)
+      → IsStop before rest fault
+
+-- the text is no sentence's: it begins with these parts, maybe with none, and goes on as no sentence does
+pub record StopsAt (text : List ℕ) (fault : SentenceFault) : Type 0 where
   pub before : Sentence
   pub rest : List ℕ
   pub parts : ArePartsOfSentence before
   pub text_is : text ≡ sentence_text before ++ rest
-  pub byte_is : byte ≡ length (sentence_text before)
-  pub stops : Ends before (rest ++ codes ", ")
+  pub stop : IsStop before rest fault

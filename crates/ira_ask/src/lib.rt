@@ -11,8 +11,10 @@ mod places;
 mod question;
 mod sentence;
 mod sentence_fault;
+mod sentence_part;
 
 pub use laws::{a_sentence_has_one_answer, questions_have_texts, questions_mean_their_sentences};
 pub use limits::MAX_SENTENCE;
 pub use question::ask;
 pub use sentence_fault::SentenceFault;
+pub use sentence_part::SentencePart;

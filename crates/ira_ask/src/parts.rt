@@ -1,8 +1,10 @@
-ghost use Rattle.std.specs.Prelude.{◌≡◌, ◌==◌, IfOk, MatchOption, position};
-ghost use Rattle.ira_ask.specs.Reading.{HasNoComma, HasNoPart, SplitsPart, TakesPart, fits, texts};
+ghost use Rattle.std.specs.Prelude.{◌≡◌, ◌==◌, MatchOption, position};
+ghost use Rattle.ira_ask.specs.Reading.{HasNoPart, SplitsPart, Takes, fits, texts};
 
 use crate::is_clause::is_clause;
-use ira_event::{OutOfMemory, skip_word};
+use crate::sentence_fault::SentenceFault;
+use crate::sentence_part::SentencePart;
+use ira_event::skip_word;
 use std::alloc::Allocator;
 use std::marker::Model;
 
@@ -39,27 +41,26 @@ impl<'a> Parts<'a> {
         self.left
     }
 
-    /// Takes the part of this word off, where it comes next, and gives its clause.
+    /// Takes this part off, where its word comes next, and gives its clause.
     pub fn take<A: Allocator + Clone>(
         &mut self,
         alloc: &A,
-        word: &[u8],
-    ) -> Result<Option<&'a [u8]>, OutOfMemory>
-        requires short { fits self.old }
-        requires word { HasNoComma word.now }
-        ensures { IfOk result (λ part. TakesPart word.now self.old self.new (texts part)) }
+        part: SentencePart,
+    ) -> Result<Option<&'a [u8]>, SentenceFault>
+        requires { fits self.old }
+        ensures { Takes part self.old self.new result }
     {
         let Some(text) = self.left else {
             return Ok(None);
         };
-        let Some(text) = skip_word(text, word) else {
+        let Some(text) = skip_word(text, part.word()) else {
             return Ok(None);
         };
         let Some((clause, left)) = split_part(text) else {
-            return Ok(None);
+            return Err(SentenceFault::NoClause(part));
         };
         if !is_clause(alloc, clause)? {
-            return Ok(None);
+            return Err(SentenceFault::NoClause(part));
         }
         self.left = left;
         Ok(Some(clause))

@@ -1,3 +1,4 @@
+use crate::sentence_part::SentencePart;
 use ira_event::OutOfMemory as NoMemory;
 use std::alloc::{AllocError, AllocFailed};
 use thiserror::Error;
@@ -8,9 +9,12 @@ pub enum SentenceFault {
     /// The text has more than `MAX_SENTENCE` bytes.
     #[error("too long")]
     TooLong,
-    /// From this byte on, the text goes on with no part that may stand there.
-    #[error("no part at byte {0}")]
-    Part(usize),
+    /// No part that may stand after this one, or else at the beginning, follows.
+    #[error("no part")]
+    NoPart(Option<SentencePart>),
+    /// This part's word is followed by no clause, up to a comma and a space or the end.
+    #[error("no clause")]
+    NoClause(SentencePart),
     /// The clause of a node and that of all nodes are nested too deep together.
     #[error("too deep")]
     TooDeep,

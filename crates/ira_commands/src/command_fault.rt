@@ -1,8 +1,9 @@
-ghost use Rattle.std.specs.Prelude.{◌≡◌, ◌++◌, codes, decimal};
+ghost use Rattle.std.specs.Prelude.{◌≡◌, ◌≤◌, ◌++◌, codes, length};
+ghost use Rattle.ira_ask.specs.SentenceText.{word_of};
 ghost use Rattle.ira_event.specs.Sink.{Wrote};
-ghost use Rattle.ira_commands.specs.CommandFault.{command_fault_text, sentence_fault_text};
+ghost use Rattle.ira_commands.specs.CommandFault.{command_fault_text, due_after, sentence_fault_text};
 
-use ira_ask::SentenceFault;
+use ira_ask::{SentenceFault, SentencePart};
 use ira_event::{Line, Sink, WriteFault, write_bytes};
 use ira_ring::RunFault;
 use ira_view::{refused_run, too_many_events, write_cut_fault};
@@ -29,15 +30,47 @@ pub enum CommandFault {
     NoSentence(SentenceFault),
 }
 
-/// The line on a text that goes on as no sentence does after so many bytes.
-fn stopped_line(bytes: usize) -> Line
-    ensures { result ≡ codes "ira: no part of a sentence follows the first " ++ decimal bytes
-        ++ codes " bytes; `ira guide questions` says how one is written\n" }
+/// What may stand after a part of a sentence, or at its beginning.
+fn due_after(part: Option<SentencePart>) -> &'static [u8]
+    ensures text { result.now ≡ due_after part }
+    ensures short { length result.now ≤ 90 }
+{
+    match part {
+        None => b"a sentence begins with `any CLAUSE` or `all CLAUSE`",
+        Some(part) => match part {
+            SentencePart::Any => {
+                b"after `any CLAUSE` may stand `, other CLAUSE`, `, each other CLAUSE` or `, all CLAUSE`"
+            }
+            SentencePart::Other => {
+                b"after `other CLAUSE` may stand `, each other CLAUSE` or `, all CLAUSE`"
+            }
+            SentencePart::EachOther => b"after `each other CLAUSE` may stand `, all CLAUSE`",
+            SentencePart::All => b"after `all CLAUSE` nothing may stand",
+        },
+    }
+}
+
+/// The line on a sentence that goes on after this part, or begins, with no part that may stand there.
+fn part_line(last: Option<SentencePart>) -> Line
+    ensures { result ≡ codes "ira: " ++ due_after last ++ codes "; see `ira guide questions`\n" }
 {
     let mut line = Line::new();
-    line.add(b"ira: no part of a sentence follows the first ");
-    line.add_count(bytes as u64);
-    line.add(b" bytes; `ira guide questions` says how one is written\n");
+    line.add(b"ira: ");
+    line.add(due_after(last));
+    line.add(b"; see `ira guide questions`\n");
+    line
+}
+
+/// The line on a part without a clause.
+fn clause_line(part: SentencePart) -> Line
+    ensures { result ≡ codes "ira: after `" ++ word_of part
+        ++ codes "` a clause is due, as `leader` or `(active and round > 1)`; see `ira guide questions`\n" }
+{
+    let mut line = Line::new();
+    line.add(b"ira: after `");
+    line.add(part.word());
+    line.add(b"` a clause is due, as `leader` or `(active and round > 1)`");
+    line.add(b"; see `ira guide questions`\n");
     line
 }
 
@@ -47,7 +80,8 @@ fn write_sentence_fault<W: Sink>(fault: SentenceFault, err: &mut W) -> Result<()
 {
     match fault {
         SentenceFault::TooLong => write_bytes(b"ira: a sentence has at most 65,536 bytes\n", err),
-        SentenceFault::Part(bytes) => stopped_line(bytes).write(err),
+        SentenceFault::NoPart(last) => part_line(last).write(err),
+        SentenceFault::NoClause(part) => clause_line(part).write(err),
         SentenceFault::TooDeep => {
             write_bytes(
                 b"ira: with that of all nodes a clause is nested deeper than 32\n",

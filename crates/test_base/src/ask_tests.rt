@@ -1,6 +1,6 @@
 //! Sentences and the questions that they stand for.
 
-use ira_ask::{SentenceFault, ask};
+use ira_ask::{SentenceFault, SentencePart, ask};
 use ira_event::RingSize;
 use std::alloc::Global;
 
@@ -16,6 +16,12 @@ const OF_ONE: &[u8] = b"irask 1\nnodes 2\ncase\n0: (not leader)\ncase\n1: (not l
 
 const OF_ALL: &[u8] = b"irask 1\nnodes 2\ncase\n0: term > 1\n1: term > 1\nend\n";
 
+const AFTER_ANY: Result<&[u8], SentenceFault> = Err(SentenceFault::NoPart(Some(SentencePart::Any)));
+
+const NO_CLAUSE_OF_ANY: Result<&[u8], SentenceFault> = Err(SentenceFault::NoClause(
+    SentencePart::Any,
+));
+
 /// A ring's size, a sentence, and its question or why there is none.
 const ROWS: &[(u8, &[u8], Result<&[u8], SentenceFault>)] = &[
     (2, b"any leader, other choosing", Ok(OF_TWO)),
@@ -26,13 +32,26 @@ const ROWS: &[(u8, &[u8], Result<&[u8], SentenceFault>)] = &[
     ),
     (2, b"any (not leader)", Ok(OF_ONE)),
     (2, b"all term > 1", Ok(OF_ALL)),
-    (2, b"", Err(SentenceFault::Part(0))),
-    (2, b"other leader", Err(SentenceFault::Part(0))),
-    (2, b"any leader,other choosing", Err(SentenceFault::Part(0))),
-    (2, b"any leader, ", Err(SentenceFault::Part(12))),
-    (2, b"any leader, choosing", Err(SentenceFault::Part(12))),
-    (2, b"all leader, any leader", Err(SentenceFault::Part(12))),
-    (2, b"any leader\n1: leader", Err(SentenceFault::Part(0))),
+    (2, b"", Err(SentenceFault::NoPart(None))),
+    (2, b"other leader", Err(SentenceFault::NoPart(None))),
+    (2, b"anyone leader", Err(SentenceFault::NoPart(None))),
+    (2, b"any leader, ", AFTER_ANY),
+    (2, b"any leader, choosing", AFTER_ANY),
+    (2, b"any leader, any leader", AFTER_ANY),
+    (
+        2,
+        b"all leader, any leader",
+        Err(SentenceFault::NoPart(Some(SentencePart::All))),
+    ),
+    (2, b"any ", NO_CLAUSE_OF_ANY),
+    (2, b"any not leader", NO_CLAUSE_OF_ANY),
+    (2, b"any leader,other choosing", NO_CLAUSE_OF_ANY),
+    (2, b"any leader\n1: leader", NO_CLAUSE_OF_ANY),
+    (
+        2,
+        b"any leader, each other not leader, all true",
+        Err(SentenceFault::NoClause(SentencePart::EachOther)),
+    ),
     (
         181,
         b"any leader, other owes",
