@@ -1,4 +1,7 @@
 pub mod OneByOne
+pub mod OneFindings
+pub mod OneMeeting
+pub mod OneStatus
 pub mod Outputs
 pub mod Overviews
 pub mod Printed

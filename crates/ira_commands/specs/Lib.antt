@@ -12,6 +12,7 @@ pub mod ExplainQuestion
 pub mod Given
 pub mod JsonLines
 pub mod Judging
+pub mod Laws
 pub mod LogsCommand
 pub mod Mend
 pub mod Output
