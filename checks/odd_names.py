@@ -18,6 +18,7 @@ QUESTION = ["--question", "N/q.ask"]
 # N stands for the folder of the name; what is written lies in N too.
 LINES = [
     ["N"], ["logs", "N/0.log", "N/1.log"], ["logs", "--dir=N"], ["logs", "--each", "--", "N", "N"], ["logs", "--each", "--", "N/none"],
+    ["explain", "--each", "--", "N", "N/none"], ["ask", "--dir=N", "any leader"], ["ask", "--dir=N/none", "any leader"],
     ["logs", "--dir=N/none"], ["logs", "N/0.log", "N/none"], ["explain", "N/0.log", "N/1.log"], ["explain", "--dir=N"],
     ["explain", "N/bad.log"], ["explain", "N/bad.log", "N/1.log"], ["explain", "N/0.log", "N/0.log"], ["explain", "--dir=N/none"],
     ["explain", *QUESTION, "--dir=N"], ["explain", *QUESTION, "--cert", "N/c.cert", "--dir=N"], ["explain", "--question", "N/bad.log", "--dir=N"],

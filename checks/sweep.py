@@ -7,7 +7,7 @@ linked first. Each command line runs with its first growth refused, then with it
 refusal; with --short few command lines run, each with few of its growths refused, but each start of a thread. Each run must answer as with ample memory, or with status 3 and
 `ira: out of memory`, or with status 2 and `ira: run refused 3`, which says that a thread couldn't be started. Where
 it gives up it has printed nothing, or all (`decide` makes the certificate after its findings, `draw` the picture after its
-line), or where it prints lines block by block, as `show --events` or `logs --each`, a first part of them; and each file that it wrote is a
+line), or where it prints lines block by block, as `show --events` or `--each`, a first part of them; and each file that it wrote is a
 first part of what it should be. An interrupted read or write is tried again, and a file that can't be opened
 while others are is opened later, so these runs answer as with ample memory.
 
@@ -35,6 +35,8 @@ LINES = [
     ["logs", "--dir", "."],
     EACH,
     ["logs", "--each", "--json", ".", "d", "."],
+    ["logs", "--each", "--leads", "any", ".", "d"],
+    ["explain", "--each", ".", "d"],
     [*CHECK, "0.log", "1.log"],
     [*CHECK, "--depth", "4", "0.log", "1.log"],
     [*CHECK, "1.log", "0.log"],
@@ -47,6 +49,7 @@ LINES = [
     ["pairs", "1"],
     ["ask", "--nodes", "3", "any leader, other choosing, each other active, all term = 1"],
     ["ask", "--nodes", "3", "any leader, choosing"],
+    ["ask", "--dir", ".", "any leader"],
     ["upgrade", "--out", "d", "0.log", "1.log"],
     ["upgrade", "--out", "d", "--dir", "."],
     ["mend", "--out", "d", "0.log", "1.log"],
@@ -134,7 +137,7 @@ def starved(ira, words, ample, shim):
 
 
 def prints_in_blocks(words):
-    return words[:1] == ["show"] and ("--events" in words or "--json" in words) or words[:2] == ["logs", "--each"]
+    return words[:1] == ["show"] and ("--events" in words or "--json" in words) or words[1:2] == ["--each"]
 
 
 def has_given_up(words, found, ample):

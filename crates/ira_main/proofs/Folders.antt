@@ -16,9 +16,10 @@ use Rattle.ira_main_cli.specs.declared.asked_leaders.AskedLeaders.TheVariants.{A
 use Rattle.ira_main_cli.specs.declared.expectation.Expectation.{Expectation}
 use Rattle.ira_main_cli.specs.declared.expectation.Expectation.TheVariants.{Leaders, Over}
 use Rattle.ira_main_files.specs.Shelf.{Reading}
-use Rattle.ira_main.specs.Each.{AreAnswersOf, AreTellable, AreTold, FolderTelling, IsAnswerOf, IsFolderAnswer, IsTellable}
+use Rattle.ira_main.specs.Each.{AreAnswersOf, AreTold, FolderTelling, IsAnswerOf, IsFolderAnswer}
 use Rattle.ira_main.specs.Each.{IsUntold, TellsEach}
 use Rattle.ira_main.specs.Each.TellsEach.{no_memory, stopped}
+use Rattle.ira_main.specs.FolderText.{AreTellable, IsTellable}
 use Rattle.ira_main.specs.JudgedFolder.{IsElectionJudged, IsJudgedOf, answer_of, other_than}
 use Rattle.ira_main.specs.JudgedFolder.IsJudgedOf.{good, no}
 use Rattle.ira_main.specs.Outcome.{Outcome}

@@ -1,34 +1,28 @@
 -- What the program does that is asked to judge the logs in each of some folders.
-use Rattle.std.specs.Prelude.{◌≡◌, ◌≢◌, ◌⊎◌, ℕ, Bool, true, false, List, [], ◌∷◌, ◌++◌, Option, Some, None, Result, Ok, Err}
-use Rattle.std.specs.Prelude.{codes, if◌then◌else◌, slice_get, take, ⊤}
+use Rattle.std.specs.Prelude.{◌≡◌, ◌≢◌, ◌⊎◌, ℕ, List, [], ◌∷◌, ◌++◌, Option, Some, None, Result, Ok, Err}
+use Rattle.std.specs.Prelude.{if◌then◌else◌, slice_get, take}
 use Rattle.std.specs.Borrow.{Bor}
-use Rattle.std.specs.List.{AllZip, filter_map, list_any}
+use Rattle.std.specs.List.{filter_map, list_any}
 use Rattle.ira_event.specs.Sink.{SinkState, StopsIn, Takes}
-use Rattle.ira_audit.specs.Report.{IsReportable}
-use Rattle.ira_audit.specs.declared.answer.Answer.TheVariants as audit
-use Rattle.ira_view_page.specs.Printable.{shown}
-use Rattle.ira_view_json.specs.FolderValue.{folder_answer_value, unread_value}
-use Rattle.ira_view_json.specs.Line.{IsLineOf}
 use Rattle.ira_view.specs.declared.form.Form.{Form}
-use Rattle.ira_view.specs.declared.form.Form.TheVariants.{Json, Words}
 use Rattle.ira_main_cli.specs.declared.expectation.Expectation.{Expectation}
+use Rattle.ira_main_cli.specs.declared.folder_detail.FolderDetail.{FolderDetail}
+use Rattle.ira_main_cli.specs.declared.folder_detail.FolderDetail.TheVariants.{Line, Reasons}
 use Rattle.ira_main_cli.specs.declared.log_source.LogSource.TheVariants.{Folder}
-use Rattle.ira_main_files.specs.FileName.{file_name}
 use Rattle.ira_main_files.specs.Shelf.{Reading}
 use Rattle.ira_main_files.specs.declared.file_name.FileName.{FileName}
 use Rattle.ira_main.specs.FilesRead.{HasTakenFiles, IsFilesFault, ReadsFiles, names_of}
+use Rattle.ira_main.specs.FolderReasons.{IsExplained}
+use Rattle.ira_main.specs.FolderText.{IsFolderText, is_no}
 use Rattle.ira_main.specs.Judge.{leaders_expected}
-use Rattle.ira_main.specs.JudgedFolder.{IsJudgedOf, answer_of, judged_line, judged_status}
+use Rattle.ira_main.specs.JudgedFolder.{IsJudgedOf}
 use Rattle.ira_main.specs.LeadersFile.{HasLeadersIn, IsNoLeaders}
 use Rattle.ira_main.specs.Outcome.{Outcome}
-use Rattle.ira_main.specs.ProgramFault.{printed_name}
 use Rattle.ira_main.specs.SourceNames.{HasNames, IsNamesFault}
-use Rattle.ira_view.specs.Status.{status_number}
 use Rattle.ira_main.specs.declared.folder_answer.FolderAnswer.{FolderAnswer}
 use Rattle.ira_main.specs.declared.folder_answer.FolderAnswer.TheVariants.{Judged, Unread}
 use Rattle.ira_main.specs.declared.folder_answer.FolderTexts.{FolderTexts}
 use Rattle.ira_main.specs.declared.judged_folder.JudgedFolder.{JudgedFolder}
-use Rattle.ira_main.specs.declared.judged_folder.JudgedFolder.TheVariants.{Answered}
 use Rattle.ira_main.specs.declared.program_fault.ProgramFault.{ProgramFault}
 use Rattle.ira_main.specs.declared.program_fault.ProgramFault.TheVariants.{CannotRead, CannotReadSome, CannotWriteAnswer}
 use Rattle.ira_main.specs.declared.program_fault.ProgramFault.TheVariants.{NoPlaceInLine, OutOfMemory}
@@ -84,35 +78,6 @@ IsFolderAnswer reads expected shelf folder (Judged judged) = IsAnswerOf reads ex
 IsFolderAnswer reads expected shelf folder (Unread name) =
     (f : ProgramFault) × IsFolderFault reads expected shelf folder f × NamesFile f name
 
--- the answer, if there is one, doesn't say that memory ran out
-abbrev pub IsTellable : FolderAnswer → Type 0
-IsTellable (Judged judged) = IsReportable (answer_of judged)
-IsTellable (Unread name) = ⊤
-
--- none of these answers says that memory ran out
-abbrev pub AreTellable : List FolderAnswer → Type 0
-AreTellable answers = (i : ℕ) (answer : FolderAnswer) → slice_get answers i ≡ Some answer → IsTellable answer
-
--- what is said of a folder after its name: what its logs are judged to be, or the file that wasn't read
-abbrev pub after_folder : FolderAnswer → List ℕ
-after_folder (Judged judged) = codes ": " ++ judged_line judged
-after_folder (Unread name) = codes ": cannot read " ++ printed_name name ++ codes "\n"
-
--- the line of a folder, whose name is as it is printed
-abbrev pub folder_line : List ℕ → FolderAnswer → List ℕ
-folder_line folder answer = shown folder ++ after_folder answer
-
--- the same as a line of JSON: the answer of the logs, and the status that goes with what they are judged to be
-abbrev pub IsFolderObject : List ℕ → FolderAnswer → List ℕ → Type 0
-IsFolderObject folder (Judged judged) line =
-    IsLineOf (folder_answer_value folder (status_number (judged_status judged)) (answer_of judged)) line
-IsFolderObject folder (Unread name) line = IsLineOf (unread_value (Some folder) (file_name name) 2) line
-
--- what is printed of a folder
-abbrev pub IsFolderText : Form → List ℕ → FolderAnswer → List ℕ → Type 0
-IsFolderText Json folder answer line = IsFolderObject folder answer line
-IsFolderText Words folder answer line = line ≡ folder_line folder answer
-
 -- what is told of a folder: what comes of it, and its line
 abbrev pub FolderTelling : Type 1
 FolderTelling = Bor (List ℕ) → FolderAnswer → List ℕ → Type 0
@@ -132,12 +97,7 @@ unread_name (Judged judged) = None
 abbrev pub unread_names : List FolderAnswer → List FileName
 unread_names answers = filter_map unread_name answers
 
--- the status of answers: no where one is no or isn't as expected, else yes
-abbrev pub is_no : FolderAnswer → Bool
-is_no (Unread name) = false
-is_no (Judged (Answered audit.Yes)) = false
-is_no (Judged judged) = true
-
+-- the status of answers: no where one is no, else yes
 abbrev pub each_status : List FolderAnswer → Status
 each_status answers = if list_any is_no answers then status.No else status.Yes
 
@@ -160,16 +120,22 @@ pub data TellsEach (Told : FolderTelling) (folders : List (Bor (List ℕ))) (out
       → AreTold Told (take first folders) answers text → Takes text out out'
       → outcome ≡ Err OutOfMemory → TellsEach Told folders out out' outcome
 
--- a folder was judged, and its line is printed
-abbrev pub IsJudgedLine : {S : Type 0} → Reading S → Form → Option Expectation → S → FolderTelling
-IsJudgedLine reads form expected shelf folder answer line =
-    IsFolderAnswer reads expected shelf folder answer × IsFolderText form folder.now answer line
+-- what is printed of a folder: its line, or why it is so as well
+abbrev pub IsDetailed : Type 0 → {S : Type 0} → Reading S → Form → Option Expectation → FolderDetail → S → FolderTelling
+IsDetailed A reads form expected Line shelf folder answer text = IsFolderText form folder.now answer text
+IsDetailed A reads form expected Reasons shelf folder answer text =
+    IsExplained A reads form (leaders_expected expected) shelf folder answer text
 
--- each of the folders was judged for itself, and its line printed
-abbrev pub JudgesEach : {S : Type 0} → Reading S → Form → Option Expectation → List (Bor (List ℕ)) → S
-    → SinkState → SinkState → Outcome → Type 0
-JudgesEach reads form expected folders shelf out out' outcome =
-    TellsEach (IsJudgedLine reads form expected shelf) folders out out' outcome
+-- a folder was judged, and this is printed of it
+abbrev pub IsJudgedLine : Type 0 → {S : Type 0} → Reading S → Form → Option Expectation → FolderDetail → S → FolderTelling
+IsJudgedLine A reads form expected detail shelf folder answer text =
+    IsFolderAnswer reads expected shelf folder answer × IsDetailed A reads form expected detail shelf folder answer text
+
+-- each of the folders was judged for itself, and this printed of it
+abbrev pub JudgesEach : Type 0 → {S : Type 0} → Reading S → Form → Option Expectation → FolderDetail
+    → List (Bor (List ℕ)) → S → SinkState → SinkState → Outcome → Type 0
+JudgesEach A reads form expected detail folders shelf out out' outcome =
+    TellsEach (IsJudgedLine A reads form expected detail shelf) folders out out' outcome
 
 -- ---- Helpers, no definitions.
 

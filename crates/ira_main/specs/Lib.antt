@@ -6,6 +6,8 @@ pub mod Draw
 pub mod Each
 pub mod Explain
 pub mod FilesRead
+pub mod FolderReasons
+pub mod FolderText
 pub mod Given
 pub mod Guide
 pub mod InputAudit

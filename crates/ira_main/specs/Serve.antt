@@ -1,5 +1,5 @@
 -- What the program does.
-use Rattle.std.specs.Prelude.{◌≡◌, ◌≢◌, ◌⊎◌, ℕ, ◌+◌, true, Err, List, [], None, Option, Some, codes}
+use Rattle.std.specs.Prelude.{◌≡◌, ◌≢◌, ◌⊎◌, ℕ, ◌+◌, true, Err, List, [], None, Option, Some, codes, option_map}
 use Rattle.std.specs.Borrow.{Bor}
 use Rattle.std.specs.Option.{is_some}
 use Rattle.ira_event.specs.Limits.{MAX_TEXT}
@@ -13,16 +13,19 @@ use Rattle.ira_commands.specs.Reply.{Reply, Reports}
 use Rattle.ira_commands.specs.Run.{RunsRing}
 use Rattle.ira_commands.specs.Upgrade.{UpgradesTexts}
 use Rattle.ira_commands.specs.declared.logs_command.LogsCommand.{LogsCommand}
-use Rattle.ira_commands.specs.declared.logs_command.LogsCommand.TheVariants.{Check, Decide, Explain, ExplainCheck, ExplainQuestion}
+use Rattle.ira_commands.specs.declared.logs_command.LogsCommand.TheVariants.{Check, Decide, ExplainCheck, ExplainQuestion}
 use Rattle.ira_main_cli.specs.Request.{IsCheckLine, IsDecideLine, IsDrawLine, IsEachLine, IsExplainLine, IsGuideLine, IsLogsLine}
 use Rattle.ira_main_cli.specs.Request.{IsAskLine, IsMendLine, IsPairsLine, IsRunLine, IsShowLine, IsUpgradeLine, IsVersionLine, MayBeRefused}
+use Rattle.ira_main_cli.specs.declared.asked_leaders.AskedLeaders.{AskedLeaders}
 use Rattle.ira_main_cli.specs.declared.check_request.CheckRequest.{CheckRequest}
 use Rattle.ira_main_cli.specs.declared.decide_request.DecideRequest.{DecideRequest}
 use Rattle.ira_main_cli.specs.declared.draw_request.DrawRequest.{DrawRequest}
 use Rattle.ira_main_cli.specs.declared.each_request.EachRequest.{EachRequest}
+use Rattle.ira_main_cli.specs.declared.expectation.Expectation.TheVariants.{Leaders}
 use Rattle.ira_main_cli.specs.declared.explain_request.ExplainRequest.{ExplainRequest}
 use Rattle.ira_main_cli.specs.declared.explained_answer.ExplainedAnswer.{ExplainedAnswer}
-use Rattle.ira_main_cli.specs.declared.explained_answer.ExplainedAnswer.TheVariants.{OneLog, Logs, Leaders, Findings, Certificate}
+use Rattle.ira_main_cli.specs.declared.explained_answer.ExplainedAnswer.TheVariants.{OneLog, Logs, Findings, Certificate}
+use Rattle.ira_main_cli.specs.declared.folder_detail.FolderDetail.TheVariants.{Line, Reasons}
 use Rattle.ira_main_cli.specs.declared.guide_topic.GuideTopic.{GuideTopic}
 use Rattle.ira_main_cli.specs.declared.log_source.LogSource.{LogSource}
 use Rattle.ira_main_cli.specs.declared.logs_request.LogsRequest.{LogsRequest}
@@ -42,7 +45,7 @@ use Rattle.ira_main.specs.AskedRun.{run_of}
 use Rattle.ira_main.specs.Delivery.{Tells, TellsAndKeeps, TellsAndRecords}
 use Rattle.ira_main.specs.Draw.{DrawsFiles, IsUndrawn}
 use Rattle.ira_main.specs.Each.{JudgesEach}
-use Rattle.ira_main.specs.Explain.{ExplainsInput, ExplainsLeadersIn, IsUnexplained}
+use Rattle.ira_main.specs.Explain.{ExplainsIn, ExplainsInput, IsUnexplained}
 use Rattle.ira_main.specs.Given.{IsNoMemory, IsUnread, OfFiles}
 use Rattle.ira_main.specs.Guide.{guide_text}
 use Rattle.ira_main.specs.Mend.{IsUnmended, MendsLogs}
@@ -74,27 +77,33 @@ TellsOfLogs A reads question certificate source shelf out out' outcome command =
     Tells (OfFiles reads None question certificate source shelf (Answers A command))
     (IsUnread reads None question certificate source shelf) out out' outcome
 
+-- the answer of logs was explained, or of each of some folders, which may stand in place of files
+abbrev pub ExplainsLogs : Type 0 → Form → {S : Type 0} → Reading S → Option AskedLeaders → LogSource → S → SinkState
+    → SinkState → Outcome → Type 0
+ExplainsLogs A form reads named source shelf out out' outcome =
+    (IsOfOneRing reads shelf source
+    × Tells (ExplainsIn A reads form named source shelf) (IsUnexplained reads named source shelf) out out' outcome)
+    ⊎ ((folders : List (Bor (List ℕ))) × AreSeveralFolders reads shelf source folders
+    × JudgesEach A reads form (option_map Leaders named) Reasons folders shelf out out' outcome)
+
 -- the answer that is asked for was explained; that of one log is none of these, since it comes of the input
 abbrev pub ExplainsAnswer : Type 0 → Form → {S : Type 0} → Reading S → ExplainedAnswer → S → SinkState → SinkState
     → Outcome → Type 0
 ExplainsAnswer A form reads OneLog shelf out out' outcome = ⊥
-ExplainsAnswer A form reads (Logs source) shelf out out' outcome =
-    TellsOfLogs A reads None None source shelf out out' outcome (Explain form)
-ExplainsAnswer A form reads (Leaders named source) shelf out out' outcome =
-    Tells (ExplainsLeadersIn A reads form named source shelf) (IsUnexplained reads named source shelf) out out' outcome
+ExplainsAnswer A form reads (Logs named source) shelf out out' outcome =
+    ExplainsLogs A form reads named source shelf out out' outcome
 ExplainsAnswer A form reads (Findings asked source) shelf out out' outcome =
     TellsOfLogs A reads (Some asked.question) None source shelf out out' outcome (ExplainQuestion form asked.case)
 ExplainsAnswer A form reads (Certificate question certificate source) shelf out out' outcome =
     TellsOfLogs A reads (Some question) (Some certificate) source shelf out out' outcome (ExplainCheck form)
 
--- what is done for words: they are refused; or they ask for logs, or for the evidence of an answer, and their texts
--- are judged together, or those of each of some folders, which may stand in place of files; or to show logs, and what happened by them is printed; or to draw
--- them, and a picture is kept; or to check logs, and their texts are judged with those of a question and of a certificate; or
--- to decide a question of them, and it is decided of their texts; or for the question of all pairs, or of a sentence, and it
--- is printed; or for
--- a ring, and it is run; or to upgrade logs, or to mend them, and it is done; or for a guide or the version, and it is
--- printed. Or no answer is given, for a fault that the command can have. The shelf is as it was but for the files of a run, of upgraded or
--- mended logs, of a certificate and of a picture
+-- what is done for words: they are refused; or they ask for logs, or for the evidence of an answer, and their texts are
+-- judged together, or those of each of some folders, which may stand in place of files; or to show logs, and what happened
+-- by them is printed; or to draw them, and a picture is kept; or to check logs, and their texts are judged with those of a
+-- question and of a certificate; or to decide a question of them, and it is decided of their texts; or for the question of
+-- all pairs, or of a sentence, and it is printed; or for a ring, and it is run; or to upgrade logs, or to mend them, and it is
+-- done; or for a guide or the version, and it is printed. Or no answer is given, for a fault that the command can have. The
+-- shelf is as it was but for the files of a run, of upgraded or mended logs, of a certificate and of a picture
 pub data CommandOutcome (A : Type 0) {S : Type 0} (reads : Reading S) (writes : Writing S)
     (words : List (List ℕ)) (shelf shelf' : S) (out out' : SinkState)
     (outcome : Outcome) : Type 0 where
@@ -105,11 +114,11 @@ pub data CommandOutcome (A : Type 0) {S : Type 0} (reads : Reading S) (writes : 
       → Tells (JudgesFiles A reads logs shelf) (IsUnjudged reads logs shelf) out out' outcome
       → CommandOutcome A reads writes words shelf shelf' out out' outcome
   each : (asked : EachRequest) → IsEachLine words asked → shelf' ≡ shelf
-      → JudgesEach reads (json_form asked.is_json) asked.expected asked.folders.items shelf out out' outcome
+      → JudgesEach A reads (json_form asked.is_json) asked.expected asked.detail asked.folders.items shelf out out' outcome
       → CommandOutcome A reads writes words shelf shelf' out out' outcome
   folders : (logs : LogsRequest) (names : List (Bor (List ℕ))) → IsLogsLine words logs
       → AreSeveralFolders reads shelf logs.logs names → shelf' ≡ shelf
-      → JudgesEach reads (json_form logs.is_json) logs.expected names shelf out out' outcome
+      → JudgesEach A reads (json_form logs.is_json) logs.expected Line names shelf out out' outcome
       → CommandOutcome A reads writes words shelf shelf' out out' outcome
   explained : (explain : ExplainRequest) → IsExplainLine words explain → shelf' ≡ shelf
       → ExplainsAnswer A (json_form explain.is_json) reads explain.answer shelf out out' outcome

@@ -1,8 +1,8 @@
-ghost use Rattle.std.specs.Prelude.{◌≤◌, ◌+◌, IfOk, MatchResult, None, Some};
+ghost use Rattle.std.specs.Prelude.{◌≤◌, ◌+◌, IfOk, MatchResult, None, Some, option_map};
 ghost use Rattle.ira_commands.specs.Answers.{Answers};
 ghost use Rattle.ira_commands.specs.Given.{given_of};
 ghost use Rattle.ira_commands.specs.declared.logs_command.LogsCommand.TheVariants.{ExplainCheck};
-ghost use Rattle.ira_main.specs.Explain.{ExplainsInput, ExplainsLeadersIn, IsUnexplained};
+ghost use Rattle.ira_main.specs.Explain.{ExplainsIn, ExplainsInput, IsUnexplained};
 ghost use Rattle.ira_main.specs.Given.{IsUnread, OfFiles};
 ghost use Rattle.ira_main.specs.NamedFile.{names_in, texts_in};
 ghost use Rattle.ira_main.specs.Serve.{IsInputFault, OfInput};
@@ -46,12 +46,12 @@ pub(crate) fn explain_input<'a, A: Allocator + Clone, I: Read>(
     Ok(explain_one(alloc, form, &log)?)
 }
 
-/// Explains the answer of logs, and who leads, in the files that are named.
-pub(crate) fn explain_leaders_files<'a, R, A, F>(
+/// Explains the answer of logs in the files that are named, and who leads, where leaders are named.
+pub(crate) fn explain_files<'a, R, A, F>(
     rt: &R,
     alloc: A,
     form: Form,
-    asked: &AskedLeaders<'a>,
+    named: Option<&AskedLeaders<'a>>,
     source: &LogSource<'a>,
     shelf: &F,
 ) -> Result<Reply<A>, ProgramFault<'a>>
@@ -59,12 +59,19 @@ where
     R: Threads + Sync,
     A: Allocator + Clone + Send + Sync,
     F: TextSource + Sync,
-    ensures { MatchResult result (ExplainsLeadersIn A F.reads form asked.now source.now shelf.now)
-        (IsUnexplained F.reads asked.now source.now shelf.now) }
+    ensures { MatchResult result
+        (ExplainsIn A F.reads form (option_map (λ asked. asked.now) named.entry) source.now shelf.now)
+        (IsUnexplained F.reads (option_map (λ asked. asked.now) named.entry) source.now shelf.now) }
 {
-    let read = leaders_in(&alloc, Some(asked), source, shelf)?;
-    let command = LogsCommand::ExplainLeaders(form, leaders_of(asked, &read));
-    answer_files(rt, alloc, command, Inputs::asked(None, source, None), shelf)
+    let inputs = Inputs::asked(None, source, None);
+    match named {
+        None => answer_files(rt, alloc, LogsCommand::Explain { form }, inputs, shelf),
+        Some(asked) => {
+            let read = leaders_in(&alloc, Some(asked), source, shelf)?;
+            let command = LogsCommand::ExplainLeaders(form, leaders_of(asked, &read));
+            answer_files(rt, alloc, command, inputs, shelf)
+        }
+    }
 }
 
 /// The answer of logs in files that were read, of a question and of a certificate, and why it is so.

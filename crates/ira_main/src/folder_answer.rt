@@ -1,8 +1,9 @@
 ghost use Rattle.std.specs.Prelude.{◌≡◌, ◌++◌, ℕ, IfOk, List, OnOk, string_bytes};
 ghost use Rattle.ira_event.specs.Sink.{Wrote};
-ghost use Rattle.ira_main.specs.Each.{IsFolderAnswer, IsFolderAudit, IsFolderObject, IsFolderText, IsTellable, after_folder, folder_line};
+ghost use Rattle.ira_main.specs.Each.{IsFolderAnswer, IsFolderAudit};
+ghost use Rattle.ira_main.specs.FolderText.{IsFolderObject, IsFolderText, IsTellable, after_folder, folder_line, is_no};
 ghost use Rattle.ira_audit.specs.RingAudit.{HasTaken};
-ghost use Rattle.ira_main.specs.Each.{is_no, unread_name};
+ghost use Rattle.ira_main.specs.Each.{unread_name};
 ghost use Rattle.ira_main.specs.JudgedFolder.{IsJudgedOf};
 
 use crate::judge_files::expected_leaders;

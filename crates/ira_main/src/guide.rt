@@ -18,6 +18,7 @@ const COMMANDS_GUIDE: &[u8] = b"\
     ira logs --each [--over | --leads <P,..|any|FILE>] [--json] <DIR>...
     ira explain [--json] [<LOGS>]
     ira explain --leads <P,..|any|FILE> [--json] <LOGS>
+    ira explain --each [--leads <P,..|any|FILE>] [--json] <DIR>...
     ira explain --question <Q> [--case <K> | --cert <C>] [--json] <LOGS>
     ira show [OPTIONS] <LOGS>
     ira draw --out <FILE> [OPTIONS] <LOGS>
@@ -37,7 +38,7 @@ LOGS is either <LOG>... or --dir <DIR>. Without words `ira` judges one log on st
     logs     Judges the logs of all nodes of a ring together
     explain  Judges logs, or one log on standard input, and says why the answer is so
     show     Shows what happened, at the end of the logs or at another moment
-    draw     Draws what happened, as a space-time diagram in one SVG file
+    draw     Draws what happened, as a space-time diagram: an SVG file or a page
     check    Judges logs together with a certificate that no moment met a case of a question
     decide   Decides for each case of a question whether some moment of the logged run met it
     pairs    Prints the question whether two nodes of a ring ever lead at once

@@ -1,15 +1,17 @@
-ghost use Rattle.std.specs.Prelude.{◌≡◌, ◌<◌, IfOk, IfSome, MatchResult, length};
+ghost use Rattle.std.specs.Prelude.{◌≡◌, ◌<◌, ◌++◌, ℕ, IfOk, IfSome, List, MatchResult, OnOk, length};
 ghost use Rattle.std.specs.List.{AllZip, list_any};
-ghost use Rattle.ira_main.specs.Each.{AreAnswersOf, AreTellable, AreTold, IsAnswerAt, IsAnswerOf, IsFolderAnswer};
-ghost use Rattle.ira_main.specs.Each.{IsFolderText, IsJudgedLine, IsUntold, JudgesEach, TellsSome, each_status, is_no};
-ghost use Rattle.ira_main.specs.Each.{unread_names};
+ghost use Rattle.ira_main.specs.Each.{AreAnswersOf, AreTold, IsAnswerAt, IsAnswerOf, IsDetailed, IsFolderAnswer};
+ghost use Rattle.ira_main.specs.Each.{IsJudgedLine, IsUntold, JudgesEach, TellsSome, each_status, unread_names};
+ghost use Rattle.ira_main.specs.FolderText.{AreTellable, IsTellable, is_no};
 
 use crate::folder_answer::{FolderAnswer, judge_folder};
+use crate::folder_reasons::add_explained;
+use crate::judge_files::expected_leaders;
 use crate::judged_folder::JudgedFolder;
 use crate::program_fault::ProgramFault;
 use crate::read_files::{chunk_from, thread_count};
 use ira_event::{MemorySink, OutOfMemory, Sink, WriteFault, write_bytes};
-use ira_main_cli::Expectation;
+use ira_main_cli::{Expectation, FolderDetail};
 use ira_main_files::{FileName, Shelf, TextSource};
 use ira_view::{Form, Status};
 use std::alloc::{AllocError, Allocator, Global};
@@ -113,21 +115,62 @@ where
     Ok(answers)
 }
 
-/// What is printed of these folders, in their order.
-fn folder_texts<A: Allocator + Clone>(
-    alloc: A,
+/// Adds what is printed of a folder of which this came.
+fn add_detailed<R, A, F>(
+    rt: &R,
+    alloc: &A,
     form: Form,
+    expected: &Option<Expectation<'_>>,
+    detail: FolderDetail,
+    folder: &str,
+    answer: &FolderAnswer<'_>,
+    shelf: &F,
+    text: &mut MemorySink<A>,
+) -> Result<(), OutOfMemory>
+where
+    R: Threads + Sync,
+    A: Allocator + Clone + Send + Sync,
+    F: TextSource + Sync,
+    requires { IsTellable answer.now }
+    ensures { OnOk result ((more : List ℕ)
+        × IsDetailed A F.reads form expected.now detail shelf.now folder.entry answer.now more
+        × (text.new.bytes ≡ text.old.bytes ++ more)) }
+{
+    match detail {
+        FolderDetail::Line => answer.add_text(alloc.clone()?, form, folder, text),
+        FolderDetail::Reasons => {
+            let named = expected_leaders(expected);
+            add_explained(rt, alloc, form, named, folder, answer, shelf, text)
+        }
+    }
+}
+
+/// What is printed of these folders, in their order.
+fn folder_texts<R, A, F>(
+    rt: &R,
+    alloc: &A,
+    form: Form,
+    expected: &Option<Expectation<'_>>,
+    detail: FolderDetail,
     folders: &[&str],
     answers: &[FolderAnswer<'_>],
+    shelf: &F,
 ) -> Result<MemorySink<A>, OutOfMemory>
+where
+    R: Threads + Sync,
+    A: Allocator + Clone + Send + Sync,
+    F: TextSource + Sync,
     requires number { length answers.now ≡ length folders.now }
     requires tellable { AreTellable answers.now }
     ensures { IfOk result (λ text.
-        AreTold (λ folder. IsFolderText form folder.now) folders.now answers.now text.bytes) }
+        AreTold (IsDetailed A F.reads form expected.now detail shelf.now) folders.now answers.now text.bytes) }
 {
     let mut text = MemorySink::new(alloc.clone()?);
     for i in 0..folders.len() {
-        answers[i].add_text(alloc.clone()?, form, folders[i], &mut text)?;
+        let (folder, answer) = (folders[i], &answers[i]);
+        add_detailed(
+            rt, alloc, form, expected, detail, folder, answer, shelf, &mut text,
+        )?;
     }
     Ok(text)
 }
@@ -166,22 +209,24 @@ fn tell_some<'a, R, A, F, W>(
     alloc: &A,
     form: Form,
     expected: &Option<Expectation<'a>>,
+    detail: FolderDetail,
     folders: &[&'a str],
     shelf: &F,
     out: &mut W,
 ) -> Result<Vec<FolderAnswer<'a>, A>, ProgramFault<'a>>
 where
     R: Threads + Sync,
-    A: Allocator + Clone + Sync,
+    A: Allocator + Clone + Send + Sync,
     F: TextSource + Sync,
     W: Sink,
     ensures { MatchResult result
-        (λ answers. TellsSome (IsJudgedLine F.reads form expected.now shelf.now) folders.now (W.state out.old)
+        (λ answers. TellsSome (IsJudgedLine A F.reads form expected.now detail shelf.now) folders.now (W.state out.old)
         (W.state out.new) answers.items)
-        (IsUntold (IsJudgedLine F.reads form expected.now shelf.now) folders.now (W.state out.old) (W.state out.new)) }
+        (IsUntold (IsJudgedLine A F.reads form expected.now detail shelf.now) folders.now (W.state out.old)
+        (W.state out.new)) }
 {
     let answers = folder_answers(rt, alloc, expected, folders, shelf)?;
-    let text = folder_texts(alloc.clone()?, form, folders, &answers)?;
+    let text = folder_texts(rt, alloc, form, expected, detail, folders, &answers, shelf)?;
     match write_bytes(text.bytes(), out) {
         Ok(()) => Ok(answers),
         Err(WriteFault) => Err(ProgramFault::CannotWriteAnswer),
@@ -195,6 +240,7 @@ pub(crate) fn judge_each<'a, R, A, F, W>(
     alloc: A,
     form: Form,
     expected: &Option<Expectation<'a>>,
+    detail: FolderDetail,
     folders: &[&'a str],
     shelf: &F,
     out: &mut W,
@@ -204,13 +250,14 @@ where
     A: Allocator + Clone + Send + Sync,
     F: Shelf + Sync,
     W: Sink,
-    ensures { JudgesEach F.reads form expected.now folders.now shelf.now (W.state out.old) (W.state out.new) result }
+    ensures { JudgesEach A F.reads form expected.now detail folders.now shelf.now (W.state out.old) (W.state out.new)
+        result }
 {
     let size = thread_count(rt);
     let mut answers = Vec::new(alloc.clone()?);
     while answers.len() < folders.len() {
         let some = chunk_from(folders, answers.len(), size);
-        answers.append(&mut tell_some(rt, &alloc, form, expected, some, shelf, out)?)?;
+        answers.append(&mut tell_some(rt, &alloc, form, expected, detail, some, shelf, out)?)?;
     }
     let unread = unread(rt.alloc(), &answers)?;
     if unread.is_empty() {

@@ -13,7 +13,8 @@ use crate::ask_files::ask_files;
 use crate::asked_run::{record_run_alone, record_run_on_threads};
 use crate::delivery::{deliver, deliver_and_keep, record_and_deliver};
 use crate::draw_files::draw_files;
-use crate::explain_files::{explain_check_files, explain_input, explain_leaders_files};
+use crate::explain_files::{explain_check_files, explain_input};
+use crate::explain_logs::explain_logs;
 use crate::given::Inputs;
 use crate::guide::print_guide;
 use crate::judge_each::judge_each;
@@ -30,7 +31,7 @@ use crate::version::print_version;
 use ira_commands::{LogsCommand, Reply, ask_pairs};
 use ira_event::{MAX_TEXT, Sink};
 use ira_main_cli::{
-    CaseSelection, EachRequest, ExplainRequest, ExplainedAnswer, Request, read_words,
+    CaseSelection, EachRequest, ExplainRequest, ExplainedAnswer, FolderDetail, Request, read_words,
 };
 use ira_main_files::{CountingReader, Shelf};
 use ira_view::{Form, Status};
@@ -78,7 +79,10 @@ where
             if let Some(folders) = several_folders(&logs.logs, shelf) {
                 let form = Form::of_json(logs.is_json);
                 let expected = &logs.expected;
-                return Progress::Ended(judge_each(rt, alloc, form, expected, folders, shelf, out));
+                let detail = FolderDetail::Line;
+                return Progress::Ended(judge_each(
+                    rt, alloc, form, expected, detail, folders, shelf, out,
+                ));
             }
             Progress::Ended(deliver(judge_logs(rt, alloc, &logs, shelf), out))
         }
@@ -86,11 +90,13 @@ where
             EachRequest {
                 is_json,
                 expected,
+                detail,
                 folders,
             },
         ) => {
             let form = Form::of_json(is_json);
-            Progress::Ended(judge_each(rt, alloc, form, &expected, &folders, shelf, out))
+            let asked = &expected;
+            Progress::Ended(judge_each(rt, alloc, form, asked, detail, &folders, shelf, out))
         }
         Request::Explain(ExplainRequest { answer, is_json }) => {
             let form = Form::of_json(is_json);
@@ -98,14 +104,8 @@ where
                 ExplainedAnswer::OneLog => {
                     Progress::Ended(deliver(explain_input(alloc, form, input), out))
                 }
-                ExplainedAnswer::Logs(logs) => {
-                    let command = LogsCommand::Explain { form };
-                    let inputs = Inputs::asked(None, &logs, None);
-                    Progress::Ended(deliver(answer_files(rt, alloc, command, inputs, shelf), out))
-                }
-                ExplainedAnswer::Leaders { leaders, logs } => {
-                    let reply = explain_leaders_files(rt, alloc, form, &leaders, &logs, shelf);
-                    Progress::Ended(deliver(reply, out))
+                ExplainedAnswer::Logs { leaders, logs } => {
+                    Progress::Ended(explain_logs(rt, alloc, form, leaders, &logs, shelf, out))
                 }
                 ExplainedAnswer::Findings { asked, logs } => {
                     let CaseSelection { question, case } = asked;
@@ -220,8 +220,7 @@ where
 /// for `explain` without logs. With other words it reads nothing of `input`:
 ///
 /// * `logs` judges the logs of a ring together, in the files that are named or in a folder, or those in each of some folders;
-///   `explain` does so too, and says why
-///   the answer is as it is, also with a question or a certificate;
+///   `explain` does so too, and says why the answer is as it is, also with a question or a certificate;
 /// * `show` says what happened by the logs, and `draw` keeps a picture of it in a file;
 /// * `check` judges logs with the question and the certificate in the files of its options; `decide` decides the question of
 ///   them, and keeps a certificate in a file if one is named and all cases are absent;

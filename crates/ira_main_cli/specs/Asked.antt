@@ -22,6 +22,7 @@ use Rattle.ira_main_cli.specs.declared.ask_request.AskRequest.{AskRequest}
 use Rattle.ira_main_cli.specs.declared.explain_request.ExplainRequest.{ExplainRequest}
 use Rattle.ira_main_cli.specs.declared.explained_answer.ExplainedAnswer.{ExplainedAnswer}
 use Rattle.ira_main_cli.specs.declared.explained_answer.ExplainedAnswer.TheVariants as explained
+use Rattle.ira_main_cli.specs.declared.folder_detail.FolderDetail.TheVariants.{Line, Reasons}
 use Rattle.ira_main_cli.specs.declared.guide_topic.GuideTopic.{GuideTopic}
 use Rattle.ira_main_cli.specs.declared.guide_topic.GuideTopic.TheVariants as topic
 use Rattle.ira_main_cli.specs.declared.log_source.LogSource.{LogSource}
@@ -29,7 +30,7 @@ use Rattle.ira_main_cli.specs.declared.log_source.LogSource.TheVariants.{Files, 
 use Rattle.ira_main_cli.specs.declared.logs_request.LogsRequest.{LogsRequest}
 use Rattle.ira_main_cli.specs.declared.mend_request.MendRequest.{MendRequest}
 use Rattle.ira_main_cli.specs.declared.request.Request.{Request}
-use Rattle.ira_main_cli.specs.declared.request.Request.TheVariants.{Each, Logs}
+use Rattle.ira_main_cli.specs.declared.request.Request.TheVariants.{Each, Explain, Logs}
 use Rattle.ira_main_cli.specs.declared.rewrite_request.RewriteRequest.{RewriteRequest}
 use Rattle.ira_main_cli.specs.declared.run_request.RunRequest.{RunRequest}
 use Rattle.ira_main_cli.specs.declared.show_request.ShowRequest.{ShowRequest}
@@ -124,9 +125,7 @@ pub record HasCertificate (rows : List Row) (question certificate : List ℕ) (l
 abbrev pub HasAnswer : List Row → ExplainedAnswer → Type 0
 HasAnswer rows explained.OneLog =
     AsksNothing rows × HasLeaders rows None × IsLeftOut (codes "dir") rows × (all_of (codes "LOG") rows ≡ None)
-HasAnswer rows (explained.Logs source) = AsksNothing rows × HasLeaders rows None × HasLogs rows source
-HasAnswer rows (explained.Leaders leaders source) =
-    AsksNothing rows × HasLeaders rows (Some leaders) × HasLogs rows source
+HasAnswer rows (explained.Logs leaders source) = AsksNothing rows × HasLeaders rows leaders × HasLogs rows source
 HasAnswer rows (explained.Findings asked logs) = HasFindings rows asked logs
 HasAnswer rows (explained.Certificate question certificate logs) = HasCertificate rows question.now certificate.now logs
 
@@ -139,9 +138,10 @@ pub record NamesAnswer (rows : List Row) : Type 0 where
   pub one : IsLeftOut (codes "case") rows ⊎ IsLeftOut (codes "cert") rows
   pub leads : IsLeftOut (codes "leads") rows ⊎ (IsLeftOut (codes "question") rows × NamesLogs rows)
 
--- the answer is that of what is named, and JSON is wanted exactly where `--json` is given
+-- the answer is that of what is named together, and JSON is wanted exactly where `--json` is given
 pub record HasAnswerToExplain (rows : List Row) (explain : ExplainRequest) : Type 0 where
   pub answer : HasAnswer rows explain.answer
+  pub together : is_given (codes "each") rows ≡ false
   pub json : explain.is_json ≡ is_given (codes "json") rows
 
 -- ---- the other requests
@@ -173,8 +173,21 @@ pub record HasFolders (rows : List Row) (folders : List (Bor Text)) : Type 0 whe
 
 -- the same where `--each` is given, with what is expected of each election
 pub record HasFoldersToJudge (rows : List Row) (request : EachRequest) : Type 0 where
+  pub detail : request.detail ≡ Line
   pub json : request.is_json ≡ is_given (codes "json") rows
   pub expected : HasExpectation rows request.expected
+  pub each : is_given (codes "each") rows ≡ true
+  pub folders : HasFolders rows request.folders.items
+
+-- the same where reasons are asked for as well, and these leaders are expected, if any; neither a question nor anything
+-- of one is named
+pub record HasFoldersToExplain (rows : List Row) (request : EachRequest) : Type 0 where
+  pub detail : request.detail ≡ Reasons
+  pub json : request.is_json ≡ is_given (codes "json") rows
+  pub leads : Option AskedLeaders
+  pub leads_are : HasLeaders rows leads
+  pub expected : request.expected ≡ option_map Leaders leads
+  pub nothing : AsksNothing rows
   pub each : is_given (codes "each") rows ≡ true
   pub folders : HasFolders rows request.folders.items
 
@@ -189,6 +202,12 @@ pub record NamesFolders (rows : List Row) : Type 0 where
 pub record NamesLogsToJudge (rows : List Row) : Type 0 where
   pub logs : NamesLogs rows
   pub expected : NamesExpectation rows
+  pub folders : is_given (codes "each") rows ≡ true → NamesFolders rows
+
+-- where each folder is to be explained folders are named, and neither a question nor anything of one; else an answer is
+pub record NamesAnswers (rows : List Row) : Type 0 where
+  pub answer : is_given (codes "each") rows ≡ false → NamesAnswer rows
+  pub question : is_given (codes "each") rows ≡ true → AsksNothing rows
   pub folders : is_given (codes "each") rows ≡ true → NamesFolders rows
 
 -- the request has the values of these options, and the logs that are named beside them; events and JSON are wanted
@@ -312,3 +331,9 @@ abbrev pub AsksLogs : List Row → Request → Type 0
 AsksLogs rows (Logs request) = HasLogsToJudge rows request
 AsksLogs rows (Each request) = HasFoldersToJudge rows request
 AsksLogs rows other = ⊥
+
+-- the answer of logs is to be explained, or those of each folder
+abbrev pub AsksReasons : List Row → Request → Type 0
+AsksReasons rows (Explain explain) = HasAnswerToExplain rows explain
+AsksReasons rows (Each request) = HasFoldersToExplain rows request
+AsksReasons rows other = ⊥

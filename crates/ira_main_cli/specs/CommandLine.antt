@@ -75,8 +75,8 @@ logs_app =
 abbrev pub explain_app : App
 explain_app =
     command_app (codes "explain")
-    (text_rule (codes "leads") ∷ text_rule (codes "question") ∷ number_rule (codes "case") ∷ text_rule (codes "cert")
-    ∷ json_rule ∷ source_rules)
+    (flag_rule (codes "each") ∷ text_rule (codes "leads") ∷ text_rule (codes "question") ∷ number_rule (codes "case")
+    ∷ text_rule (codes "cert") ∷ json_rule ∷ source_rules)
 
 abbrev pub show_app : App
 show_app =

@@ -4,10 +4,10 @@ use Rattle.clap.specs.Faults.{fault_of}
 use Rattle.clap.specs.Simple.{HasMatchesOf}
 use Rattle.clap.specs.Walk.{Row, Text, rows_after}
 use Rattle.clap.specs.declared.parser.matches.ArgMatches.{ArgMatches}
-use Rattle.ira_main_cli.specs.Asked.{HasAnswerToExplain, HasFiles, HasFilesToDecide, HasFilesToRewrite, HasFoldersToJudge}
-use Rattle.ira_main_cli.specs.Asked.{HasLogsToDraw, HasLogsToJudge, HasLogsToMend, HasLogsToShow, HasOptions, HasSentence, HasTopic, IsOfFiles}
-use Rattle.ira_main_cli.specs.Asked.{NamesAnswer, NamesLogs, NamesLogsToDraw, NamesLogsToJudge, NamesLogsToMend}
-use Rattle.ira_main_cli.specs.Asked.{NamesLogsToShow, NamesSize, NamesTopic}
+use Rattle.ira_main_cli.specs.Asked.{HasAnswerToExplain, HasFiles, HasFilesToDecide, HasFilesToRewrite}
+use Rattle.ira_main_cli.specs.Asked.{HasFoldersToExplain, HasFoldersToJudge, HasLogsToDraw, HasLogsToJudge, HasLogsToMend}
+use Rattle.ira_main_cli.specs.Asked.{HasLogsToShow, HasOptions, HasSentence, HasTopic, IsOfFiles, NamesAnswers, NamesLogs}
+use Rattle.ira_main_cli.specs.Asked.{NamesLogsToDraw, NamesLogsToJudge, NamesLogsToMend, NamesLogsToShow, NamesSize, NamesTopic}
 use Rattle.ira_main_cli.specs.CommandLine.{ira_app, rules_named}
 use Rattle.ira_main_cli.specs.Options.{HasNumber}
 use Rattle.ira_main_cli.specs.declared.ask_request.AskRequest.{AskRequest}
@@ -40,7 +40,7 @@ found_after name others = rows_after (rules_named name) [] others
 -- where the command takes logs; after `explain` there may be none, where no question is named
 pub record GoTogetherAfter (name : Text) (rows : List Row) : Type 0 where
   pub logs : name ≡ codes "logs" → NamesLogsToJudge rows
-  pub explain : name ≡ codes "explain" → NamesAnswer rows
+  pub explain : name ≡ codes "explain" → NamesAnswers rows
   pub show : name ≡ codes "show" → NamesLogsToShow rows
   pub draw : name ≡ codes "draw" → NamesLogsToDraw rows
   pub check : name ≡ codes "check" → NamesLogs rows
@@ -59,7 +59,8 @@ GoTogether words =
 abbrev pub Asks : Text → List Row → Request → Type 0
 Asks name rows OneLog = ⊥
 Asks name rows (Logs request) = (name ≡ codes "logs") × HasLogsToJudge rows request
-Asks name rows (Each request) = (name ≡ codes "logs") × HasFoldersToJudge rows request
+Asks name rows (Each request) = ((name ≡ codes "logs") × HasFoldersToJudge rows request)
+    ⊎ ((name ≡ codes "explain") × HasFoldersToExplain rows request)
 Asks name rows (Explain explain) = (name ≡ codes "explain") × HasAnswerToExplain rows explain
 Asks name rows (Show show) = (name ≡ codes "show") × HasLogsToShow rows show
 Asks name rows (Draw draw) = (name ≡ codes "draw") × HasLogsToDraw rows draw
@@ -94,7 +95,7 @@ pub record IsLogsLine (words : List Text) (request : LogsRequest) : Type 0 where
   pub marked : (front back : List Text) → All IsFileName front → line.others ≡ front ++ codes "--" ∷ back
       → IsOfFiles request.logs (front ++ back)
 
--- `logs`, `--each`, and folders, which ask for each of these to be judged
+-- `logs` or `explain`, `--each`, and folders, which ask for each of these to be judged
 abbrev pub IsEachLine : List Text → EachRequest → Type 0
 IsEachLine words request = IsCommandLine words (Each request)
 

@@ -1,17 +1,19 @@
 ghost use Rattle.std.specs.Prelude.{◌≡◌, ◌↔◌, [], IfErr, IfOk, IsTrue, Ok, codes, fold, map, option_map};
 ghost use Rattle.clap.specs.Words.{app_of, found_of, kind_of, rows_of};
 ghost use Rattle.clap.specs.declared.error.kind.ErrorKind.TheVariants as kind;
-ghost use Rattle.ira_main_cli.specs.Asked.{AsksLogs, AsksNothing, HasAnswer, HasAnswerToExplain, HasFiles, HasFilesToDecide, HasFilesToRewrite};
-ghost use Rattle.ira_main_cli.specs.Asked.{HasExpectation, HasFolders, HasLeaders, HasLogs, HasLogsToDraw, HasLogsToMend, HasLogsToShow};
-ghost use Rattle.ira_main_cli.specs.Asked.{HasLost, HasMoment, HasOptions, HasSentence, HasSize, HasTopic};
-ghost use Rattle.ira_main_cli.specs.Asked.{MayHaveLogs, MayNameLogs, NamesAnswer, NamesExpectation, NamesFolders};
-ghost use Rattle.ira_main_cli.specs.Asked.{NamesLogs, NamesLogsToDraw, NamesLogsToJudge, NamesLogsToMend, NamesLogsToShow};
-ghost use Rattle.ira_main_cli.specs.Asked.{NamesMoment, NamesSize, NamesStart, NamesTopic, SaysStart};
+ghost use Rattle.ira_main_cli.specs.Asked.{AsksLogs, AsksNothing, AsksReasons, HasAnswer, HasExpectation, HasFiles};
+ghost use Rattle.ira_main_cli.specs.Asked.{HasFilesToDecide, HasFilesToRewrite, HasFolders, HasLeaders, HasLogs};
+ghost use Rattle.ira_main_cli.specs.Asked.{HasLogsToDraw, HasLogsToMend, HasLogsToShow, HasLost, HasMoment, HasOptions};
+ghost use Rattle.ira_main_cli.specs.Asked.{HasSentence, HasSize, HasTopic, MayHaveLogs, MayNameLogs, NamesAnswer};
+ghost use Rattle.ira_main_cli.specs.Asked.{NamesAnswers, NamesExpectation, NamesFolders, NamesLogs, NamesLogsToDraw};
+ghost use Rattle.ira_main_cli.specs.Asked.{NamesLogsToJudge, NamesLogsToMend, NamesLogsToShow, NamesMoment, NamesSize};
+ghost use Rattle.ira_main_cli.specs.Asked.{NamesStart, NamesTopic, SaysStart};
 ghost use Rattle.ira_main_cli.specs.CommandEntry.{with_entry};
 ghost use Rattle.ira_main_cli.specs.CommandLine.{commands, ira_app, ira_top};
 ghost use Rattle.ira_main_cli.specs.FoundOptions.{AreFoundAfter, AreTyped, IsOneOf};
 ghost use Rattle.ira_main_cli.specs.Options.{AreNumbers, ListsNumbers, WritesNumbers, parts_of};
-ghost use Rattle.ira_main_cli.specs.Request.{AreAcceptedWords, Asks, GoTogether, GoTogetherAfter, IsMadeOf, IsVersionOption, MayBeRefused};
+ghost use Rattle.ira_main_cli.specs.Request.{AreAcceptedWords, Asks, GoTogether, GoTogetherAfter, IsMadeOf};
+ghost use Rattle.ira_main_cli.specs.Request.{IsVersionOption, MayBeRefused};
 ghost use Rattle.ira_main_cli.specs.declared.options_fault.OptionsFault.TheVariants as options;
 ghost use Rattle.ira_main_cli.specs.declared.request.Request.TheVariants as request;
 ghost use Rattle.ira_main_cli.specs.declared.words_fault.WordsFault.TheVariants as fault;
@@ -32,6 +34,7 @@ use crate::each_request::EachRequest;
 use crate::expectation::Expectation;
 use crate::explain_request::ExplainRequest;
 use crate::explained_answer::ExplainedAnswer;
+use crate::folder_detail::FolderDetail;
 use crate::guide_topic::GuideTopic;
 use crate::log_source::LogSource;
 use crate::logs_request::LogsRequest;
@@ -53,6 +56,7 @@ const USAGE: &str =
     ira logs --each [--over | --leads <P,..|any|FILE>] [--json] <DIR>...\n       \
     ira explain [--json] [<LOGS>]\n       \
     ira explain --leads <P,..|any|FILE> [--json] <LOGS>\n       \
+    ira explain --each [--leads <P,..|any|FILE>] [--json] <DIR>...\n       \
     ira explain --question <Q> [--case <K> | --cert <C>] [--json] <LOGS>\n       \
     ira show [OPTIONS] <LOGS>\n       \
     ira draw --out <FILE> [OPTIONS] <LOGS>\n       \
@@ -69,10 +73,10 @@ const USAGE: &str =
     LOGS is either <LOG>... or --dir <DIR>";
 
 const NOTE: &str =
-    "Without words ira judges the log of one node, on standard input. It prints `yes`, or \
-    `no` and\nthe first reason. The status is 0 for yes, absent cases, an elected leader, upgraded \
-    or mended\nlogs, 1 for no, a case that is present, no leader or others than --leads says, \
-    2 for\nrefused words, a refused ring, a failed read or a failed write, 3 out of memory.";
+    "Without words ira judges the log of one node, on standard input. It prints `yes`, or `no` and\n\
+    the first reason. The status is 0 for yes, absent cases, an elected leader, upgraded or mended\n\
+    logs; 1 for no, a yes whose election isn't as --over or --leads asks, a present case or a run\n\
+    without leader; 2 for refused words, a refused ring, a failed read or write; 3 out of memory.";
 
 const TEXT: ValueParser = ValueParser::String;
 
@@ -124,7 +128,7 @@ const MET_CASE_HELP: &str =
 
 const EVENTS_HELP: &str = "Print an order of all events in place of the tables";
 
-const PICTURE_HELP: &str = "The file for the picture";
+const PICTURE_HELP: &str = "The file for the picture: SVG, or a page if it ends in .html";
 
 const FROM_HELP: &str = "The column that the picture begins with; the first if not given";
 
@@ -191,6 +195,7 @@ const COMMANDS: &[CommandEntry] = &[
         name: "explain",
         about: "Judges logs, or one log on standard input, and says why the answer is so",
         arguments: &[
+            Argument("each", Flag, Optional, EACH_HELP),
             LEADS,
             Argument("question", Value("Q", TEXT), Optional, WHY_QUESTION_HELP),
             Argument("case", Value("K", NUMBER), Optional, WHY_CASE_HELP),
@@ -216,7 +221,7 @@ const COMMANDS: &[CommandEntry] = &[
     },
     CommandEntry {
         name: "draw",
-        about: "Draws what happened, as a space-time diagram in one SVG file",
+        about: "Draws what happened, as a space-time diagram: an SVG file or a page",
         arguments: &[
             Argument("out", Value("FILE", TEXT), Required, PICTURE_HELP),
             AT,
@@ -425,6 +430,7 @@ fn logs<'a>(alloc: Global, matches: &ArgMatches<'a>) -> Result<Request<'a>, Opti
         return Ok(Request::Each(EachRequest {
             is_json,
             expected,
+            detail: FolderDetail::Line,
             folders: folders(alloc, matches)?,
         }));
     }
@@ -435,16 +441,32 @@ fn logs<'a>(alloc: Global, matches: &ArgMatches<'a>) -> Result<Request<'a>, Opti
     }))
 }
 
-/// The answer to explain, and how.
-fn explain<'a>(alloc: Global, matches: &ArgMatches<'a>) -> Result<ExplainRequest<'a>, OptionsFault>
+/// The answers to explain: that of logs, or those of each folder.
+fn explain<'a>(alloc: Global, matches: &ArgMatches<'a>) -> Result<Request<'a>, OptionsFault>
     requires { AreTyped (rows_of (found_of matches.now)) }
-    ensures asked { IfOk result (HasAnswerToExplain (rows_of (found_of matches.now))) }
-    ensures refused { IfErr result (λ why. NamesAnswer (rows_of (found_of matches.now)) → why ≡ options.OutOfMemory) }
+    ensures asked { IfOk result (AsksReasons (rows_of (found_of matches.now))) }
+    ensures refused { IfErr result
+        (λ why. NamesAnswers (rows_of (found_of matches.now)) → why ≡ options.OutOfMemory) }
 {
-    Ok(ExplainRequest {
-        answer: explained_answer(alloc, matches)?,
-        is_json: flag(matches, "json"),
-    })
+    let is_json = flag(matches, "json");
+    if !flag(matches, "each") {
+        return Ok(Request::Explain(ExplainRequest {
+            answer: explained_answer(alloc, matches)?,
+            is_json,
+        }));
+    }
+    if text(matches, "question").is_some()
+        || number(matches, "case").is_some()
+        || text(matches, "cert").is_some()
+    {
+        return Err(OptionsFault::EachAndQuestion);
+    }
+    Ok(Request::Each(EachRequest {
+        is_json,
+        expected: asked_leaders(alloc, matches)?.map(Expectation::Leaders),
+        detail: FolderDetail::Reasons,
+        folders: folders(alloc, matches)?,
+    }))
 }
 
 /// The answer to explain.
@@ -495,15 +517,11 @@ fn explained_logs<'a>(
     ensures asked { IfOk result (HasAnswer (rows_of (found_of matches.now))) }
     ensures refused { IfErr result (λ why. NamesAnswer (rows_of (found_of matches.now)) → why ≡ options.OutOfMemory) }
 {
-    match asked_leaders(alloc, matches)? {
-        None => match found_logs(alloc, matches)? {
-            None => Ok(ExplainedAnswer::OneLog),
-            Some(logs) => Ok(ExplainedAnswer::Logs(logs)),
-        },
-        Some(leaders) => Ok(ExplainedAnswer::Leaders {
-            leaders,
-            logs: log_source(alloc, matches)?,
-        }),
+    let leaders = asked_leaders(alloc, matches)?;
+    match found_logs(alloc, matches)? {
+        Some(logs) => Ok(ExplainedAnswer::Logs { leaders, logs }),
+        None if leaders.is_none() => Ok(ExplainedAnswer::OneLog),
+        None => Err(OptionsFault::Sources),
     }
 }
 
@@ -773,7 +791,7 @@ fn found_request<'a>(
 {
     match name {
         "logs" => logs(alloc, matches),
-        "explain" => Ok(Request::Explain(explain(alloc, matches)?)),
+        "explain" => explain(alloc, matches),
         "show" => Ok(Request::Show(show(alloc, matches)?)),
         "draw" => Ok(Request::Draw(draw(alloc, matches)?)),
         "check" => Ok(Request::Check(check(alloc, matches)?)),

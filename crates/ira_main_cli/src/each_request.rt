@@ -1,4 +1,5 @@
 use crate::expectation::Expectation;
+use crate::folder_detail::FolderDetail;
 
 /// Folders to judge, each for itself, as the words name them.
 #[derive(Drop)]
@@ -7,6 +8,7 @@ pub struct EachRequest<'a> {
     pub is_json: bool,
     /// What is expected of each election, if anything.
     pub expected: Option<Expectation<'a>>,
+    pub detail: FolderDetail,
     /// The folders, in the order of the answers. Each has the logs of a ring, named by their places.
     pub folders: Vec<&'a str>,
 }

@@ -7,11 +7,9 @@ use crate::log_source::LogSource;
 pub enum ExplainedAnswer<'a> {
     /// That of one log, on standard input.
     OneLog,
-    /// That of the logs of a ring together.
-    Logs(LogSource<'a>),
-    /// The same, and after a yes whether those lead who are to.
-    Leaders {
-        leaders: AskedLeaders<'a>,
+    /// That of the logs of a ring together, and after a yes, where leaders are named, whether they lead.
+    Logs {
+        leaders: Option<AskedLeaders<'a>>,
         logs: LogSource<'a>,
     },
     /// What is found for a question, or for one case of it.

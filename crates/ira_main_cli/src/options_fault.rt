@@ -11,6 +11,8 @@ pub enum OptionsFault {
     Sources,
     /// Folders are to be judged each, and none are named, or one as that of a ring's logs.
     Folders,
+    /// Folders are to be explained each, and a question is named, or anything of one.
+    EachAndQuestion,
     /// One of the folders to be judged each has an empty name.
     EmptyFolder,
     /// It is asked whether an election is over, and who leads then.
@@ -46,6 +48,7 @@ impl OptionsFault {
         match self {
             OptionsFault::Sources
             | OptionsFault::Folders
+            | OptionsFault::EachAndQuestion
             | OptionsFault::OverAndLeads
             | OptionsFault::LeadsAndQuestion
             | OptionsFault::CaseAndCertificate
@@ -66,6 +69,8 @@ impl OptionsFault {
         match self {
             OptionsFault::Sources => "the logs are named either by <LOG>... or by --dir <DIR>",
             OptionsFault::Folders => "--each takes the names of folders alone: --each <DIR>...",
+            OptionsFault::EachAndQuestion =>
+                "--each goes with none of --question, --case and --cert",
             OptionsFault::EmptyFolder => "--each takes names of folders, and none is empty",
             OptionsFault::OverAndLeads => "--over and --leads exclude one another",
             OptionsFault::LeadsAndQuestion => {

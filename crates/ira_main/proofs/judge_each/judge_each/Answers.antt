@@ -8,8 +8,8 @@ use Rattle.ira_main.proofs.judge_each.judge_each.Goals as goal
 
 pub returns-in_err-clone : goal.returns-in_err-clone
 returns-in_err-clone g c =
-    let none = told_none (IsJudgedLine g.F.TextSource.reads c.args.form c.args.expected.now c.args.shelf.now)
-    c.args.folders.now (g.W.Sink.state c.args.out.now) in
+    let none = told_none (IsJudgedLine g.row.A.Denot g.F.TextSource.reads c.args.form c.args.expected.now c.args.detail
+    c.args.shelf.now) c.args.folders.now (g.W.Sink.state c.args.out.now) in
     no_memory none.0 _ none.1 none.2 none.3 (search rules)
 
 pub loop-form-init : goal.loop-form-init

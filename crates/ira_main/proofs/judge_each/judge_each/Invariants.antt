@@ -6,7 +6,7 @@ use Rattle.ira_main.proofs.judge_each.judge_each.Given as goal
 abbrev pub invariant-loop-form : goal.invariant-loop-form
 invariant-loop-form g l =
     (first : ℕ) × (text : List ℕ)
-    × AreTold (IsJudgedLine g.F.TextSource.reads l.form l.expected l.shelf) (take first l.folders) l.answers.items text
+    × AreTold (IsJudgedLine g.row.A.Denot g.F.TextSource.reads l.form l.expected l.detail l.shelf) (take first l.folders) l.answers.items text
     × Takes text (g.W.Sink.state l.fn.out) (g.W.Sink.state l.out)
 
 abbrev pub decreases-loop-form : goal.decreases-loop-form

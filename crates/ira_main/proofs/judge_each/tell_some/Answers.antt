@@ -5,11 +5,11 @@ use Rattle.ira_main.proofs.Folders.{all_tellable, both_told}
 use Rattle.ira_main.proofs.judge_each.tell_some.Goals as goal
 
 pub folder_texts-requires-clause-number : goal.folder_texts-requires-clause-number
-folder_texts-requires-clause-number g c =
+folder_texts-requires-clause-number g c = λ lives within.
     ap length c.deref.ensures.value ∙ zipped_length _ _ _ c.in_ok-answers.ensures
 
 pub folder_texts-requires-clause-tellable : goal.folder_texts-requires-clause-tellable
-folder_texts-requires-clause-tellable g c =
+folder_texts-requires-clause-tellable g c = λ lives within.
     rw c.deref.ensures.value (all_tellable _ c.args.expected.now c.args.shelf.now _ _ c.in_ok-answers.ensures)
 
 pub returns-in-Ok : goal.returns-in-Ok

@@ -62,22 +62,14 @@ pub returns-in-Logs-answer-clause-served : goal.returns-in-Logs-answer-clause-se
 returns-in-Logs-answer-clause-served g c =
     let made = subst (IsMadeOf (map (λ w. w.now) c.args.words.now)) c.in-Explain.is c.in-Ok.ensures.made in
     with_words (some_words _ _ _ made.first) refl (explained_of_logs _ made refl
-    (rw c.in-Logs-answer.is (told _ _ _ _ _ _
-    (rw (c.asked-inputs.ensures, c.of_json-form-in-Explain.ensures) at c.answer_files.ensures) c.deliver-in-Logs-answer.ensures)))
-
-pub returns-in-Leaders-clause-served : goal.returns-in-Leaders-clause-served
-returns-in-Leaders-clause-served g c =
-    let made = subst (IsMadeOf (map (λ w. w.now) c.args.words.now)) c.in-Explain.is c.in-Ok.ensures.made in
-    with_words (some_words _ _ _ made.first) refl (explained_of_logs _ made refl
-    (rw c.in-Leaders.is (told _ _ _ _ _ _
-    (rw c.of_json-form-in-Explain.ensures at c.explain_leaders_files-reply.ensures) c.deliver-in-Leaders.ensures)))
+    (rw c.in-Logs-answer.is (rw c.of_json-form-in-Explain.ensures at c.explain_logs.ensures)))
 
 pub returns-in-Findings-clause-served : goal.returns-in-Findings-clause-served
 returns-in-Findings-clause-served g c =
     let made = subst (IsMadeOf (map (λ w. w.now) c.args.words.now)) c.in-Explain.is c.in-Ok.ensures.made in
     with_words (some_words _ _ _ made.first) refl (explained_of_logs _ made refl
     (rw c.in-Findings.is (told _ _ _ _ _ _
-    (rw (c.asked-inputs-in-Findings.ensures, c.of_json-form-in-Explain.ensures) at c.answer_files-in-Findings.ensures) c.deliver-in-Findings.ensures)))
+    (rw (c.asked-inputs.ensures, c.of_json-form-in-Explain.ensures) at c.answer_files.ensures) c.deliver-in-Findings.ensures)))
 
 pub returns-in-Explain-clause-served : goal.returns-in-Explain-clause-served
 returns-in-Explain-clause-served g c =
