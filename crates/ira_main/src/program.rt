@@ -212,7 +212,7 @@ where
 /// | Status | When |
 /// |---|---|
 /// | 0 | yes; every case is absent; a node leads, or those lead that are named; logs are upgraded or mended |
-/// | 1 | no; a case is present; no node leads, or others than are named |
+/// | 1 | no; a case is present; the election isn't over, where that is asked; no node leads, or others than are named |
 /// | 2 | refused words, a refused ring or moment, a failed read or write, a certificate or a picture past its limits |
 /// | 3 | out of memory |
 ///
