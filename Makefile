@@ -7,23 +7,27 @@ needs_kit = command -v rt > /dev/null && command -v rattle > /dev/null || \
 	{ echo 'This needs the Rattle kit, and there are no rt and rattle on the PATH. make run, test, install and dist do without.'; \
 	exit 1; }
 
-.PHONY: help run test prove install dist try ira web lib checks release verify-release clean
+.PHONY: help run test prove install dist packages try ira web lib proved checks release verify-release clean
 
 help:
 	@echo 'With what is in the repository, in seconds, on Linux on x86-64:'
-	@echo 'make run        holds the released program, release/ira, against its sums, and judges examples with it; where it is of'
-	@echo '                these sources, or bin/ira is, types the commands of the pages too'
-	@echo 'make install    copies bin/ira, or the release where that was not built, to $$(PREFIX)/bin, and its manual and'
-	@echo '                completions below $$(PREFIX)/share; PREFIX is $(PREFIX) if not given'
-	@echo 'make dist       packs the same with examples and pages, for other machines'
+	@echo 'make run        holds the released program, release/ira, against its sums, judges examples with it, and types the'
+	@echo '                commands of the pages, those of its commit where the sources have gone on'
+	@echo 'make install    copies bin/ira, or the release where that was not built of these sources, to $$(PREFIX)/bin, and the'
+	@echo '                manual and completions of its commit below $$(PREFIX)/share; PREFIX is $(PREFIX) if not given'
+	@echo 'make dist       packs the same with its examples and pages, for other machines'
+	@echo 'make packages   makes of release/ what pip, npm and dpkg install: bin/ira-*.whl, bin/ira-*.tgz, bin/ira_*.deb'
 	@echo 'In minutes, and without the Rattle kit in seconds:'
 	@echo 'make test       tests and programs, built with no proof, and the checks that take minutes at most; without the kit'
-	@echo '                the checks alone. The last lines say what passed, what ran, and what was skipped and why'
+	@echo '                the checks alone, of the released program those of its commit. The last lines say what passed, what'
+	@echo '                ran, and what was skipped and why'
 	@echo 'make checks     all checks, or those that are named: CHECKS="A B". They look at what no proof speaks of:'
-	@echo '    definitions each definition that docs/DEFINITIONS.md names, and its comment'
+	@echo '    definitions that each definition has its words; sh checks/definitions.sh --write FILE makes a page of them'
 	@echo '    names       what pages name: links, headings, items of code; crates without a user'
-	@echo '    weight      lines and words, none more than the budget in CONTRIBUTING.md says'
+	@echo '    weight      lines of code and words of pages, which never rise: the table in CONTRIBUTING.md'
 	@echo '    sentences   each sentence of the views, in some expected output'
+	@echo '    refused     edits that the prover must refuse, each in a function that it names, over the libraries of make prove'
+	@echo '    release     what is refused of release/ where it was changed; what is installed and packed is of one commit'
 	@echo '    examples    the tables and the commands of examples/'
 	@echo '    limits      faults, long texts, what is past the limits'
 	@echo '    pages       the commands of README.md, docs/ and the README of a package'
@@ -33,7 +37,7 @@ help:
 	@echo '    script      the script of pages to move in, looked through, and run in Node over pages, in the same way'
 	@echo '    page        pages to move in, opened in a headless Chromium, in the same way; and how fast a large one moves'
 	@echo '    web         answers of ira.html in a headless Chromium, those of the program; hostile names and texts'
-	@echo '    library     the library from Python, C and Node, which answers what the program does'
+	@echo '    library     the library from Python, C and Node, and the command line in Node: what they answer, the program does'
 	@echo '    json        lines of JSON, in the same way'
 	@echo '    plain       plain pages of show and explain, in the same way'
 	@echo '    hints       slips of recorders and links, planted in recorded elections: no hint of explain is false'
@@ -55,11 +59,10 @@ help:
 	@echo 'make verify-release  proves and builds the commit of release/ in a clone, and compares'
 	@echo 'make clean      removes what was built and proved'
 
-# A release of other sources than these is tried too, but not held against the pages here.
+# A release of other sources than these is held against the pages of its commit, where it has them.
 run:
-	@ira=$$(sh build/program.sh); status=$$?; \
-	test $$status -eq 0 -o $$status -eq 3 && sh build/first.sh $$ira && \
-	{ test $$status -eq 3 || sh checks/all.sh $$ira examples limits pages completions version; } && \
+	@. build/packed.sh; sh build/first.sh $$ira && \
+	{ test -z "$$pages" || sh $$pages/checks/all.sh $$ira examples limits pages completions version; } && \
 	echo 'Go on with release/ira.html in a browser, with make install, and with logs of your own (docs/LOGGING.md):' && \
 	echo "$$ $$ira logs --dir examples/recorded_ring" && $$ira logs --dir examples/recorded_ring
 
@@ -72,39 +75,34 @@ prove:
 	@$(needs_kit)
 	@sh build/release.sh sums
 	rt ci
-	@sh checks/all.sh crates/ira/out/ira definitions names sentences weight examples limits pages completions version pictures script json plain hints writes odd_names refusals
+	@python3 -B checks/refused.py
+	@sh checks/all.sh crates/ira/out/ira definitions names sentences weight release examples limits pages completions version pictures script json plain hints writes odd_names refusals
+	@sh build/prove.sh web lib && sh checks/all.sh bin/ira page web library
 	@sh build/release.sh prove
 
 install:
-	@ira=bin/ira; test -x $$ira || { ira=release/ira; sh build/release.sh sums; } && \
-	install -D -m 755 $$ira $(DESTDIR)$(PREFIX)/bin/ira
-	install -D -m 644 docs/ira.1 $(DESTDIR)$(PREFIX)/share/man/man1/ira.1
-	install -D -m 644 completions/ira.bash $(DESTDIR)$(PREFIX)/share/bash-completion/completions/ira
-	install -D -m 644 completions/_ira $(DESTDIR)$(PREFIX)/share/zsh/site-functions/_ira
-	install -D -m 644 completions/ira.fish $(DESTDIR)$(PREFIX)/share/fish/vendor_completions.d/ira.fish
+	@sh build/install.sh $(DESTDIR)$(PREFIX)
 
 dist:
 	@sh build/dist.sh
 
+packages:
+	@sh library/wheel.sh && sh library/npm.sh && sh library/deb.sh
+
 # What holds the program from outside: all of it, or what CHECKS names.
 checks:
-	@ira=$$(sh build/program.sh) && sh checks/all.sh $$ira $(CHECKS)
+	@ira=$$(sh build/program.sh) || ira=-; sh checks/all.sh $$ira $(CHECKS)
 
 try:
 	@$(needs_kit)
 	@sh build/try.sh && sh build/first.sh bin/ira-unproved
 
-ira:
-	@$(needs_kit)
-	@sh build/prove.sh
+# Whichever of them are asked for, by one call.
+ira web lib: proved; @:
 
-web:
+proved:
 	@$(needs_kit)
-	@sh build/prove.sh web
-
-lib:
-	@$(needs_kit)
-	@sh build/prove.sh lib
+	@sh build/prove.sh $(filter web lib,$(MAKECMDGOALS))
 
 release:
 	@$(needs_kit)
@@ -115,4 +113,4 @@ verify-release:
 	@sh build/release.sh verify
 
 clean:
-	rm -rf bin crates/*/out
+	rm -rf bin dist crates/*/out

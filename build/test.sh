@@ -1,26 +1,39 @@
 #!/bin/sh
 # sh build/test.sh  runs the tests, and the programs that have an expected output, built with no proof, as many crates at
-# a time as there are cores; and the checks that take minutes at most. Where there is no Rattle kit, the checks alone.
+# a time as there are cores; and the checks that take minutes at most. Where there is no Rattle kit, the checks alone; and
+# where no program of these sources is there then, the released one is held by the checks of its commit.
 #
 # With arguments it's one part of that: `tests CRATE`, `program CRATE`, `build unproved`, which says in $room/program where the
 # program for the checks is, or `check NAME`. Each leaves in $room what it said, and in a file .counts how many passed and
 # how many failed, or in a file .skipped why not.
 
-# What takes longer than this, as it's built here with its accesses watched, is left to the gate.
-seconds=30
+# How many seconds of processor time a test may take, as it's built here with its accesses watched, however busy the machine
+# is: one that takes more has failed.
+seconds=300
 
+# Those that take minutes, since they judge texts of the greatest sizes, or thousands: the gate alone runs them.
+long='certificate_size_tests::one_byte_too_long certificate_size_tests::too_many_steps
+malicious_question_tests::a_question_too_long random_question_tests::random_questions reading_tests::one_byte_too_long
+refusals::answer_cut_at_each_byte refusals::each_growth_is_refused'
+
+# `rt try` runs each test as a process, whose words end in the program's path, below TMPDIR, and the test's name.
 tests() {
     to=$room/$1
-    (cd "crates/$1" && rt try --test --seconds $seconds) > "$to" 2>&1
-    sed -n '/^test .* FAILED$/{
-        N
-        s/^test \(.*\) \.\.\. FAILED\n.*: the program did not end within the time limit$/\1/p
-    }' "$to" > "$to.late"
-    if [ -s "$to.late" ]; then
-        echo "$(paste -s -d ' ' "$to.late"): longer than $seconds s with no proof" > "$to.skipped"
-    fi
+    mkdir "$to.room"
+    (cd "crates/$1" && TMPDIR=$to.room exec rt try --test --seconds $((6 * seconds))) > "$to" 2>&1 &
+    while kill -0 $! 2> /dev/null; do
+        for it in $(pgrep -f "$to.room/.*/program "); do
+            case " $(echo $long) " in
+            *" $(ps -o args= -p "$it" | sed 's/.* //') "*) kill -KILL "$it" ;;
+            *) prlimit --pid "$it" --cpu="$seconds:" ;;
+            esac
+        done 2> /dev/null
+        sleep 1
+    done
+    sed -n 's/^test \(.*\) \.\.\. FAILED$/\1/p' "$to" | grep -xF "$(printf '%s\n' $long)" > "$to.long"
+    [ ! -s "$to.long" ] || echo "$(paste -s -d ' ' "$to.long"): minutes with no proof" > "$to.skipped"
     sed -n 's/^test result: .* \([0-9]*\) passed; \([0-9]*\) failed;.*/\1 \2/p' "$to" |
-        awk -v late="$(wc -l < "$to.late")" '{ print $1, $2 - late }' > "$to.counts"
+        awk -v long="$(wc -l < "$to.long")" '{ print $1, $2 - long }' > "$to.counts"
 }
 
 # A word that is not UTF-8 can't be given here: then no word is, and the last line and the status are the gate's to see.
@@ -55,9 +68,11 @@ checks='hints pictures plain examples script page web library json limits refusa
 
 build() {
     if ! ira=$(sh build/program.sh); then
-        ira=-
         if command -v rt > /dev/null; then
+            ira=-
             sh build/try.sh > "$room/$1" 2>&1 && ira=bin/unproved/ira || echo 0 1 > "$room/$1.counts"
+        elif [ "$ira" != release/ira ] || ! sh build/release.sh unpack "$room/pages"; then
+            ira=-
         fi
     fi
     echo "$ira" > "$room/program.new" && mv "$room/program.new" "$room/program"
@@ -70,7 +85,15 @@ check() {
         sleep 1
         waited=$((waited + 1))
     done
-    sh checks/all.sh "$(cat "$room/program")" "$1" > "$to" 2>&1
+    checks=checks/all.sh
+    case $1 in
+    definitions | names | sentences | weight) ;;
+    *) [ ! -d "$room/pages" ] || checks=$room/pages/checks/all.sh ;;
+    esac
+    case " $(sed -n "s/^all='\(.*\)'$/\1/p" "$checks") " in
+    *" $1 "*) sh "$checks" "$(cat "$room/program")" "$1" ;;
+    *) printf 'skipped: %s (the release has no such check)\nchecks: ran none; skipped %s; failed none\n' "$1" "$1" ;;
+    esac > "$to" 2>&1
     sed -n 's/^skipped: [a-z_]* (\(.*\))$/\1/p' "$to" | head -n 1 > "$to.why"
     if grep -q "^checks: ran $1;.*; failed none$" "$to"; then
         echo 1 0 > "$to.counts"
@@ -145,4 +168,5 @@ command -v rt > /dev/null || skipped='all (no Rattle kit)'
 echo "$passed passed, $failed failed"
 echo "tests with no proof: ran ${ran:-none}${skipped:+; skipped $skipped}"
 echo "checks: ran ${checked:-none}${unchecked:+; skipped $unchecked}"
+[ ! -d "$room/pages" ] || echo "release/ira is of other sources: its checks are those of $(grep '^commit: ' release/TREE)"
 [ "$failed" = 0 ]

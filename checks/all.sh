@@ -15,7 +15,7 @@ folder=$(dirname "$ira")
 page=$folder/ira.html
 cd "$(dirname "$0")" || exit 2
 shift
-all='definitions names sentences weight examples limits pages completions version pictures script page web library json plain hints writes odd_names refusals recorders sweep'
+all='definitions names sentences weight refused release examples limits pages completions version pictures script page web library json plain hints writes odd_names refusals recorders sweep'
 said=$(mktemp) || exit 2
 trap 'rm -f "$said"' EXIT
 
@@ -34,9 +34,14 @@ has_page() {
 # What a check needs and isn't there.
 lacks() {
     case $ira:$1 in
-    *:definitions | *:names | *:weight) return ;;
+    *:definitions | *:names | *:weight | *:release) return ;;
     *:sentences)
         command -v python3 > /dev/null || echo 'no python3'
+        return
+        ;;
+    *:refused)
+        command -v rt > /dev/null && command -v python3 > /dev/null || { echo 'no Rattle kit'; return; }
+        [ -d ../crates/ira_event/out/rlib ] || echo 'no libraries: make prove'
         return
         ;;
     -:*)
@@ -76,7 +81,7 @@ of_ira() {
 
 check() {
     case $1 in
-    definitions | names | weight) sh "$1.sh" ;;
+    definitions | names | weight | release) sh "$1.sh" ;;
     examples | limits | pages | completions | version | recorders) sh "$1.sh" "$ira" ;;
     pictures) python3 -B pictures.py "$ira" ;;
     script) python3 -B script.py "$ira" ;;
@@ -86,6 +91,7 @@ check() {
     json) python3 -B json_lines.py "$ira" ;;
     plain) python3 -B plain_pages.py "$ira" ;;
     sentences) python3 -B sentences.py ;;
+    refused) python3 -B refused.py ;;
     hints) python3 -B hints.py "$ira" ;;
     writes) python3 -B writes.py "$ira" ;;
     odd_names) python3 -B odd_names.py "$ira" ;;

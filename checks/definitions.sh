@@ -1,50 +1,61 @@
 #!/bin/sh
-# Each definition that docs/DEFINITIONS.md names is in the file that it names, below a comment that says it in words.
+# Each definition that checks/definitions.txt names is in the file that it names, below a comment that says it in words, or in a
+# file that begins with one. Of these words a page is made where it is asked for.
 #
-#     sh checks/definitions.sh
+#     sh checks/definitions.sh [--write FILE]
 #
-# In the last column of its tables a name with slashes is a file, below crates/ and without .antt, and others are definitions in
-# the file before them.
+# In definitions.txt a line `SOURCE FILE: NAME ..` is of a file below crates/, without .antt, and of definitions in it. Headings,
+# and lines that begin with a space, stand on the page as they are.
 
+case $1 in
+--write) page=$(realpath "$2") || exit 2 ;;
+*) page=/dev/null ;;
+esac
 cd "$(dirname "$0")/.." || exit 2
 
-awk '
-    # Whether the file has this definition, below a comment or in a file that begins with one; of no name, whether it does so.
-    function has_words(path, name,    line, is_above, at_head, part, number) {
-        while ((getline line < path) > 0) {
-            number++
-            if (line ~ /^--/) {
-                is_above = 1
-                if (number == 1) at_head = 1
-                continue
-            }
-            if (name != "" && line ~ /^(pub|abbrev) /) {
-                gsub(/(pub|abbrev|record|data) /, "", line)
-                split(line, part, /[ :({]/)
-                if (part[1] == name) { close(path); return is_above || at_head }
-            }
-            is_above = 0
-        }
-        close(path)
-        return name == "" && at_head
-    }
-    function test(path, name) {
-        named++
-        if (has_words(path, name)) return
-        print FILENAME ":" FNR ": no words of " (name == "" ? "the head" : name) " in " path
+awk -v page="$page" '
+    function fail(what) {
+        print "definitions: " what
         failed = 1
     }
-    BEGIN { FS = " [|] " }
-    /^\| / && NF == 3 && !/^\| Definition / {
-        path = ""
-        count = split($3, part, "`")
-        for (i = 2; i <= count; i += 2) {
-            if (part[i] ~ /\//) {
-                path = "crates/" part[i] ".antt"
-                test(path, "")
-            } else {
-                test(path, part[i])
+    # Reads the comment at the head of a file, and that above each of its definitions.
+    function read_words(path,    line, comment, is_head, part) {
+        split("", words)
+        head = ""
+        is_head = 1
+        while ((getline line < path) > 0) {
+            if (line ~ /^--/) {
+                sub(/^-- */, "", line)
+                if (line !~ /^---* /) comment = comment (comment == "" ? "" : " ") line
+                continue
             }
+            if (is_head) head = comment
+            is_head = 0
+            if (line ~ /^(pub|abbrev) /) {
+                gsub(/(pub|abbrev|record|data) /, "", line)
+                split(line, part, /[ :({]/)
+                if (!(part[1] in words)) words[part[1]] = comment
+            }
+            comment = ""
+        }
+        close(path)
+    }
+    /^#/ || /^ / || /^$/ { sub(/^ /, ""); print > page; next }
+    {
+        file = $2
+        if (!sub(/:$/, "", file)) { fail("no line of a file: " $0); next }
+        named++
+        read_words("crates/" file ".antt")
+        if (head == "" && NF == 2) fail("no words at the head of " file)
+        print "\n**`" file "`** (" $1 ")" (head == "" ? "" : ": " head) "\n" > page
+        for (i = 3; i <= NF; i++) {
+            named++
+            if (!($i in words) || words[$i] == "" && head == "") fail("no words of " $i " in " file)
+            print "* `" $i "`" (words[$i] == "" ? "" : ": " words[$i]) > page
         }
     }
-    END { if (!failed) print "definitions: " named " files and definitions, each with words"; exit failed }' docs/DEFINITIONS.md
+    END {
+        if (named < 400) fail("no more than " named " are named")
+        if (!failed) print "definitions: " named " files and definitions, each with words"
+        exit failed
+    }' checks/definitions.txt

@@ -155,6 +155,7 @@ examples=$PWD
 for talk in from_run_to_check.txt explain.txt explain_ring.txt explain_question.txt explain_json.txt \
     show.txt show_json.txt five_nodes.txt commands.txt crashes_and_folders.txt; do
     folder=$(mktemp -d)
+    [ "$(grep -c '^\$ ' "$talk")" -ge 4 ] || fail "$talk: hardly a command"
     if (cd "$folder" && replay < "$examples/$talk") | diff "$examples/$talk" -; then
         passed=$((passed + 1))
     else
@@ -206,4 +207,4 @@ fi
 rm -r "$folder"
 
 echo "examples: $passed as expected, $failed not"
-[ "$passed" -gt 0 ] && [ "$failed" -eq 0 ]
+[ "$passed" -ge 40 ] && [ "$failed" -eq 0 ]

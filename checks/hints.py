@@ -1,5 +1,6 @@
 """Plants slips of recorders and of links in recorded elections, one at a time, and holds the hints of `ira explain`
-against what was planted: each is right, says no more than the logs do, says perhaps, or is false. None may be false.
+against what was planted: each is right, says no more than the logs do, says perhaps, or is false. None may be false: the
+nodes, events and messages that a hint names are looked up in the logs. Of each kind so many are right as the table says.
 
     python3 checks/hints.py PROGRAM [--each]     --each prints each case with its hints
 """
@@ -19,6 +20,16 @@ ELECTIONS = ((2, 2, 4, 1), (3, 3, 2, 1), (4, 3, 12, 1), (5, 3, 5, 1), (3, 2, 6, 
 CONSTANT = {'round 1': (1, '1'), 'ID 1': (2, '1'), 'hop 1': (3, '1'),
             'bit clean': (4, 'clean'), 'bit dirty': (4, 'dirty')}
 EXCHANGED = {'round and ID': (1, 2), 'ID and hop': (2, 3), 'round and hop': (1, 3)}
+# How many of each kind are right at least.
+LEAST = {
+    'slip: round 1': 36, 'slip: ID 1': 63, 'slip: hop 1': 60, 'slip: bit clean': 46, 'slip: bit dirty': 62,
+    'slip: round and ID': 66, 'slip: ID and hop': 64, 'slip: round and hop': 60, 'slip: bit contrary': 62,
+    'slip: hop raised': 59, 'slip: hop lowered': 59, 'copy of a neighbour': 40, 'receipts exchanged': 113,
+    'sendings exchanged': 113, 'read backwards': 18, 'sending twice': 77, 'receipt twice': 77, 'sending missing': 77,
+    'receipt missing': 69, 'receipt and its sending missing': 49, 'no receipts': 19, 'no resets': 1,
+    'too many records': 6, 'log of another run': 20, 'two runs': 5, 'UTF-16': 18, 'NUL bytes': 12, 'place from 1': 6,
+    'hop of a reset': 3,
+}
 FIELD = {1: 'round', 2: 'ID', 3: 'hop', 4: 'bit'}
 
 
@@ -130,40 +141,105 @@ def runs(logs, others):
         yield Case('two runs', [*logs[:node], *others[node:]], None, 'of two runs')
 
 
-def says_so(case, hint):
-    """Whether what a hint says of the logs is so, as far as it is of a form that says no more."""
-    if said := re.match(r'by its log node (\d+) never sent (.*?)\.', hint):
-        return said[2] not in loads(case.logs[int(said[1])][1], 'send')
-    if said := re.match(r'receipts (\d+) and (\d+) are sendings (\d+) and (\d+): ', hint):
-        a, b, c, d = (int(number) - 1 for number in said.groups())
-        links = map(case.sides, range(len(case.logs)))
-        return any(r[a:a + 1] == s[c:c + 1] and r[b:b + 1] == s[d:d + 1] for s, r in links)
-    return None
+def texts(logs):
+    """A log's text that isn't one: its bytes, or its head; and resets that nobody owes, or with another hop."""
+    text = log_text(logs[0], 0, len(logs), 1)
+    for kind, wrong, right in (
+            ('UTF-16', [text.decode().encode(code) for code in ('utf-16', 'utf-16-le', 'utf-16-be')], 'UTF-16'),
+            ('NUL bytes', [b'\0' * len(text), b'\0'], 'NUL bytes'),
+            ('bytes of no text', [b'a\0b', b'\0a\n', b'\0\0i\0'], NEVER),
+            ('place from 1', [text.replace(b'place 0', b'place %d' % len(logs))], 'count from 0')):
+        for changed in wrong:
+            yield Case(kind, [changed, *logs[1:]], 0, right)
+    for node, (initiator, events) in enumerate(logs):
+        for at, event in enumerate(events):
+            if event[:2] == ('send', 'reset'):
+                wrong = [*events[:at], ('send', 'reset', str(int(event[2]) + 1)), *events[at + 1:]]
+                yield Case('hop of a reset', [*logs[:node], (initiator, wrong), *logs[node + 1:]], node, 'hop')
+                alone = [(True, [event] if place == node else []) for place in range(len(logs))]
+                yield Case('reset of a choosing node', alone, node, NEVER)
 
 
-def verdict(case, hints):
+NEVER = '(?!)'
+LOAD = r'((?:\d+ ){3}(?:clean|dirty)|reset \d+)'
+
+
+def facts(case, link):
+    """How hints name nodes, events and messages, and whether it is so; of a link, where the answer names one."""
+    n, links = len(case.logs), range(len(case.logs)) if link is None else [link]
+    sent, got = ([loads(log[1] if isinstance(log, tuple) else [], kind) for log in case.logs] for kind in ('send', 'recv'))
+    of = lambda node: case.logs[node][1]
+    beside = lambda i, p, q: (p, q) == ((i - 1) % n, (i + 1) % n)
+    some = lambda fits: any(fits(sent[i], got[(i + 1) % n], i) for i in links)
+    # (passed on by a node that's active with the same pair it's dirty)
+    raised = lambda a, b: b in (owed := ' '.join(step(State('passive', None, None, None, 1), ('recv', *a.split()), n).owed),
+                                owed.replace('clean', 'dirty'))
+    return (
+        (r'\bnodes? (\d+)', lambda i: i < n),
+        (r'receipts (\d+) and (\d+) are sendings (\d+) and (\d+): ', lambda a, b, c, d: some(
+            lambda s, r, i: r[a - 1:a] == s[c - 1:c] and r[b - 1:b] == s[d - 1:d])),
+        (r'receipts (\d+) to (\d+) are the sendings', lambda a, b: some(
+            lambda s, r, i: sorted(r[a - 1:b]) == sorted(s[a - 1:b]) and r[a - 1] != s[a - 1] and r[b - 1] != s[b - 1])),
+        (r'from receipt (\d+) on each is the sending before its own: message (\d+) .* node (\d+) is', lambda k, m, node: m == k - 1
+            and some(lambda s, r, i: i == node and r[k - 1:] == s[k - 2:][:len(r) - k + 1] and r[:k - 1] == s[:k - 1])),
+        (r'from receipt (\d+) on each is the sending after its own: sending (\d+)', lambda k, m: m == k and some(
+            lambda s, r, i: r[k - 1:] == s[k:][:len(r) - k + 1] and r[:k - 1] == s[:k - 1])),
+        (r'without receipt (\d+) all others .* node (\d+) is', lambda k, node: some(
+            lambda s, r, i: i == node and (r[:k - 1] + r[k:])[:len(s)] == s[:len(r) - 1])),
+        (r'sendings (\d+) and (\d+) are the same', lambda a, b: some(lambda s, r, i: s[a - 1] == s[b - 1] and a != b)),
+        (r'the logs? of nodes (\d+) and (\d+) have the same records', lambda a, b: a != b and of(a) == of(b)),
+        (r'the log of node (\d+) (?:differs from|is that of a node).* node (\d+) sent .* node (\d+) received', beside),
+        (r'differs from what node (\d+) sent and .*: perhaps node (\d+) records', lambda p, i: p == (i - 1) % n),
+        (rf'node (\d+) records neither that it received {LOAD}, which node (\d+) sent, nor that it passed it on as {LOAD}',
+            lambda i, a, p, b: p == (i - 1) % n and a in sent[p] and b in got[(i + 1) % n] and raised(a, b)),
+        (rf'by its log node (\d+) never sent {LOAD}', lambda i, a: a not in sent[i]),
+        (rf'by its log node (\d+) never sent {LOAD}, nor received {LOAD}, which', lambda i, a, b: b in sent[i - 1] and raised(b, a)),
+        (rf'the node never received {LOAD}, which', lambda a: any(s.count(a) > got[(i + 1) % n].count(a) for i, s in enumerate(sent))),
+        (r'the log of node (\d+) ends \(\S*?(\d+)\.log:(\d+)\) where', lambda i, name, line: i == name and line == len(of(i)) + 5),
+        (rf'node (\d+) was then active in round (\d+) with ID (\d+), so it drops {LOAD}', lambda i, *pair_load: any(
+            (state.round, state.id) == pair_load[:2] for state in states(*case.logs[i], n)) and pair_load[2] in sent[i - 1]),
+        (r'node more between node (\d+) and node (\d+) all .* of a ring of (\d+) nodes', lambda a, b, m: b == (a + 1) % n and m == n + 1),
+        (r'perhaps node (\d+) records its sendings', lambda i: i in links),
+        (r'perhaps node (\d+) records a message as it passes', lambda i: (i - 1) % n in links),
+    )
+
+
+def names_it_well(case, link, hint):
+    """Whether each node, event and message is so as it is named."""
+    return all(is_so(*(int(word) if word.isdigit() else word for word in said.groups()))
+               for form, is_so in facts(case, link) for said in re.finditer(form, hint))
+
+
+def verdict(case, answer, hints):
     if not hints:
         return 'none'
-    found = []
+    found, link = [], re.match(r'no: link (\d+)', answer)
     for hint in hints:
+        is_so = names_it_well(case, link and int(link[1]), hint)
         blamed = re.findall(r'(?:^|: |perhaps )node (\d+) records', hint)
-        if re.search(case.right, hint) and all(int(node) == case.node for node in blamed):
+        if not is_so:
+            found.append('false')
+        elif re.search(case.right, hint) and all(int(node) == case.node for node in blamed):
             found.append('right')
         elif 'perhaps' in hint:
             found.append('perhaps')
-        elif says_so(case, hint):
+        elif re.match(r'by its log node|receipts \d+ and', hint):
             found.append('fact')
         else:
             found.append('false')
     return next(kind for kind in ('false', 'right', 'perhaps', 'fact') if kind in found)
 
 
+def log_text(log, place, nodes, version):
+    initiator, events = log
+    head = f"irlog {version}\nnodes {nodes}\nplace {place}\nstart {'initiator' if initiator else 'passive'}\n"
+    return (head + ''.join(' '.join(event) + '\n' for event in events) + f'end {len(events)}\n').encode()
+
+
 def write(folder, logs, version):
-    for place, (initiator, events) in enumerate(logs):
-        with open(os.path.join(folder, f'{place}.log'), 'w', encoding='ascii') as file:
-            start = 'initiator' if initiator else 'passive'
-            file.write(f'irlog {version}\nnodes {len(logs)}\nplace {place}\nstart {start}\n')
-            file.write(''.join(' '.join(event) + '\n' for event in events) + f'end {len(events)}\n')
+    for place, log in enumerate(logs):
+        with open(os.path.join(folder, f'{place}.log'), 'wb') as file:
+            file.write(log if isinstance(log, bytes) else log_text(log, place, len(logs), version))
 
 
 def election(temp, nodes, initiators, seed, terms):
@@ -181,7 +257,7 @@ def main():
     with tempfile.TemporaryDirectory() as temp:
         for nodes, initiators, seed, terms in ELECTIONS:
             logs, others = (election(temp, nodes, initiators, number, terms) for number in (seed, seed + 100))
-            for case in itertools.chain(slips(logs, nodes > 2), orders(logs), records(logs), runs(logs, others)):
+            for case in itertools.chain(slips(logs, nodes > 2), orders(logs), records(logs), runs(logs, others), texts(logs)):
                 if case.logs == logs:
                     continue
                 write(temp, case.logs, 2 if terms > 1 else 1)
@@ -190,16 +266,19 @@ def main():
                 told = json.loads(subprocess.run(words, check=False, capture_output=True).stdout)
                 if told['answer'] == 'yes':
                     continue
-                found = verdict(case, told['hints'])
+                found = verdict(case, told['answer'], told['hints'])
                 table[case.kind][found] += 1
                 if '--each' in sys.argv:
                     print(found, case.kind, f'{nodes}.{seed}', case.node, told['answer'], *told['hints'], sep=' | ')
     for kind, row in table.items():
         print(f'{kind:32}' + ''.join(f'{row[name]:5} {name}' for name in ('right', 'fact', 'perhaps', 'none', 'false')))
+    few = [kind for kind, least in LEAST.items() if table[kind]['right'] < least]
+    for kind in few:
+        print(f"hints: of '{kind}' fewer are right than {LEAST[kind]}")
     false = sum(row['false'] for row in table.values())
     planted = sum(sum(row.values()) for row in table.values())
     print(f"hints: {planted} planted, {sum(row['right'] for row in table.values())} right, {false} false")
-    return false > 0
+    return bool(false or few)
 
 
 if __name__ == '__main__':

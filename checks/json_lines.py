@@ -271,6 +271,7 @@ def check_events(reader, ring, names, cut):
         if event[0] == 'recv':
             assert value['of_step'] == step_of[ring.sending(i, k)], value
         assert value['in_cut'] == (number <= sum(at))
+    assert list(step_of) == sorted(step_of, key=lambda event: (placed.column[event], event)), names
 
 
 def check_leaders(reader, ring, names):

@@ -2,10 +2,8 @@
 # What pages name is there: the file and the heading that a link leads to, and in back quotes files and the items of code, as
 # `NodeLog`, `read_log` or `RingAudit::take`. And each crate has a user, but for programs, the module and tests, and names
 # each crate that crates.txt puts it on; ARCHITECTURE's drawing has each, but those of tests, on a line above what it rests on.
-# No type, trait or function that is public in a crate of views, runs or the program
-# has the name of another one there. The numbers of requests to ira_web have one order of names, in its code, in the page,
-# in the library and in the check of both. And recipes of CONTRIBUTING name each file that tells reasons, clauses, events or
-# commands apart.
+# No type, trait or function that is public in a crate of views, runs or the program has the name of another one there. The
+# numbers of requests to ira_web have one order of names, in its code, in the page, in the library and in the check of both.
 #
 #     sh checks/names.sh
 
@@ -95,24 +93,7 @@ grep -rhoE --include='*.rt' '^pub (const )?(struct|enum|trait|type|fn) [A-Za-z0-
     crates/ira_main*/src crates/ira_mend/src crates/ira_commands/src crates/ira_web/src | awk '{ print $NF }' | sort | uniq -d |
     sed 's/$/: two public items have this name/' > "$made/twice"
 
-# Each file that tells the variants of a type apart is named by the recipe for another one. Of each type a variant stands for
-# all: what is matched in code, and what definitions import.
-recipe() {
-    sed -n "/^\* \*\*$1\*\*/,/^\* \*\*/p" CONTRIBUTING.md | sed '1p; /^\* \*\*/d' | grep -oE '`[^`]*`' | tr -d '`' |
-        sed 's|.*/||; s/\.antt$//' > "$made/named"
-    { grep -lE "$2" crates/ira_*/src/*.rt; grep -lE "$3" crates/ira_*/specs/*.antt; } | while read -r file; do
-        stem=${file##*/}
-        grep -qx -e "${stem%.antt}" "$made/named" || echo "CONTRIBUTING.md: **$1** doesn't name $file"
-    done
-}
-{
-    recipe 'A report line' 'Reason::Circle' 'TheVariants\.\{[^}]*\<Circle\>'
-    recipe 'A clause of questions' 'Clause::Yielding' 'Formula\.\{[^}]*\<yielding\>'
-    recipe 'An event kind' 'Event::Yield' 'TheVariants\.\{[^}]*\<Yield\>'
-    recipe 'A command' 'Request::Upgrade' 'TheVariants\.\{[^}]*\<Upgrade\>'
-} > "$made/recipes"
-
-for it in links items files crates below drawing numbers twice recipes; do
+for it in links items files crates below drawing numbers twice; do
     while read -r line; do
         fail "$line"
     done < "$made/$it"

@@ -17,7 +17,7 @@ import tempfile
 import time
 import urllib.request
 
-from pictures import HERE, Ring, load, logs_in, words
+from pictures import HERE, Ring, counts, described, headline, load, logs_in, words
 
 LARGEST = 44 * 1024
 EXAMPLES = {name: logs_in(os.path.join(HERE, '..', 'examples', name)) for name in (
@@ -40,7 +40,7 @@ return {
   heading: part('heading').textContent, why: part('why').textContent, title: part('event').textContent.match(/node \\d+ event \\d+/)?.[0],
   about: about && read(about), moment: moment && read(moment), states: moment && cells(part('moment').querySelector('table')),
   way: [...part('moment').querySelectorAll('li')].map(item => item.textContent), asked: part('moment').querySelector('h2')?.textContent,
-  link: location.hash, focus: document.activeElement.id, elements: document.querySelectorAll('body *').length,
+  count: part('count').value, described: part('d').textContent, link: location.hash, focus: document.activeElement.id, elements: document.querySelectorAll('body *').length,
 };'''
 CORNER = "const {x, y} = document.getElementById('view').getBoundingClientRect(); return [x, y]"
 FRAMES = '''
@@ -168,6 +168,7 @@ def on_the_way(ring, cut):
 
 
 def holds_moment(seen, ring, cut):
+    assert seen['count'] == f'{sum(cut)} of {sum(map(len, ring.events))} events', seen['count']
     assert seen['moment']['cut'] == ','.join(map(str, cut)), (seen['moment'], cut)
     states = [state(ring, i, p) for i, p in enumerate(cut)]
     assert seen['states'] == [[str(i), str(p), states[i]] for i, p in enumerate(cut)], (seen['states'], states)
@@ -191,6 +192,34 @@ def holds_event(seen, ring, names, i, p):
     if ring.mismatch() is None:
         assert about['future'] == events(future(ring, i, p)), about
     holds_moment(seen, ring, past)
+
+
+def turn_of(ring, i, p):
+    """The term and the round of an event: those of the node after it, and of a message its own round."""
+    record, after = ring.events[i][p - 1], ring.states[i][p]
+    return after.term, int(record[1]) if len(record) > 3 else after.round or 0
+
+
+def searches(ring, names):
+    """What is searched for in a good ring, and the events that it finds."""
+    every = [(i, p, ' '.join(e)) for i, es in enumerate(ring.events) for p, e in enumerate(es, 1)]
+    for text, wanted in (
+            ('1.2', lambda i, p, e: (i, p) == (1, 2)), ('node 0 event 3', lambda i, p, e: (i, p) == (0, 3)),
+            (f'{names[1]}:6', lambda i, p, e: (i, p) == (1, 2)), ('0.log:7', lambda i, p, e: (i, p) == (0, 3)),
+            ('round 2', lambda i, p, e: turn_of(ring, i, p)[1] == 2), ('2 clean', lambda i, p, e: '2 clean' in e),
+            ('ID 1', lambda i, p, e: re.search(r'^draw 1$|^\w+ \d+ 1 ', e)),
+            ('9.9', lambda i, p, e: False), ('round 77', lambda i, p, e: False)):
+        yield text, [f'node {i} event {p}' for i, p, e in every if wanted(i, p, e)]
+
+
+def last_states(ring, i, p):
+    """The five events of a node up to one, as a table's words."""
+    said = f'node {i}recordafter it'
+    for q in range(max(1, p - 4), p + 1):
+        states = ring.states[i]
+        owed = states[q - 1].owed if q == len(states) else None
+        said += f"{q}{' '.join(ring.events[i][q - 1])}" + (f'no step: send {" ".join(owed)} is due' if owed else state(ring, i, q))
+    return said
 
 
 def events(number):
@@ -240,7 +269,9 @@ class Check:
         answer, _ = self.draw(names)
         assert answer == 'yes'
         self.browser.open(self.page)
-        assert self.look()['about'] is None
+        seen, told = self.look(), f'{headline(ring)}. {counts(ring, (0, ring.last()))}'
+        assert seen['about'] is None and seen['heading'] == headline(ring), seen
+        assert seen['described'].split('\n') == [f'{told}. Each event stands right of all that happened before it.', *described(ring)]
         order = sorted(ring.column, key=lambda e: (ring.column[e], e))
         for i, p in order[::max(1, len(order) // number)]:
             self.browser.run(f"location.hash = '#node{i}.{p}'; onhashchange();")
@@ -258,6 +289,14 @@ class Check:
         cut = [int(p) for p in self.look()['moment']['cut'].split(',')]
         assert sum(cut) == 3
         holds_moment(self.look(), ring, cut)
+        self.browser.type('[')
+        cut = [int(p) for p in self.look()['moment']['cut'].split(',')]
+        assert sum(cut) == 2
+        # each link that has a message at the first moment when it can
+        heads = [[e[0] for e in es] for es in ring.events]
+        cut = [next((p for p, kind in enumerate(kinds) if kind == 'recv'), len(kinds)) for kinds in heads]
+        self.browser.run('setMoment(arguments[0])', cut)
+        holds_moment(self.look(), ring, cut)
         column = ring.last() // 2
         cut = [sum(1 for (j, _), c in ring.column.items() if j == i and c <= column) for i in range(ring.n)]
         self.browser.run('wholeWidth(); momentAt(X(stands[arguments[0]]) + .4 * view.wide)', column)
@@ -272,6 +311,8 @@ class Check:
         seen = self.look()
         assert seen['heading'] == answer and answer.startswith('no: ')
         holds_event(seen, ring, names, *named)
+        if 'link' not in answer:
+            told = [*told, last_states(ring, *named)]
         for part in told:
             assert part in seen['why'], (part, seen['why'])
         assert seen['why'].startswith(answer) and not re.search(r':\d+ event\b', seen['why']), seen['why']
@@ -300,6 +341,8 @@ class Check:
         seen = self.look()
         holds_moment(seen, Ring(names), cut)
         assert seen['asked'] == told, seen['asked']
+        self.browser.type('[')
+        assert self.look()['asked'] == 'The moment'
 
     def seen_view(self):
         return self.browser.run('return {...view, right: total(), width: wide, height: high}')
@@ -361,18 +404,13 @@ class Check:
         browser, ring = self.browser, Ring(names)
         self.draw(names)
         browser.open(self.page)
-        every = [(i, p, ' '.join(e)) for i, es in enumerate(ring.events) for p, e in enumerate(es, 1)]
-        for text, wanted in (
-                ('1.2', lambda i, p, e: (i, p) == (1, 2)), ('node 0 event 3', lambda i, p, e: (i, p) == (0, 3)),
-                (f'{names[1]}:6', lambda i, p, e: (i, p) == (1, 2)), ('0.log:7', lambda i, p, e: (i, p) == (0, 3)),
-                ('round 2', lambda i, p, e: browser.run('return eventAt(arguments[0], arguments[1]).inRound', i, p) == 2),
-                ('ID 1', lambda i, p, e: e == 'draw 1' or e.split(' ')[2:3] == ['1']), ('2 clean', lambda i, p, e: '2 clean' in e),
-                ('9.9', lambda i, p, e: False), ('round 77', lambda i, p, e: False)):
+        every = [(i, p) for i, es in enumerate(ring.events) for p in range(1, len(es) + 1)]
+        for text, wanted in searches(ring, names):
             browser.type('/')
             browser.run("document.activeElement.value = ''")
             browser.stroke(*text)
             hits = browser.run("return [...document.querySelectorAll('#hits li')].map(item => item.textContent.split(':')[0])")
-            assert sorted(hits) == sorted(f'node {i} event {p}' for i, p, e in every if wanted(i, p, e)) or ['nothing'], (text, hits)
+            assert sorted(hits) == (sorted(wanted) or ['nothing']), (text, hits)
             browser.stroke(KEYS['enter' if hits != ['nothing'] else 'escape'])
             seen = self.look()
             assert seen['focus'] == 'view' and (hits == ['nothing'] or seen['title'] == hits[0]), (text, seen)
@@ -382,7 +420,7 @@ class Check:
         for _ in every[1:]:
             browser.stroke('.')
             titles.append(self.look()['title'])
-        assert sorted(titles) == sorted(f'node {i} event {p}' for i, p, _ in every)
+        assert sorted(titles) == sorted(f'node {i} event {p}' for i, p in every)
         browser.type(KEYS['home'])
         assert self.look()['title'].endswith('event 1')
         browser.type(KEYS['end'])
@@ -398,8 +436,8 @@ class Check:
         holds_moment(self.look(), ring, cut)
         # a round alone, and passive stretches folded
         wide = self.seen_view()['right']
-        shown = browser.run("$('alone').value = 'term 1 round 2'; $('alone').onchange(); return order.filter(isShown).map(nameOf)")
-        assert 0 < len(shown) < len(every) and self.seen_view()['right'] < wide
+        browser.run("$('alone').value = 'term 1 round 2'; $('alone').onchange()")
+        assert self.seen_view()['right'] < wide
         browser.run("$('alone').selectedIndex = 0; $('alone').onchange()")
         assert self.seen_view()['right'] == wide
         browser.type('?')

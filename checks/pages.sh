@@ -5,7 +5,7 @@
 #
 # A command is an indented line that begins with `$ `. What it prints, standard error too, are the lines after it, to the next
 # command or the end of the indented block. The commands of a page run in its order, in one shell, at the root of a folder
-# with the program as bin/ira and as release/ira and a copy of examples/, where the page begins anew. A command that begins with `make` isn't
+# with the program as bin/ira and as release/ira and copies of examples/ and library/, where the page begins anew. A command that begins with `make` isn't
 # run; where there is no Python, neither is one that begins with `python3`, nor what follows it in its block. A picture that a
 # command leaves at the root is the one of that name in docs/.
 
@@ -44,11 +44,12 @@ take_out() {
 
 for page in README.md docs/*.md build/dist-README.md; do
     rm -rf "$made"/* && mkdir "$made/page" "$made/root" "$made/root/bin" "$made/root/release"
-    cp -r examples "$made/root"
+    cp -r examples library "$made/root"
     ln -s "$ira" "$made/root/bin/ira"
     ln -s "$ira" "$made/root/release/ira"
     take_out "$page" "$made/page"
     [ -s "$made/page/commands" ] || continue
+    with_commands=$((with_commands + 1))
     (
         cd "$made/root" || exit 2
         as_said=0 others=0 passed_over=0
@@ -80,4 +81,5 @@ for page in README.md docs/*.md build/dist-README.md; do
     ) || failed=1
 done
 
+[ "${with_commands:-0}" -ge 4 ] || { echo "pages: hardly a page has commands"; failed=1; }
 [ -z "$failed" ]

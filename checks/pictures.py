@@ -373,6 +373,37 @@ def turn(state):
     return (f'{state.term}/' if state.term > 1 else '') + f'{state.round}:{state.id}'
 
 
+def many(k, what):
+    return f"{k} {what}{'' if k == 1 else 's'}"
+
+
+def headline(ring):
+    """Who leads in the end."""
+    leaders = [f"node {i} {words(s[-1]).replace('leader', 'leads')}" for i, s in enumerate(ring.states) if s[-1].phase == 'leader']
+    return '; '.join(leaders) or 'nobody leads yet'
+
+
+def counts(ring, window):
+    """How much there is, and how much of it is shown."""
+    said = f'{many(ring.n, "node")}, {many(sum(map(len, ring.events)), "event")}'
+    return said + ('' if window == (0, ring.last()) else f', columns {window[0]} to {window[1]} of {ring.last()}')
+
+
+def described(ring):
+    """A line on each node, for those who don't see a picture."""
+    lines = [f'node {i}: {many(len(ring.events[i]), "event")}, {words(ring.states[i][-1])}' for i in range(min(ring.n, 64))]
+    return [line + (', then event {} has no step: {}'.format(*ring.fault(i)) if len(ring.states[i]) <= len(ring.events[i]) else '')
+            for i, line in enumerate(lines)]
+
+
+def last_words(ring, i):
+    """What stands right of a lane: the last state of its node."""
+    s = ring.states[i][-1]
+    shown = f'leads {turn(s)}' if s.phase == 'leader' else f'active {turn(s)}' if s.phase == 'active' else s.phase
+    shown += ', owes ' + ' '.join(s.owed) if s.owed else ''
+    return 'no step' if len(ring.states[i]) <= len(ring.events[i]) else '' if shown == 'passive' else shown
+
+
 def check_words(drawn, ring, window, whole, arrows, answer, ringed, is_refused):
     """Holds the words of a picture: its heading, what it says of itself, labels of lanes and arrows, remarks, the legend."""
     n, end = ring.n, ring.last()
@@ -382,24 +413,17 @@ def check_words(drawn, ring, window, whole, arrows, answer, ringed, is_refused):
     assert all(len(words) == 1 for places in texts.values() for words in places.values())
     texts = {name: {at: words[0] for at, words in places.items()} for name, places in texts.items()}
     # The heading is the answer, or who leads.
-    leaders = [f"node {i} {words(s[-1]).replace('leader', 'leads')}" for i, s in enumerate(ring.states) if s[-1].phase == 'leader']
-    heading = answer or '; '.join(leaders) or 'nobody leads yet'
+    heading = answer or headline(ring)
     assert texts['t bt' if is_refused else 't'] == {(16, 28): heading} and drawn.root.find(S + 'title').text == heading
     # What is shown, and how it's read; and a line on each node for those who don't see it.
-    many = lambda k, what: f"{k} {what}{'' if k == 1 else 's'}"
-    said = f'{many(n, "node")}, {many(sum(map(len, ring.events)), "event")}'
-    said += '' if window == (0, end) else f', columns {window[0]} to {window[1]} of {end}'
+    said = counts(ring, window)
     said += ('. Each event stands right of all that happened before it; this is no clock.' if not is_refused else
              '. What the answer speaks of stands at other columns.' if not ringed else
              '. Thick broken arrows join what is not the same message; the ringed receipt is the first such.' if 'link' in answer else
              '. Each ringed receipt waits for a sending that comes after the ringed receipt of its sender.' if 'circle' in answer else
              '. The ringed event has no step; after it the states are unknown.')
-    lines = [said]
-    for i in range(min(n, 64)):
-        lines.append(f'node {i}: {many(len(ring.events[i]), "event")}, {words(ring.states[i][-1])}')
-        if len(ring.states[i]) <= len(ring.events[i]):
-            lines[-1] += ', then event {} has no step: {}'.format(*ring.fault(i))
-    assert texts['s'][16, 48] == said and drawn.root.find(S + 'desc').text.split('\n') == lines + ['..'] * (n > 64)
+    assert texts['s'][16, 48] == said
+    assert drawn.root.find(S + 'desc').text.split('\n') == [said, *described(ring)] + ['..'] * (n > 64)
     # Words at rings: what is said of each.
     remarks = sorted(words for name in ('bt', 'bt k', 'bt n') for words in texts.get(name, {}).values())
     wrong = {ends: places for ends, (kind, _, places) in whole.items() if kind == 'b y'}
@@ -420,13 +444,14 @@ def check_words(drawn, ring, window, whole, arrows, answer, ringed, is_refused):
                         assert text == ' '.join(load(ring.events[i][p - 1])), (text, place)
     # Arrows carry what was sent, without its bit, where they have words.
     labels = {(t.get('x'), t.get('y')): t.text for g in drawn.groups('l') for t in g if t.tag == S + 'text'}
+    has_labels = bool(labels)
     for (y, x, y2, x2), (kind, _, (sent, _)) in whole.items():
         at = str(x + (x2 - x) // 4), str((y + (y2 - y) // 4 if y <= y2 else y - (y - y2) // 4) + 4)
         if kind != 'b y' and labels:
             i, p = map(int, sent.split('.'))
             assert labels.pop(at) == ' '.join(load(ring.events[i][p - 1])[:3]), sent
     for name, marker, sent, (x, y, x2, y2) in arrows:
-        if marker == 'F' and labels:
+        if marker == 'F' and has_labels:
             i, p = map(int, sent.split('.'))
             assert labels.pop((str(x2 + 24), str(y + 34 if y < y2 else y - 34))) == ' '.join(load(ring.events[i][p - 1])[:3]), sent
     assert not labels, (labels, answer)
@@ -442,11 +467,8 @@ def check_words(drawn, ring, window, whole, arrows, answer, ringed, is_refused):
     assert sorted(texts.get('k', {}).values()) == sorted(pairs)
     ends = {(x, y): text for name in (None, 's') for (x, y), text in texts.get(name, {}).items() if y - 4 in drawn.rows[:n]}
     is_wide = any(text.startswith('node ') for text in ends.values())
-    for i, states in enumerate(ring.states):
-        s, is_stopped = states[-1], len(states) <= len(ring.events[i])
-        shown = (f'leads {turn(s)}' if s.phase == 'leader' else f'active {turn(s)}' if s.phase == 'active' else s.phase)
-        shown = 'no step' if is_stopped else shown + (', owes ' + ' '.join(s.owed) if s.owed else '')
-        shown = '' if shown == 'passive' or window[1] != end else shown
+    for i in range(n):
+        shown = last_words(ring, i) if window[1] == end else ''
         shown = ': '.join([f'node {i}'] * is_wide + [shown] * bool(shown))
         assert [text for (_, y), text in ends.items() if y - 4 == drawn.rows[i]] == [shown] * bool(shown), (i, shown, ends)
     # The legend has each kind of line and mark that the picture has, with a sample, and no other.

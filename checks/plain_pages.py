@@ -181,7 +181,7 @@ def change_of(before, after):
 
 
 def check_events(reader, ring, names, cut):
-    """An order of all events: each once, its log's own order kept, receipts after their sendings, the cut's first."""
+    """An order of all events: each once, by column and then by place, receipts after their sendings, the cut's first."""
     options = ['--at', ','.join(map(str, cut))] if cut else []
     _, _, lines = reader.page('show', '--events', *options, *names)
     _, rows = blocks_of(lines)
@@ -204,6 +204,8 @@ def check_events(reader, ring, names, cut):
             due += '  ' + change_of(before, after)
         assert re.sub('   +', '  ', what).rstrip() == due, (row, due)
     assert made == [len(events) for events in ring.events] and here == ([at] if cut else []), names
+    column = Ring(names, cut).column
+    assert list(step_of) == sorted(step_of, key=lambda event: (column[event], event)), names
 
 
 def check_moments(reader, ring, names):

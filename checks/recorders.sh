@@ -44,6 +44,19 @@ compile() {
     "$@" || { echo "$name: not compiled"; failed=1; false; }
 }
 
+# A node that throws after its draw leaves no end line.
+throws() {
+    mkdir "$made/thrown" && python3 -B -c "
+from recorder import Recorder
+with Recorder('$made/thrown', 2, 0, True) as log:
+    log.drew(1)
+    raise SystemExit"
+    answer=$("$ira" < "$made/thrown/0.log")
+    [ "$answer" = 'no: log 0: cut' ] || failed=1
+    echo "Python, a node that throws: $answer"
+}
+
+is_there Python python3 && throws
 is_there Python python3 && judge Python ring_py && judge 'Python, two terms' two_terms
 is_there Python python3 && judge 'Python, asyncio' python3 -B ring_asyncio.py
 is_there Node node && judge Node node ring.mjs

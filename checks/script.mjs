@@ -27,7 +27,7 @@ class Element {
   querySelector(name) { return this.querySelectorAll(name)[0] ?? null; }
   get rows() { return this.querySelectorAll('tr'); }
   get cells() { return this.children; }
-  get selectedIndex() { return max(0, this.children.findIndex(option => option.textContent == this.value)); }
+  get selectedIndex() { return max(0, this.children.findIndex(option => option.textContent.trim() == this.value)); }
   setAttribute(name, value) { this.attributes[name] = value; }
   focus() { this.document.activeElement = this; }
   click() { this.checked = !this.checked, this.onchange?.(); }
@@ -37,9 +37,9 @@ class Element {
 }
 const {max} = Math;
 
-// What is drawn: each stroke and fill with its lines, circles and boxes, and words.
+// What is drawn: each stroke and fill with its lines, circles and boxes, words, and areas.
 class Context {
-  strokes = []; fills = []; words = []; globalAlpha = 1;
+  strokes = []; fills = []; words = []; areas = []; globalAlpha = 1;
   beginPath() { this.path = {lines: [], circles: [], boxes: []}; }
   moveTo(x, y) { this.at = [x, y]; }
   lineTo(x, y) { this.path.lines.push([...(this.at ?? [x, y]), x, y]), this.at = [x, y]; }
@@ -53,7 +53,7 @@ class Context {
   fill() { this.fills.push({colour: this.fillStyle, alpha: this.globalAlpha, ...this.path}); }
   fillText(words, x, y) { this.words.push({words, x, y, colour: this.fillStyle, align: this.textAlign}); }
   strokeText() {}
-  fillRect() {}
+  fillRect(x, y, w, h) { this.areas.push({x, y, w, h, alpha: this.globalAlpha}); }
   setTransform() {}
   drawImage() {}
 }

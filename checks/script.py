@@ -13,13 +13,14 @@ import subprocess
 import sys
 import tempfile
 
-from page import DRAWN_TOO_HIGH, EXAMPLES, RAISED, Check, recorded
-from pictures import HERE, Ring, load, logs_in
+from page import DRAWN_TOO_HIGH, EXAMPLES, RAISED, READS, Check, events, recorded, searches, state, turn_of
+from pictures import HERE, Ring, counts, headline, last_words, load, logs_in, turn
 
 SOURCE = os.path.join(HERE, '..', 'crates', 'ira_view_html', 'src', 'script.rt')
 COLOURS = {'choosing': '--choosing', 'active': '--active', 'passive': '--passive', 'leader': '--leader', 'yielding': '--yielding'}
 KEYS = {'\ue012': 'ArrowLeft', '\ue013': 'ArrowUp', '\ue014': 'ArrowRight', '\ue015': 'ArrowDown', '\ue00c': 'Escape',
         '\ue010': 'End', '\ue011': 'Home'}
+HEIGHTS = (4, 84), (8, 56), (16, 44), (32, 34), (256, 26)
 SCENE = '''
 wholeWidth();
 show(null, null);
@@ -27,7 +28,24 @@ ctx = new Context;
 readColours();
 drawScene();
 const {strokes, fills, words} = ctx;
-return {strokes, fills, words, wide: view.wide, left: view.x, high: view.high, top: view.y};'''
+ctx = new Context;
+drawAxes();
+return {strokes, fills, words, axes: ctx.words, wide: view.wide, left: view.x, high: view.high, top: view.y, pitch};'''
+# how each kind of line is drawn: its colour, thickness and dashes; and the end of an arrow
+LINES = {'passive': ('passive', 4), 'active': ('active', 12), 'choosing': ('choosing', 12), 'yielding': ('yielding', 12),
+         'leader': ('leader', 18), 'leader by its own log alone': ('mute', 18), 'no state': ('mute', 1, '2 3'),
+         'owes a message': ('ink', 3), 'message': ('message', 1.2), 'dirty': ('message', 1.2, '5 3'), 'reset': ('message', 4),
+         'dropped': ('message', 1.2), 'not received': ('message', 1.2), 'the lap that elected the leader': ('leader', 2.5),
+         'not the same message': ('bad', 2, '5 3'), 'no later than it was sent': ('bad', 2)}
+TIPS = {'dropped': 'cross', 'not received': 'ring', **dict.fromkeys((
+    'message', 'dirty', 'reset', 'the lap that elected the leader', 'not the same message', 'no later than it was sent'), 'head')}
+LEGEND = '''
+return [...$('legend').children].map(entry => [entry.textContent, entry.children[0].children.map(it => it.attributes)]);'''
+PRINT = '''
+const was = JSON.stringify([view, wide, high]);
+onbeforeprint();
+const [title, svg] = $('print').children, marks = svg.children.filter(it => /fill:var\\(--ink\\)$/.test(it.attributes.style) && it.attributes.d);
+return [title.textContent, was == JSON.stringify([view, wide, high]), marks.map(it => it.attributes.d).join(''), pitch];'''
 
 
 class Node:
@@ -79,15 +97,15 @@ def lint():
     return script
 
 
-def near(a, b):
-    return all(abs(x - y) < .01 for x, y in zip(a, b, strict=True))
+def near(a, b, most=.01):
+    return all(abs(x - y) < most for x, y in zip(a, b, strict=True))
 
 
-def holds_all(seen, wanted, what):
+def holds_all(seen, wanted, what, most=.01):
     """Each of what is seen is one of what is wanted, and the other way round."""
     left = list(wanted)
     for one in seen:
-        found = next((w for w in left if w[0] == one[0] and near(w[1], one[1])), None)
+        found = next((w for w in left if w[0] == one[0] and near(w[1], one[1], most)), None)
         assert found, f'{what}: {one} is none of {left[:9]}'
         left.remove(found)
     assert not left, f'{what}: {left[:9]} are missing'
@@ -95,9 +113,9 @@ def holds_all(seen, wanted, what):
 
 def holds_scene(scene, ring, a, z):
     """Holds what is drawn of the columns a to z: marks, arrows between two of them, bands and debts."""
-    n, heights = ring.n, ((4, 84), (8, 56), (16, 44), (32, 34), (256, 26))
-    height = next(height for most, height in heights if n <= most)
+    n, height = ring.n, next(height for most, height in HEIGHTS if ring.n <= most)
     at = lambda c: 64 + (c - a - scene['left']) * scene['wide']
+    scale = max(.3, min(1.5, scene['high'], scene['wide'] / scene['pitch'] * 1.5))
     lane = lambda row: 24 + (row * height + 34 - scene['top']) * scene['high']
     rows = lambda i: [i] if i or n == 2 else [0, n]
     inside = {e: c for e, c in ring.column.items() if a <= c <= z}
@@ -162,6 +180,57 @@ def holds_scene(scene, ring, a, z):
         wanted += [('--mute' if colour == '--leader' and x >= doubted - .01 else colour, [x, lane(row), x2, lane(row)])
                    for colour, x, x2 in spans for row in rows(i)]
     holds_all(flat, wanted, 'bands')
+    holds_words(scene, ring, (a, z), at, lane)
+
+
+def holds_words(scene, ring, window, at, lane):
+    """Holds the words of columns: IDs of who is active, last states, what arrows carry, both sides of what differs; and the axes."""
+    (a, z), n = window, ring.n
+    rows = [lane(row) for row in range(n + (n > 2))]
+    nearest = lambda y: min(range(len(rows)), key=lambda row: abs(rows[row] - y))
+    words = lambda *colours, align: [w for w in scene['words'] if w['colour'] in colours and w['align'] == align]
+    is_near = scene['wide'] >= .6 * scene['pitch'] and scene['high'] > .55
+    # round and ID, where a node becomes active or the columns begin
+    wanted = []
+    for i in range(n):
+        order = sorted(p for (j, p), c in ring.column.items() if j == i and a <= c <= z)
+        active = [turn(s) if s.phase == 'active' else None for s in ring.states[i]] + [None] * len(ring.events[i])
+        before = order[0] - 1 if order else sum(1 for (j, p), c in ring.column.items() if j == i and c < a)
+        if active[before] and not (order and ring.column[i, order[0]] == a and active[order[0]] != active[before]):
+            wanted.append(((active[before], i), [at(a)]))
+        wanted += [((active[p], i), [at(ring.column[i, p])]) for p in order if active[p] and active[p] != active[p - 1]]
+    pairs = [w for w in words('--ink', align='center') if re.fullmatch(r'(\d+/)?\d+:\d+', w['words'])]
+    holds_all([((w['words'], nearest(w['y'] - 4 * (n == 2))), [w['x']]) for w in pairs], wanted if is_near else [], 'IDs')
+    # the last state of each node, right of its lane
+    ends = [(words, [lane(i) + 4]) for i in range(n) for words in [last_words(ring, i)] if words]
+    found = [(w['words'], [w['y']]) for w in words('--ink', '--mute', align='left') if w['words'] not in {p['words'] for p in pairs}]
+    holds_all(found, ends if is_near and z == ring.last() else [], 'last states')
+    # what arrows carry: of two that differ both sides, else without its bit beside its middle
+    arrows = {(i, k): (ring.column[i, s], ring.column[(i + 1) % n, g]) for i in range(n)
+              for k, (s, g) in enumerate(zip(ring.sent[i], ring.got[i]))}
+    sides = lambda i, k: (load(ring.events[i][ring.sent[i][k] - 1]), load(ring.events[(i + 1) % n][ring.got[i][k] - 1]))
+    line = lambda i, k: (at(arrows[i, k][0]), lane(i), at(arrows[i, k][1]), lane(i + 1 if n > 2 else (i + 1) % n))
+    if (a, z) == (0, ring.last()):
+        wanted = []
+        for (i, k), aside in zip([it for it in sorted(arrows) if sides(*it)[0] != sides(*it)[1]], (-6, 6)):
+            x, y, x2, y2 = line(i, k)
+            wanted += [(' '.join(side), [x + t * (x2 - x) + aside, y + t * (y2 - y)]) for side, t in zip(sides(i, k), (.25, .75))]
+        found = [w for w in scene['words'] if w['colour'] == '--bad' and re.match(r'\d|reset', w['words'])]
+        holds_all([(w['words'], [w['x'], w['y']]) for w in found], wanted if is_near else [], 'what differs')
+    loads = [w for w in words('--ink', align='center') if re.fullmatch(r'\d+ \d+ \d+|reset \d+', w['words'])]
+    for w in loads:
+        assert any(' '.join(sides(i, k)[0][:3]) == w['words'] and x <= max(x1, x2) + 60 and x >= min(x1, x2) - 60
+                   and abs(abs(w['x'] - x) - 3.2 * len(w['words']) - 14) < .01
+                   for i, k in arrows for x1, y1, x2, y2 in [line(i, k)] if y1 != y2
+                   for x in [x1 + (w['y'] - 4 - y1) / (y2 - y1) * (x2 - x1)]), w
+    assert n > 4 or scene['wide'] < 40 or loads or not arrows, 'no arrow has words'
+    # the axes
+    nodes = [w for w in scene['axes'] if w['align'] == 'right' and w['words'] != 'column']
+    assert nodes and all(w['words'] == f"node {nearest(w['y'] - 4) % n}" and abs(w['y'] - 4 - rows[nearest(w['y'] - 4)]) < .01 for w in nodes)
+    columns = [w for w in scene['axes'] if w['align'] == 'center']
+    assert columns and all(a <= w['words'] <= z and abs(at(w['words']) - w['x']) < .01 for w in columns), columns
+    unreceived = sum(a <= ring.column[i, s] <= z for i in range(n) for s in ring.sent[i][len(ring.got[i]):])
+    assert unreceived * is_near == sum(c[2] == 3 for stroke in scene['strokes'] for c in stroke['circles']), 'not received'
 
 
 class Script(Check):
@@ -174,11 +243,97 @@ class Script(Check):
         a, z = min(a or 0, end), end if z is None else min(z, end)
         self.draw(names, '--from', str(a), '--to', str(z))
         self.browser.open(self.page)
+        if ring.answer()[0] is None and headline(ring) != 'nobody leads yet' and z == end:
+            # the page opens where a node leads, with all that came before where there is room
+            leads, wide, left = self.browser.run("return [X(order.findLast(e => e.phase == 'leader').p), wide, X(0)]")
+            assert 64 <= leads <= wide - 60 and (left >= 64 or z - a > 20), (leads, wide, left)
         holds_scene(self.browser.run(SCENE), ring, a, z)
+        self.read += 1
+        if ring.answer()[0] is None and (a, z) != (0, end):
+            # what is said of a part
+            assert counts(ring, (a, z)) in self.look()['why']
+            inside = [e for e, c in ring.column.items() if a <= c <= z]
+            for i, p in inside[::1 + len(inside) // 8]:
+                self.browser.run('select(eventAt(arguments[0], arguments[1]))', i, p)
+                past = sum(q <= ring.past(i, p)[j] for j, q in inside) - 1
+                assert self.look()['about']['past'] == f'{events(past)} of the picture', (i, p)
+
+    def said(self, names):
+        """What there is beside the picture of a ring: the legend, tooltips, clicks, print, what is pale, and how the page opens."""
+        ring, run = Ring(names), self.browser.run
+        self.draw(names)
+        self.browser.open(self.page)
+        good, event = ring.answer()[0] is None, lambda i, p: f'node {i} event {p}'
+        # the legend: each entry is drawn as what it stands for
+        legend = dict(run(LEGEND))
+        assert ring.n > 2 or 'message' in legend or 'not the same message' in legend or not good, legend
+        for name, (first, *more) in legend.items():
+            if name in ('event', 'draw'):
+                assert first['style'].endswith('fill:var(--ink)') and ('A' in first['d']) == (name == 'event'), (name, first)
+                continue
+            colour, thick, dash = (*LINES[name.split(',')[0]], 'none')[:3]
+            assert first['style'].endswith(f'stroke:var(--{colour});stroke-width:{thick};stroke-dasharray:{dash}'), (name, first)
+            tip = more and more[-1]['d']
+            found = tip and ('ring' if 'A' in tip else 'head' if 'z' in tip else 'cross')
+            assert (found or None) == TIPS.get(name), (name, more)
+        # print: the whole picture, and the view as it was
+        title, is_same, marks, pitch = run(PRINT)
+        assert title == (ring.answer()[0] or headline(ring)) and is_same, (title, is_same)
+        height = next(height for most, height in HEIGHTS if ring.n <= most)
+        place = lambda e, row: [64 + (ring.column[e] + 1) * pitch, 24 + row * height + 34]
+        wanted = [(ring.events[i][p - 1][0] == 'draw', place((i, p), row)) for i, p in ring.column
+                  for row in ([i] if i or ring.n == 2 else [0, ring.n])]
+        boxes = [(True, [float(x) + float(r) / 2, float(y) + float(r) / 2]) for x, y, r in
+                 re.findall(r'M(\S+) (\S+?)h(\S+?)v\3h-\3z', marks)]
+        circles = [(False, [float(x) - float(r), float(y)]) for x, y, r in
+                   re.findall(r'M(\S+) (\S+?)A(\S+) \3 0 1 1 \S+ \2A\3 \3 0 1 1 \1 \2', marks)]
+        holds_all(boxes + circles, wanted, 'marks in print', .11)
+        # tooltips, and what a click takes
+        run('wholeWidth(); view.y = 0; show(null, null)')
+        for i, p in ring.column:
+            tip = run('const e = eventAt(arguments[0], arguments[1]); canvas.onpointermove({pointerId: 9, offsetX: X(e.p), '
+                      'offsetY: Y(laneY[e.node])}); return canvas.title', i, p)
+            assert tip == f"{event(i, p)}: {' '.join(ring.events[i][p - 1])}\n{state(ring, i, p)}", tip
+        if not good:
+            return
+        places = {e: run('const e = eventAt(...arguments); return [X(e.p), Y(laneY[e.node]), Y(foot)]', *e) for e in ring.column}
+        lines = {(i, s): [*places[i, s][:2], places[j, g][0], places[j, g][1 + (j == 0 and ring.n > 2)]] for i in range(ring.n)
+                 for j in [(i + 1) % ring.n] for s, g in zip(ring.sent[i], ring.got[i])}
+        far = lambda x, y, x1, y1, x2, y2: abs((x2 - x1) * (y1 - y) - (x1 - x) * (y2 - y1)) / ((x2 - x1) ** 2 + (y2 - y1) ** 2) ** .5
+        taken = 0
+        for (i, s), (x1, y1, x2, y2) in lines.items():
+            x, y = (x1 + x2) / 2, (y1 + y2) / 2
+            if all(far(x, y, *other) > 6 for e, other in lines.items() if e != (i, s)):
+                assert run('return nameOf(near(...arguments))', x, y) == event(i, s)
+                taken += 1
+        assert taken or ring.n > 8, 'no arrow is clicked on'
+        # what comes after a moment is pale, and what is neither past nor future of an event
+        i, p = sorted(ring.column, key=lambda e: (ring.column[e], e))[len(ring.column) // 2]
+        cut = ring.past(i, p)
+        areas = run('setMoment(arguments[0]); ctx = new Context; readColours(); drawCut(); return ctx.areas', cut)
+        assert len(areas) == ring.n + (ring.n > 2) and all(area['alpha'] == .65 for area in areas), areas
+        for (j, q), (x, y, _) in places.items():
+            area = areas[j]
+            assert area['y'] < y < area['y'] + area['h'] and (area['x'] < x < area['x'] + area['w']) == (q > cut[j]), (j, q, area)
+        fills = run('select(eventAt(...arguments)); wholeWidth(); view.y = 0; ctx = new Context; readColours(); drawScene(); return ctx.fills', i, p)
+        pale = [[x, y] for fill in fills if fill['colour'] == '--ink' and fill['alpha'] == .15
+                for x, y in [[x, y] for x, y, _ in fill['circles']] + [[x + w / 2, y + h / 2] for x, y, w, h in fill['boxes']]]
+        apart = [(j, q) for j, q in ring.column if q > cut[j] and ring.past(j, q)[i] < p]
+        wanted = [[places[e][0], y] for e in apart for y in places[e][1:2 + (e[0] == 0 and ring.n > 2)]]
+        holds_all([(None, it) for it in pale], [(None, it) for it in wanted], 'pale')
+        # a round alone
+        turns = {e: 'term {} round {}'.format(*turn_of(ring, *e)) for e in ring.column}
+        for words in sorted({turn for turn in turns.values() if not turn.endswith(' 0')}):
+            shown = run("$('alone').value = arguments[0]; $('alone').onchange(); return order.filter(isShown).map(nameOf)", words)
+            wanted = [event(*e) for e, turn in turns.items() if turn == words]
+            assert sorted(shown) == sorted(wanted), (words, set(shown) ^ set(wanted))
+        for text, wanted in searches(ring, names) if ring.n == 2 else ():
+            assert sorted(run('return found(arguments[0]).map(nameOf)', text)) == sorted(wanted), text
         self.read += 1
 
     def messages(self, names):
-        """The way of each message: its sendings, round the ring, as far as what is received is what was sent and is passed on."""
+        """The way of each message: its sendings, round the ring, as far as what is received is what was sent and is passed on;
+        and what is said of it."""
         ring = Ring(names)
         self.draw(names)
         self.browser.open(self.page)
@@ -186,7 +341,15 @@ class Script(Check):
             if ring.events[i][p - 1][0] != 'send':
                 continue
             way = self.browser.run('return wayOf(eventAt(arguments[0], arguments[1])).map(e => [e.node, e.at])', i, p)
-            assert way == [list(e) for e in way_of(ring, i, p)], (i, p, way, way_of(ring, i, p))
+            wanted = way_of(ring, i, p)
+            assert way == [list(e) for e in wanted], (i, p, way, wanted)
+            said = self.browser.run("select(eventAt(...arguments)); showPanel(); return $('message').textContent", i, p)
+            record, (j, q) = lambda i, p: ' '.join(ring.events[i][p - 1]), wanted[-1]
+            links = sum(ring.events[j][q - 1][0] == 'send' for j, q in wanted)
+            end = ('nobody receives it so' if ring.events[j][q - 1][0] == 'send' else f'dropped by node {j}'
+                   if state(ring, j, q) == state(ring, j, q - 1) else f'it ends at node {j}: {state(ring, j, q)}')
+            steps = ''.join(f'node {j} event {q}: {record(j, q)}' for j, q in wanted)
+            assert said == f"message {record(j, q).split(' ', 1)[1]}{links} of {ring.n} links; {end}its way{steps}", (said, end)
         self.read += 1
 
 
@@ -239,20 +402,27 @@ def main():
             assert f'<script>\n{script}</script>' in text, 'the program has another script'
             digest = base64.b64encode(hashlib.sha256(f'\n{script}'.encode()).digest()).decode()
             assert f"script-src 'sha256-{digest}'" in text, f'frame.rt: the policy of a page allows its script by {digest}'
-            raised, drawn = (recorded(os.path.join(temp, name), records) for name, records in (('raised', RAISED), ('drawn', DRAWN_TOO_HIGH)))
+            raised, drawn, early = (recorded(os.path.join(temp, name), records) for name, records in (
+                ('raised', RAISED), ('drawn', DRAWN_TOO_HIGH), ('early', ('draw 2, send 1 2 1 clean, recv 1 1 1 clean',
+                                                                          'draw 1, send 1 1 1 clean'))))
+            check.messages(early)
             for name in ('two_node_election', 'tie_then_win', 'second_term', 'recorded_ring'):
                 check.events(EXAMPLES[name], 99)
                 check.messages(EXAMPLES[name])
-            for nodes, seed in ((2, 7), (8, 2), (64, 5)):
+            for nodes, seed, terms in ((2, 7, 1), (8, 2, 1), (64, 5, 1), (3, 5, 9)):
                 folder = os.path.join(temp, f'recorded{nodes}')
                 os.mkdir(folder)
-                subprocess.run([program, 'run', '--nodes', str(nodes), '--seed', str(seed), '--out', folder], check=True,
-                               stdout=subprocess.DEVNULL)
-                check.events(logs_in(folder), 20)
+                subprocess.run([program, 'run', '--nodes', str(nodes), '--seed', str(seed), '--terms', str(terms), '--out', folder],
+                               check=True, stdout=subprocess.DEVNULL)
+                if terms == 1:
+                    check.events(logs_in(folder), 20)
+                if nodes < 9:
+                    check.said(logs_in(folder))
                 for a, z in ((None, None), (5, 11), (3, 3), (12, 99)):
                     check.scene(logs_in(folder), a, z)
-            for names in (*EXAMPLES.values(), raised, drawn):
+            for names in (*EXAMPLES.values(), raised, drawn, early):
                 check.scene(names)
+                check.said(names)
             check.all_refused(raised, drawn)
             check.all_asked()
             print(f'{check.read} readings of pages in Node are what their logs say')

@@ -1,5 +1,5 @@
-"""Looks each sentence of the views up in what is expected of the program: each literal of their code, cut where a
-value stands in it, has to stand in an example, a page or a test. What no run can bring out is listed here.
+"""Looks each sentence of the views up in what is expected of the program: each literal of their code, whole, with some
+value wherever one stands in it, has to stand in an example, a page or a test. What no run can bring out is listed here.
 
     python3 checks/sentences.py
 """
@@ -13,6 +13,8 @@ from pictures import HERE
 LITERAL = re.compile(r'"((?:[^"\\]|\\.)*)"', re.S)
 # A literal shorter than this tells no sentence.
 LEAST = 9
+# There are more.
+FEWEST = 300
 # No command is given no file, and none prints a fault's own words.
 NEVER = {'No file is given.', 'the sink failed'}
 
@@ -37,16 +39,16 @@ def main():
             continue
         for literal in LITERAL.findall(re.sub(r"b?'(\\.|[^'\\])'", '', code)):
             literal = re.sub(r'\\\n\s*', '', literal).replace('\\"', '"').replace('\\n', '\n').replace('\\\\', '\\')
-            for said in re.split(r'\{\w*\}', literal):
-                if len(said.strip()) < LEAST or said in NEVER:
-                    continue
-                count += 1
-                if words(said) not in expected:
-                    missing.append(f'{os.path.relpath(name, top)}: {said!r}')
+            pieces = re.split(r'\{\w*\}', literal)
+            if max(len(said.strip()) for said in pieces) < LEAST or literal in NEVER:
+                continue
+            count += 1
+            if not re.search('.{1,60}?'.join(re.escape(words(said)) for said in pieces), expected):
+                missing.append(f'{os.path.relpath(name, top)}: {literal!r}')
     for line in missing:
         print(line)
-    print(f'{count} pieces of sentences, {len(missing)} of them in no expected output')
-    return bool(missing)
+    print(f'{count} sentences, {len(missing)} of them in no expected output')
+    return bool(missing) or count < FEWEST
 
 
 if __name__ == '__main__':

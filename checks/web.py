@@ -1,17 +1,19 @@
 """Opens bin/ira.html in a headless Chromium, driven over loopback by its driver, and holds what it answers against what
 the program prints and writes of the same files, byte for byte: each row of examples/README.md and all commands of each
 folder, in words and as JSON, hostile names and texts, logs of a large ring. Loads files as a user does, saves, writes
-questions, moves in the page to move in; looks at what is said of a browser without 64-bit memory and of a damaged page;
+questions, presses each control, moves in the page to move in; looks at what is said of a browser without 64-bit memory and of a damaged page;
 and that nothing is fetched.
 
     python3 checks/web.py PROGRAM [PAGE]   PAGE is bin/ira.html if not given; chromium and chromedriver are on the PATH
 """
 import base64
 import http.server
+import io
 import json
 import os
 import subprocess
 import sys
+import tarfile
 import tempfile
 import threading
 import time
@@ -22,6 +24,7 @@ from pictures import HERE, Ring
 EXAMPLES = os.path.realpath(os.path.join(HERE, '..', 'examples'))
 LOG, LOGS, EXPLAIN_LOG, EXPLAIN, EXPLAIN_QUESTION, EXPLAIN_CERT, SHOW, EVENTS, DRAW, DECIDE, CHECK, PAIRS, UPGRADE, \
     MEND, RUN, PAGE, AS_JSON, LEADERS, OVERVIEW = range(19)
+ANY = 2 ** 64 - 1
 WITH_JSON = {LOGS, EXPLAIN_LOG, EXPLAIN, EXPLAIN_QUESTION, EXPLAIN_CERT, SHOW, EVENTS, DECIDE, CHECK, LEADERS}
 ALL = (0, 2 ** 64 - 1)
 TOLD = '''
@@ -139,8 +142,8 @@ class Check:
             ask(command, [], *words)
             for cut in ([0] * len(logs), [1] * len(logs), [9] * len(logs)):
                 ask(command, [1, *cut], *words, '--at', ','.join(map(str, cut)))
-            for places in ([], [0], [len(logs)]):
-                ask(LEADERS, [len(places), *places, command], *words, '--leads', ','.join(map(str, places)) or 'any')
+            for leads, values in (('any', [ANY]), ('/dev/null', [0]), ('0', [1, 0]), (f'{len(logs)}', [1, len(logs)])):
+                ask(LEADERS, [*values, command], *words, '--leads', leads)
         self.draws(what, logs, names, [], ALL)
         self.draws(what, logs, names, ['--from', '2', '--to', '4'], (2, 4))
         self.draws(what, logs, names, ['--at', ','.join('1' * len(logs))], [*ALL, 1] + [1] * len(logs))
@@ -246,16 +249,21 @@ class Check:
         self.browser.run("[...document.querySelectorAll('#answers :is(button, a)')]"
                          ".find(it => it.textContent == arguments[0]).click()", text)
 
-    def saves(self, name, wanted):
-        """Saves a file, with these bytes."""
+    def save(self, name):
+        """The bytes of a file that is saved."""
         at = os.path.join(self.saved, name)
         self.click(name)
         for _ in range(100):
             if os.path.exists(at):
                 break
             time.sleep(.1)
-        assert text_of(at) == wanted, name
+        text = text_of(at)
         os.remove(at)
+        return text
+
+    def saves(self, name, wanted):
+        """Saves a file, with these bytes."""
+        assert self.save(name) == wanted, name
 
     def frame(self, which):
         """Goes into a frame of the page, or back."""
@@ -311,21 +319,13 @@ class Check:
         answer, fault, pieces = self.told()
         as_json = [line for _, line, _ in pieces if '--json' in line]
         assert (answer, fault, len(as_json)) == ('yes', '', 4), (answer, fault, as_json)
-        for title, line, text in pieces:
-            if 'draw' not in line:
-                _, (out, _, *_) = self.run(line.split()[2:], logs)
-                assert text == out.decode().rstrip('\n'), (title, line, text, out)
+        self.answers_are(logs, '$ ira explain 0.log 1.log')
         self.saves('show_events.jsonl', self.run(['show', '--events', '--json', '0.log', '1.log'], logs)[1][0])
         self.moved(logs, folder)
         for dropped, wanted in ((['lost_record'], 'no: link 1: receipt 2 has no sending'),
                                 (['lost_record/1.log'], 'yes, by itself'),
                                 (['circle_of_two/1.log', 'circle_of_two/0.log'], 'no: circle')):
-            files = [os.path.join(EXAMPLES, name) for name in dropped]
-            for kind in ('dragEnter', 'dragOver', 'drop'):
-                browser.devtools('Input.dispatchDragEvent', type=kind, x=150, y=200,
-                                 data={'items': [], 'files': files, 'dragOperationsMask': 1})
-            self.wait(f"return $('answer').textContent == {wanted!r}")
-            self.ready()
+            self.drop([os.path.join(EXAMPLES, name) for name in dropped], wanted)
         for example, wanted in (('killed_ring', 'no: log 1: cut'), ('circle_of_two', 'no: circle'),
                                 ('one_bad_log', 'no: node 0: event 1: draw range, by itself'),
                                 ('receipts_exchanged', 'no: link 1: receipt 1 differs')):
@@ -376,8 +376,144 @@ class Check:
         browser.run("$('mend').click()")
         self.wait("return !!document.querySelector('a[download=\"1.log\"]')")
         self.click('Go on with these')
-        self.wait("return $('answer').textContent == 'yes'")
+        self.wait("return $('answer').textContent == 'yes, not over'")
         self.ready()
+        assert not (faults := browser.faults()), faults
+
+    def drop(self, files, wanted):
+        """Drops files and folders, of which the headline says this."""
+        for kind in ('dragEnter', 'dragOver', 'drop'):
+            self.browser.devtools('Input.dispatchDragEvent', type=kind, x=150, y=200,
+                                  data={'items': [], 'files': files, 'dragOperationsMask': 1})
+        self.wait(f"return $('answer').textContent == {wanted!r}")
+        self.ready()
+
+    def led(self):
+        """Folders with a file of leaders: of one whose election isn't over, or where others lead, the headline says so."""
+        browser, elected = self.browser, os.path.join(EXAMPLES, 'two_node_election')
+        for name, leaders, wanted, field, kind in (('good', '0\n', 'yes', '0', 'yes'),
+                                                   ('two', '0\n1\n', 'yes, other leaders', '0,1', 'unmet'),
+                                                   ('nobody', '', 'yes, other leaders', 'none', 'unmet'),
+                                                   ('far', '2\n', 'yes, other leaders', '2', 'unmet'),
+                                                   ('hung', '', 'yes, not over', 'none', 'unmet'),
+                                                   ('both', '1\n', 'yes, not over', '1', 'unmet')):
+            folder = os.path.join(self.temp, 'led', name)
+            os.makedirs(folder)
+            texts = {f'{i}.log': text_of(os.path.join(elected, f'{i}.log')).decode() for i in range(2)}
+            if name in ('hung', 'both'):
+                texts = {at: text.replace(line, '').replace('end 4', 'end 3') for (at, text), line in
+                         zip(sorted(texts.items()), ('recv 1 2 2 clean\n', 'send 1 2 2 clean\n'))}
+            for at, text in [*texts.items(), ('leaders', leaders)]:
+                with open(os.path.join(folder, at), 'w') as file:
+                    file.write(text)
+            self.open()
+            self.ready()
+            self.drop([folder], wanted)
+            seen = browser.run("return [$('leads').value, $('answer').className, logs.length, $('judged').textContent]")
+            assert seen == [field, kind, 2, f'$ ira logs --dir {name}'], (name, seen)
+        self.drop([elected], 'yes')
+        assert browser.run("return $('leads').value + $('fault').textContent") == ''
+        self.drop([os.path.join(folder, at) for at in ('0.log', '1.log', 'leaders')], 'yes, not over')
+        assert browser.run("return $('leads').value") == '1'
+
+    def names(self):
+        return self.browser.run("return [...$('logs').querySelectorAll('li span')].map(it => it.textContent)")
+
+    def press(self, i, title):
+        """Presses a button of a log in the list."""
+        self.browser.run("[...$('logs').children[arguments[0]].querySelectorAll('button')]"
+                         ".find(it => it.title == arguments[1]).click()", i, title)
+        self.ready()
+
+    def taken(self, *files):
+        """Takes files as they are dropped."""
+        texts = [(name, base64.b64encode(text).decode()) for name, text in files]
+        self.browser.run('const bytes = text => Uint8Array.from(atob(text), c => c.charCodeAt(0)); '
+                         'take(arguments[0].map(([name, text]) => ({name, text: bytes(text)})), false)', texts)
+        self.ready()
+
+    def answers_are(self, files, *wanted):
+        """All that is told is what the program prints of these files by the lines that stand there, and these are among them."""
+        self.ready()
+        lines = []
+        for title, line, text in self.told()[2]:
+            if line and 'draw' not in line:
+                _, (out, _, *_) = self.run(line.split()[2:], files)
+                assert text == out.decode().rstrip('\n'), (title, line, text, out)
+                lines.append(line)
+        assert set(wanted) <= set(lines), (wanted, lines)
+
+    def written(self, line, files):
+        """What was made by a command is what the program makes: its line, all logs in an archive, and one alone. Goes on with
+        these."""
+        self.shows(f'$ ira {line}')
+        words = line.split()
+        words[words.index('--out') + 1] = 'out'
+        _, (_, _, *wanted) = self.run(words, files)
+        assert wanted, line
+        with tarfile.open(fileobj=io.BytesIO(self.save('logs.tar'))) as archive:
+            found = [(it.name, archive.extractfile(it).read()) for it in archive]
+        assert found == [(f'{i}.log', text) for i, text in enumerate(wanted)], line
+        self.saves(f'{len(wanted) - 1}.log', wanted[-1])
+        self.click('Go on with these')
+        self.wait(f"return logs.length == {len(wanted)}")
+        names = [f'{i}.log' for i in range(len(wanted))]
+        assert self.names() == names
+        self.answers_are(list(zip(names, wanted)), '$ ira explain ' + ' '.join(names))
+
+    def pressed(self):
+        """What each control does to what is given, and to what is asked of it."""
+        browser, at = self.browser, lambda *names: text_of(os.path.join(EXAMPLES, *names))
+        ring = [(f'{i}.log', at('recorded_ring', f'{i}.log')) for i in range(4)]
+        pair = [(f'{i}.log', at('two_node_election', f'{i}.log')) for i in range(2)]
+        ask, cert = at('two_node_election', 'two_leaders.ask'), at('two_node_election', 'two_leaders.cert')
+        self.open()
+        self.ready()
+        self.taken(*ring)
+        self.press(2, 'one place earlier')
+        assert self.names() == ['0.log', '2.log', '1.log', '3.log']
+        self.answers_are(ring, '$ ira explain 0.log 2.log 1.log 3.log')
+        self.press(2, 'leave out')
+        assert self.names() == ['0.log', '2.log', '3.log']
+        self.answers_are(ring, '$ ira explain 0.log 2.log 3.log')
+        self.taken(*(('b/' + name, text) for name, text in ring), *(('a/' + name, text) for name, text in pair))
+        for i, folder, count in ((1, 'b', 4), (0, 'a', 2)):
+            browser.run("$('ring').selectedIndex = arguments[0]; $('ring').onchange()", i)
+            self.ready()
+            assert self.names() == [f'{folder}/{k}.log' for k in range(count)]
+        of, names = '--question pasted.ask', '0.log 1.log'
+        browser.run("$('pasted').value = arguments[0]; $('paste').click()",
+                    b''.join([pair[0][1], cert, pair[1][1], ask]).decode())
+        files = [('pasted.ask', ask), ('pasted.cert', cert), *pair]
+        self.answers_are(files, f'$ ira check {of} --cert pasted.cert {names}', f'$ ira explain {of} {names}')
+        browser.run("$('uncertified').click()")
+        self.ready()
+        assert browser.run("return $('certified').hidden")
+        for certs, wanted in ((['b.cert'], None), (['b.cert', 'q.cert'], 'q.cert')):
+            self.taken(*pair, ('q.ask', ask), *((name, cert) for name in certs))
+            assert browser.run("return $('certified').hidden ? null : $('cert').textContent") == wanted
+        self.taken(*pair)
+        for shown in ({'from': '2', 'to': '3'}, {'from': '', 'to': '2'}, {'from': '3', 'to': ''}, {'from': '', 'to': ''}):
+            for control, value in shown.items():
+                self.set(control, value)
+            self.ready()
+            words = [word for control, value in shown.items() if value for word in (f'--{control}', value)]
+            words = ['draw', *words, '--out', 'ring.svg', '0.log', '1.log']
+            assert '$ ira ' + ' '.join(words) in [line for _, line, _ in self.told()[2]]
+            self.saves('ring.svg', self.run(words, pair, 'ring.svg')[1][2])
+        lost = [pair[0], ('1.log', b'')]
+        for start in ('passive', 'initiator'):
+            self.taken(*lost)
+            browser.run("$('start').value = arguments[0]; $('mend').click()", start)
+            self.written(f'mend --start {start} --out mended 0.log 1.log', lost)
+        self.taken(*ring)
+        browser.run("$('upgrade').click()")
+        self.written('upgrade --out upgraded 0.log 1.log 2.log 3.log', ring)
+        for given, words in (({'nodes': 12, 'initiators': 5, 'seed': 3, 'terms': 2}, '12 --initiators 5 --seed 3 --terms 2'),
+                             ({'nodes': 3, 'initiators': '', 'seed': 7, 'terms': 1}, '3 --initiators 3 --seed 7 --terms 1')):
+            browser.run("for (const [name, value] of Object.entries(arguments[0])) $('record').elements[name].value = value; "
+                        "$('record').requestSubmit()", given)
+            self.written(f'run --alone --nodes {words} --out ring', [])
         assert not (faults := browser.faults()), faults
 
     def large(self):
@@ -461,6 +597,8 @@ def main():
             check.hostile()
             check.large()
             check.used()
+            check.led()
+            check.pressed()
             print(f'{check.answers} answers of the page are those of the program')
     finally:
         browser.close()

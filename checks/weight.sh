@@ -1,8 +1,9 @@
 #!/bin/sh
-# What the repository weighs: lines of each layer in src, specs and proofs, of tests and of scripts, and words of pages. None is
-# more than the budget in CONTRIBUTING.md says. A change that needs more raises it there, and says why in its commit.
+# What the repository weighs, tests left out: lines of src; lines of src, specs and proofs; words of pages, without CHANGELOG.
+# In the table of CONTRIBUTING.md each `at most` is what is there and what is set aside by name. No commit raises it above
+# that of the release, or of a commit before, as far as there is a history.
 #
-#     sh checks/weight.sh [--write]      --write puts today's weights there
+#     sh checks/weight.sh [--write]      --write puts what is there into the table, and lowers `at most` to it
 
 cd "$(dirname "$0")/.." || exit 2
 LC_ALL=C
@@ -11,55 +12,47 @@ export LC_ALL
 lines() {
     find "$@" -type f 2> /dev/null | xargs cat | wc -l
 }
+code=$(ls -d crates/* | grep -v '^crates/test_')
+src=$(lines $(printf '%s/src ' $code))
+pages=$(cat README.md CONTRIBUTING.md docs/*.md examples/*.md crates/*/README.md library/README.md release/README.md | wc -w)
+there="$src $(lines $(printf '%s/src ' $code) $(printf '%s/specs ' $code) $(printf '%s/proofs ' $code)) $pages"
 
-# A row of the table: a layer's name, and the lines of its crates.
-layer() {
-    name=$1
-    shift
-    src='' specs='' proofs=''
-    for it in "$@"; do
-        src="$src $it/src" specs="$specs $it/specs" proofs="$proofs $it/proofs"
-    done
-    echo "| $name | $(lines $src) | $(lines $specs) | $(lines $proofs) |"
+# The three numbers of the table's rows with a name, added up.
+rows() {
+    sed -n "s/^| $1[^|]*|\([ 0-9|]*\)|$/\1/p" | tr '|' ' ' | awk '{ for (i = 1; i <= 3; i++) sum[i] += $i } END { print sum[1] + 0, sum[2] + 0, sum[3] + 0 }'
 }
+aside=$(rows 'Set aside' < CONTRIBUTING.md)
+wanted=$(echo "$there $aside" | awk '{ print $1 + $4, $2 + $5, $3 + $6 }')
 
-table() {
-    echo '| Lines of | src | specs | proofs |'
-    echo '|---|---|---|---|'
-    cd crates || exit 2
-    layer 'logs, questions and certificates' ira_event ira_node ira_replay ira_order ira_pred ira_cand ira_ask ira_cert* ira_elim ira_par ira_links
-    layer 'laws of the algorithm' ira_safety ira_election
-    layer audits ira_audit ira_mend
-    layer runs ira_ring*
-    layer views ira_view*
-    layer 'commands, program and module' ira_commands ira_main* ira_web ira_lent ira
-    layer tests test_*
-    cd ..
-    echo
-    echo "Checks and scripts have $(lines checks build .ci Makefile) lines, pages $(cat README.md CONTRIBUTING.md CHANGELOG.md docs/*.md \
-        examples/*.md crates/*/README.md library/README.md release/README.md | wc -w) words."
-}
-
-made=$(mktemp) || exit 2
-trap 'rm -f "$made"' EXIT
-table > "$made"
 if [ "$1" = --write ]; then
-    awk -v made="$made" '
-        /^\| Lines of \|/ { while ((getline line < made) > 0) print line; skipping = 1 }
-        !skipping { print }
-        skipping && /^Checks and scripts have/ { skipping = 0 }' CONTRIBUTING.md > "$made.page" && cat "$made.page" > CONTRIBUTING.md
-    rm -f "$made.page"
+    row() {
+        sed -i "s/^| $1 |[ 0-9|]*$/| $1 | $2 | $3 | $4 |/" CONTRIBUTING.md
+    }
+    row There $there
+    row 'At most' $(echo "$(rows 'At most' < CONTRIBUTING.md) $wanted" | awk '{ for (i = 1; i <= 3; i++) print $i < $(i + 3) ? $i : $(i + 3) }')
 fi
 
-# The numbers of both tables, in their order.
-sed -n '/^| Lines of |/,/^Checks and scripts have/p' CONTRIBUTING.md | awk -v made="$made" '
-    function numbers(line) { gsub(/[^0-9]+/, " ", line); sub(/^ /, "", line); return line }
+most=$(rows 'At most' < CONTRIBUTING.md)
+said=$(rows There < CONTRIBUTING.md)
+# The least that was the most, of the release and of each commit whose page has the table.
+least=$({
+    sed -n 's/^weight: //p' release/TREE
+    git log --first-parent --format=%h -- CONTRIBUTING.md 2> /dev/null | while read -r commit; do
+        git show "$commit:CONTRIBUTING.md" | grep -q '^| At most |' || break
+        git show "$commit:CONTRIBUTING.md" | rows 'At most'
+    done
+} | awk '{ for (i = 1; i <= 3; i++) if (NR == 1 || $i < least[i]) least[i] = $i } END { if (NR) print least[1], least[2], least[3]; else print "none" }')
+
+echo "weight: $there; set aside $aside; at most $most (lines of src; of src, specs and proofs; words of pages)"
+echo "$there;$said;$wanted;$most;$least" | awk -F ';' '
+    function tell(what) { print "weight: " what; bad = 1 }
     {
-        if ((getline now < made) <= 0) exit
-        had = split(numbers($0), most, " "); has = split(numbers(now), is, " ")
-        over = had != has
-        for (i = 1; i <= has; i++) if (is[i] > most[i] + 0) over = 1
-        print (over ? "weight: over the budget: " : "weight: ") now
-        bad += over; seen++
-    }
-    END { if (seen < 10) { print "weight: no budget in CONTRIBUTING.md"; bad++ }; exit bad > 0 }'
+        if ($1 != $2) tell("the table says that " $2 " are there: sh checks/weight.sh --write")
+        split($3, wanted, " "); split($4, most, " "); split($5, least, " ")
+        for (i = 1; i <= 3; i++) {
+            if (wanted[i] > most[i]) tell(wanted[i] - most[i] " too many: what is added is taken away elsewhere, or was set aside for it")
+            if (wanted[i] < most[i]) tell(most[i] - wanted[i] " fewer than at most: set them aside by name, or lower it: sh checks/weight.sh --write")
+            if ($5 != "none" && most[i] > least[i]) tell("at most " most[i] ", and it was " least[i] " before")
+        }
+        exit bad
+    }'

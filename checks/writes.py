@@ -111,6 +111,37 @@ def as_named(ira):
         return f"left over: {left}" if left else None
 
 
+def of_others(ira):
+    """Files of another user, one that nobody may write, and a folder that is full of what killed runs left."""
+    with tempfile.TemporaryDirectory() as room:
+        laid(room)
+        words, picture = ["draw", "--out", "d/p.svg", "0.log", "1.log"], f"{room}/d/p.svg"
+        for number in range(1100):
+            open(f"{room}/d/.ira-{number}", "w").close()
+        if run := ran(ira, words, room).returncode:
+            return f"a folder with 1,100 drafts: status {run}"
+        if len(drafts(os.listdir(f"{room}/d"))) != 1100:
+            return "drafts that killed runs left are written over"
+        if os.getuid():
+            print("skipped: files of other users (not root)")
+            return None
+        os.chown(picture, 65534, 65534)
+        ran(ira, words, room)
+        if (os.stat(picture).st_uid, os.stat(picture).st_gid) != (65534, 65534):
+            return "the owner of a file that root writes over"
+        os.chmod(picture, 0o444)
+        for folder in room, f"{room}/d":
+            os.chmod(folder, 0o777)
+        with open(picture, "rb") as file:
+            old = file.read()
+        copied = shutil.copy(ira, f"{room}/ira")
+        os.chmod(copied, 0o755)
+        run = ran(copied, words, room, lambda: os.setuid(65534))
+        with open(picture, "rb") as file:
+            if run.returncode != 2 or file.read() != old:
+                return f"a file that may not be written: status {run.returncode}, {run.stderr!r}"
+
+
 def streams(ira):
     """A reader that went away, and a terminal."""
     with tempfile.TemporaryDirectory() as room:
@@ -159,7 +190,7 @@ def main(ira):
             runs += 1
             if why:
                 wrong.append(f"{' '.join(words)}, disk full: {why}")
-    for of_one in as_named, streams:
+    for of_one in as_named, of_others, streams:
         runs += 1
         if why := of_one(ira):
             wrong.append(why)

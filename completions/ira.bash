@@ -7,7 +7,7 @@ _ira_commands='logs explain show draw check decide pairs ask run upgrade mend gu
 _ira_options() {
     case $1 in
         logs) echo --each --over --leads --json --dir --help ;;
-        explain) echo --each --leads --question --case --cert --json --dir --help ;;
+        explain) echo --each --over --leads --question --case --cert --json --dir --help ;;
         show) echo --leads --at --question --case --events --json --dir --help ;;
         draw) echo --out --at --question --case --from --to --dir --help ;;
         check) echo --question --cert --depth --json --dir --help ;;

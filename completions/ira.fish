@@ -19,7 +19,7 @@ complete -c ira -f -n __fish_use_subcommand -l version -s V -d 'Prints which ver
 complete -c ira -f -n __fish_use_subcommand -l help -d 'Print the help of a command'
 
 complete -c ira -n '__fish_seen_subcommand_from logs explain' -l each -d 'The names are those of folders, each with the logs of a ring, and each is judged'
-complete -c ira -n '__fish_seen_subcommand_from logs' -l over -d 'Ask too whether the election is over: if not, lines say so, and the status is 1'
+complete -c ira -n '__fish_seen_subcommand_from logs explain' -l over -d 'Ask too whether the election is over: if not, lines say so, and the status is 1'
 complete -c ira -n '__fish_seen_subcommand_from logs explain show' -l leads -x -a 'any' -d 'Who is to lead at the end: places, as 1,2, and no other; any: some node; or a file with a place a line'
 complete -c ira -n '__fish_seen_subcommand_from logs explain show check decide' -l json -d 'Print the answer as JSON, an object a line'
 complete -c ira -n '__fish_seen_subcommand_from logs explain show draw check decide ask upgrade mend' -l dir -x -a '(__fish_complete_directories)' -d 'The folder with the logs 0.log, 1.log and so on, as many as the first says'

@@ -41,10 +41,13 @@ enum ira_request {
                            * the seed, how many draws a node is given, the most records of a log, how many terms */
     IRA_PAGE,             /* as IRA_DRAW, a page to move in the picture */
     IRA_JSON,             /* before IRA_LOGS to IRA_EVENTS, IRA_DECIDE and IRA_CHECK: JSON in place of other lines */
-    IRA_LEADERS,          /* before IRA_SHOW and IRA_EVENTS: how many nodes are to lead, and their places; any, with 0 */
+    IRA_LEADERS,          /* before IRA_SHOW and IRA_EVENTS: how many nodes are to lead, and their places; or IRA_ANY */
     IRA_OVERVIEW          /* several of these, with a reply each, as crates/ira_web says: 0, 1 with a question, 2 with a
                            * certificate too; the first and the last column, and a moment; these files, logs */
 };
+
+/* In place of how many nodes are to lead, and their places: any node. */
+#define IRA_ANY UINT64_MAX
 
 /* What comes of a request: a status of the program, or why there is none. */
 enum ira_result {

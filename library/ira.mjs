@@ -1,26 +1,34 @@
 // The auditor of Itai-Rodeh leader elections, called in process: what `ira` answers, without a process for each answer.
 //
 //     import * as ira from './ira.mjs';
+//     ira.assertElection('runs/1', {leaders: [2]});        // the folder with 0.log, 1.log and so on
 //     const {status, values} = ira.logs([first, second]);  // the texts of the logs, in the order of the ring's places
 //
 // It needs the module: ira.wasm, or the page that has it, ira.html, beside it, above it, in release/, or where
 // IRA_MODULE says; and a Node with 64-bit memory for WebAssembly, as Node 20 has it with --experimental-wasm-memory64.
-// A text is a Buffer, a Uint8Array or a string.
-import {existsSync, readFileSync} from 'node:fs';
+// A text is a Buffer, a Uint8Array or a string. `node ira.mjs COMMAND ..` is the command line (cli.mjs).
+import {AssertionError} from 'node:assert';
+import {existsSync, readFileSync, realpathSync} from 'node:fs';
+import {fileURLToPath} from 'node:url';
 
 const beside = ['ira.wasm', 'ira.html', '../ira.html', '../release/ira.html']
   .map(name => new URL(name, import.meta.url));
-const given = readFileSync(process.env.IRA_MODULE ?? beside.find(existsSync) ?? beside[0]);
-const [, inPage] = given[0] ? /id="?module"?[^>]*>([^<]*)/.exec(given.toString('latin1')) : [];
-const compiled = new WebAssembly.Module(inPage ? Buffer.from(inPage, 'base64') : given);
+let compiled;
+function moduleOfPage() {
+  const at = process.env.IRA_MODULE ?? beside.find(existsSync);
+  if (!at) throw new Error(`no ira.wasm or ira.html beside ${fileURLToPath(import.meta.url)}: IRA_MODULE says where`);
+  const given = readFileSync(at);
+  const [, inPage] = given[0] ? /id="?module"?[^>]*>([^<]*)/.exec(given.toString('latin1')) : [];
+  return new WebAssembly.Module(inPage ? Buffer.from(inPage, 'base64') : given);
+}
 
 // The numbers of ira.h.
 export const [LOG, LOGS, EXPLAIN_LOG, EXPLAIN, EXPLAIN_QUESTION, EXPLAIN_CERT, SHOW, EVENTS, DRAW, DECIDE, CHECK, PAIRS,
   UPGRADE, MEND, RUN, PAGE, JSON_LINES, LEADERS, OVERVIEW] = Array(19).keys();
 export const [YES, NO, REFUSED, OUT_OF_MEMORY, NO_REQUEST, NO_ROOM] = Array(6).keys();
 
-export const ALL = [0n, 2n ** 64n - 1n];
-const PAGE_SIZE = 65536, FIRST = 2 ** 26, MOST = 2 ** 32, VALUES = 262, PARTS = 258;
+export const ANY = 2n ** 64n - 1n, ALL = [0n, 2n ** 64n - 1n];
+const PAGE_SIZE = 65536, FIRST = 2 ** 26, MOST = 2 ** 32, VALUES = 520, PARTS = 258;
 const encoder = new TextEncoder, decoder = new TextDecoder;
 
 // What the program refuses with status 2: the line that it says, and the reply with what it prints all the same.
@@ -35,6 +43,7 @@ export class Refused extends Error {
 let room;
 function roomOf(size, total) {
   if (room?.size >= size && room.total >= total) return room;
+  compiled ??= moduleOfPage();
   const {memory, ira_serve: serve} = new WebAssembly.Instance(compiled, {}).exports;
   let end = memory.buffer.byteLength;
   const take = length => {
@@ -88,12 +97,12 @@ export function serve(values, files = []) {
 }
 
 // What comes of a request: the status, as the program's; what it prints; the first line of that and those after it,
-// where they are JSON; and the files that it writes.
+// where they are JSON; the files that it writes; and of `log`, `explain` and `audit` the page that a person reads.
 function asked(values, files = []) {
   const {status, parts: [out, err, ...written]} = serve(values, files);
   const text = decoder.decode(out);
   const lines = values[0] == JSON_LINES ? text.split('\n').filter(Boolean).map(line => JSON.parse(line)) : [];
-  const reply = {status, text, values: lines[0] ?? null, more: lines.slice(1), files: written};
+  const reply = {status, text, values: lines[0] ?? null, more: lines.slice(1), files: written, page: ''};
   if (status == REFUSED) throw new Refused(decoder.decode(err).trimEnd(), reply);
   return reply;
 }
@@ -101,20 +110,76 @@ function asked(values, files = []) {
 const ring = (texts, names) => texts.map((text, place) => [names?.[place] ?? `${place}.log`, text]);
 const named = (kind, text) => [[`question.${kind}`, text]];
 
+// The reply with the page of the same request without JSON, and lines after its first one.
+function paged(reply, values, files, said = '') {
+  const page = decoder.decode(serve(values, files).parts[0]);
+  return {...reply, page: page.replace('\n', () => `\n${said}`)};
+}
+
 // Why the text of one log alone is as it is.
-export const log = (text, {name = '0.log'} = {}) => asked([JSON_LINES, EXPLAIN_LOG], [[name, text]]);
+export const log = (text, {name = '0.log'} = {}) =>
+  paged(asked([JSON_LINES, EXPLAIN_LOG], [[name, text]]), [EXPLAIN_LOG], [[name, text]]);
 
-// The answer for the logs of a ring, in the order of its places.
-export const logs = (texts, {names} = {}) => asked([JSON_LINES, LOGS], ring(texts, names));
+// The values that ask who leads.
+export const led = leads => leads == null ? [] : leads == 'any' ? [LEADERS, ANY] : [LEADERS, leads.length, ...leads];
 
-// The answer for the logs of a ring, and why it is so; with a question what is found for its cases, and why, of the
-// case of a number or of the first ones; with a certificate too, the answer for all three, and why.
-export function explain(texts, {question, certificate, case: number, names} = {}) {
-  if (question === undefined) return asked([JSON_LINES, EXPLAIN], ring(texts, names));
-  const files = [...named('ask', question), ...certificate === undefined ? [] : named('cert', certificate),
-    ...ring(texts, names)];
-  return asked(certificate === undefined ? [JSON_LINES, EXPLAIN_QUESTION, ...number === undefined ? [] : [number]]
-    : [JSON_LINES, EXPLAIN_CERT], files);
+// The answer for the logs of a ring, in the order of its places. With `over` or `leads` the status is NO after a yes
+// too, where the election isn't over when the logs end, or others lead than are to, as `show` says.
+export function logs(texts, {names, over = false, leads} = {}) {
+  if (!over && leads == null) return asked([JSON_LINES, LOGS], ring(texts, names));
+  const {status: found, values} = asked([JSON_LINES, ...led(leads), SHOW], ring(texts, names));
+  const status = over && values.over === false ? NO : found;
+  values.status = status;
+  return {status, text: `${JSON.stringify(values)}\n`, values, more: [], files: [], page: ''};
+}
+
+// The answer for the logs of a ring, and why it is so, with `over` and `leads` as for `logs`; with a question what is
+// found for its cases, and why, of the case of a number or of the first ones; with a certificate too, the answer for
+// all three, and why.
+export function explain(texts, {question, certificate, case: number, names, over = false, leads} = {}) {
+  const files = [...question === undefined ? [] : named('ask', question),
+    ...certificate === undefined ? [] : named('cert', certificate), ...ring(texts, names)];
+  const values = certificate !== undefined ? [EXPLAIN_CERT] : question === undefined ? [EXPLAIN]
+    : [EXPLAIN_QUESTION, ...number === undefined ? [] : [number]];
+  const isExpected = question === undefined && (over || leads != null);
+  const reply = isExpected && logs(texts, {names, over, leads});
+  if (reply?.values?.answer != 'yes') return paged(asked([JSON_LINES, ...values], files), values, files);
+  const [, ...lines] = decoder.decode(serve([...led(leads), SHOW], files).parts[0]).split('\n\n')[0].split('\n');
+  return paged(reply, values, files, lines.map(line => `${line}\n`).join(''));
+}
+
+// How many nodes the ring of a log has, none where its head isn't whole.
+export function nodesOf(text) {
+  const lines = /^(?:[^\n]*\n){4}/.exec(Buffer.from(text).toString('latin1'));
+  const head = lines && `${lines[0]}end 0\n`;
+  return head && serve([LOG], [['0.log', Buffer.from(head, 'latin1')]]).status == YES ? +head.split(/[ \n]/)[3] : null;
+}
+
+const inFolder = (folder, name) => `${folder}${folder.endsWith('/') ? '' : '/'}${name}`;
+
+// The texts and the names of the logs in a folder: 0.log, 1.log and so on, as many as the first one's head says.
+export function readLogs(folder) {
+  const names = [inFolder(folder, '0.log')], texts = [readFileSync(names[0])];
+  for (let nodes = nodesOf(texts[0]); texts.length < nodes; texts.push(readFileSync(names.at(-1)))) {
+    names.push(inFolder(folder, `${texts.length}.log`));
+  }
+  return {texts, names};
+}
+
+// What `explain` says of the logs in a folder. `leads` may be the name of a file in it too, with a place a line.
+export function audit(folder, {over = false, leads} = {}) {
+  const {texts, names} = readLogs(folder);
+  if (typeof leads == 'string' && leads != 'any') {
+    leads = readFileSync(inFolder(folder, leads), 'latin1').split('\n').slice(0, -1).map(Number);
+  }
+  return explain(texts, {names, over, leads});
+}
+
+// Throws, with the page that says why, unless the logs in a folder are a yes, their election is over, and those lead
+// who are to: places, 'any', or the name of a file in the folder.
+export function assertElection(folder, {leaders, over = true} = {}) {
+  const {status, page} = audit(folder, {over, leads: leaders});
+  if (status != YES) throw new AssertionError({message: `${folder}: ${page}`});
 }
 
 // The values and the files of a moment: where the logs end; when each node has made so many events; or the first that
@@ -125,10 +190,11 @@ function moment({at, question, case: number}) {
 }
 
 // A ring at a moment, with an order of all events where these are wanted. With places in `leads` the status says whether
-// these nodes lead when the logs end, and no other; with none, whether any does.
+// these nodes lead when the logs end, and no other, so of an empty array whether nobody does; with 'any', whether some
+// node does.
 export function show(texts, {events = false, leads, names, ...when} = {}) {
-  const [values, files] = moment(when), led = leads ? [LEADERS, leads.length, ...leads] : [];
-  return asked([JSON_LINES, ...led, events ? EVENTS : SHOW, ...values], [...files, ...ring(texts, names)]);
+  const [values, files] = moment(when);
+  return asked([JSON_LINES, ...led(leads), events ? EVENTS : SHOW, ...values], [...files, ...ring(texts, names)]);
 }
 
 // The answer's line, and a picture as the only file, or a page to move in it; without one where none is drawn.
@@ -148,13 +214,64 @@ export const check = (texts, question, certificate, {names} = {}) =>
 // The question whether two nodes of a ring of so many ever lead at once.
 export const pairs = nodes => asked([PAIRS, nodes]).text;
 
+const words = ['any ', 'other ', 'each other ', 'all '], guide = '; see `ira guide questions`';
+const due = ['a sentence begins with `any CLAUSE` or `all CLAUSE`',
+  'after `any CLAUSE` may stand `, other CLAUSE`, `, each other CLAUSE` or `, all CLAUSE`',
+  'after `other CLAUSE` may stand `, each other CLAUSE` or `, all CLAUSE`',
+  'after `each other CLAUSE` may stand `, all CLAUSE`', 'after `all CLAUSE` nothing may stand'];
+const noEvents = [0, 1].map(place => `irlog 1\nnodes 2\nplace ${place}\nstart passive\nend 0\n`);
+const isClause = text => !text.includes('\n') &&
+  !decide(noEvents, `irask 1\nnodes 2\ncase\n0: ${text}\nend\n`).values.answer.startsWith('no');
+
+// The question whether a sentence on the nodes of a ring of so many ever holds.
+export function ask(nodes, sentence) {
+  const refuse = line => {
+    throw new Refused(`ira: ${line}`, {status: REFUSED, text: '', values: null, more: [], files: [], page: ''});
+  };
+  if (!(nodes >= 2 && nodes <= 255)) refuse('ring size');
+  if (encoder.encode(sentence).length > 65536) refuse('a sentence has at most 65,536 bytes');
+  const clauses = Array(4);
+  let left = sentence, last = 0;
+  words.forEach((word, part) => {
+    if (!left?.startsWith(word) || (part == 1 || part == 2) && clauses[0] === undefined) return;
+    const comma = `${left},`.indexOf(','), rest = left.slice(comma);
+    clauses[part] = left.slice(word.length, comma);
+    if (rest && !rest.startsWith(', ') || !isClause(clauses[part])) {
+      refuse(`after \`${word}\` a clause is due, as \`leader\` or \`(active and round > 1)\`${guide}`);
+    }
+    left = rest ? rest.slice(2) : undefined;
+    last = part + 1;
+  });
+  if (left !== undefined) refuse(due[last] + guide);
+  const [first, second, , every] = clauses;
+  const asked = [...clauses.slice(0, 3)].map(clause => clause && every ? `(${clause} and ${every})` : clause ?? every);
+  if (!asked.every(clause => clause === undefined || isClause(clause))) {
+    refuse('with that of all nodes a clause is nested deeper than 32');
+  }
+  const places = [...Array(nodes).keys()];
+  const picks = first === undefined ? [[]] : second === undefined ? places.map(i => [i])
+    : places.flatMap(i => places.filter(j => i < j || i != j && first != second).map(j => [i, j]));
+  if (picks.length > 32385) refuse('a question has at most 32,385 cases');
+  let text = `irask 1\nnodes ${nodes}\n`;
+  for (const picked of picks) {
+    const clauseAt = place => asked[picked.includes(place) ? picked.indexOf(place) : 2];
+    text += `case\n${places.filter(clauseAt).map(place => `${place}: ${clauseAt(place)}\n`).join('')}`;
+    if (text.length > 2 ** 26 - 4) refuse('a question has at most 64 MiB');
+  }
+  return `${text}end\n`;
+}
+
 // The logs of a ring in version 2, as files.
 export const upgrade = (texts, {names} = {}) => asked([UPGRADE], ring(texts, names));
 
 // Of what is left of the logs of a ring the longest beginnings such that all are consistent, as files; whether a node
 // of whose log no whole head is left is taken for an initiator.
-export const mend = (texts, {initiators = false, names} = {}) => asked([MEND, Number(initiators)], ring(texts, names));
+export const mend = (texts, {initiators = true, names} = {}) => asked([MEND, Number(initiators)], ring(texts, names));
 
 // How each node ended in a run on one thread, and their logs as files.
 export const run = (nodes, seed, {initiators = nodes, draws = 64, cap = 10000, terms = 1} = {}) =>
   asked([RUN, nodes, initiators, seed, draws, cap, terms]);
+
+if (process.argv[1] && realpathSync(process.argv[1]) == fileURLToPath(import.meta.url)) {
+  import('./cli.mjs').then(({start}) => start());
+}

@@ -1,10 +1,12 @@
 """The auditor of Itai-Rodeh leader elections, called in process: what `ira` answers, without a process for each answer.
 
     import ira
-    reply = ira.logs([first, second])         # the texts of the logs, bytes, in the order of the ring's places
+    ira.assert_election('runs/1', leaders=[2])  # the folder with 0.log, 1.log and so on
+    reply = ira.logs([first, second])           # the texts of the logs, bytes, in the order of the ring's places
     assert reply.status == ira.YES, reply.values
 
-It needs libira.so beside it, in ../bin, or where IRA_LIBRARY says, and no other module. Threads may call side by side.
+It needs libira.so beside it, in ../bin, in ../release, or where IRA_LIBRARY says, and no other module. Threads may call
+side by side.
 """
 import ctypes
 import json
@@ -15,8 +17,13 @@ from array import array
 from typing import NamedTuple, Optional
 
 _HERE = os.path.dirname(os.path.abspath(__file__))
-_PLACES = [os.path.join(_HERE, name) for name in ('libira.so', '../bin/libira.so')]
-_serve = ctypes.CDLL(os.environ.get('IRA_LIBRARY') or next(filter(os.path.exists, _PLACES), _PLACES[0])).ira_serve
+_PLACES = [os.path.join(_HERE, name) for name in ('libira.so', '../bin/libira.so', '../release/libira.so')]
+_LIBRARY = os.environ.get('IRA_LIBRARY') or next(filter(os.path.exists, _PLACES), _PLACES[0])
+try:
+    _serve = ctypes.CDLL(_LIBRARY).ira_serve
+except OSError as _why:
+    raise OSError(f'{_why}. It is for Linux on x86-64, and IRA_LIBRARY may say where it lies: `make packages` packs '
+                  'that of release/ with this module, `make lib` makes one with the Rattle kit') from None
 _serve.restype = ctypes.c_uint32
 _serve.argtypes = [ctypes.c_void_p, ctypes.c_size_t] * 6
 
@@ -25,6 +32,7 @@ LOG, LOGS, EXPLAIN_LOG, EXPLAIN, EXPLAIN_QUESTION, EXPLAIN_CERT, SHOW, EVENTS, D
     MEND, RUN, PAGE, JSON, LEADERS, OVERVIEW = range(19)
 YES, NO, REFUSED, OUT_OF_MEMORY, NO_REQUEST, NO_ROOM = range(6)
 
+ANY = 2 ** 64 - 1
 ALL = (0, 2 ** 64 - 1)
 _FIRST, _MOST, _PARTS = 1 << 26, 1 << 36, 258
 
@@ -36,6 +44,7 @@ class Reply(NamedTuple):
     values: Optional[dict]   # its first line, where that is one of JSON
     more: list               # the lines of JSON after it: of cases, nodes, links or events
     files: list              # the files that it writes, bytes: a certificate, a picture, logs
+    page: str = ''           # of `log`, `explain` and `audit` what a person reads: why the answer is so
 
 
 class Refused(ValueError):
@@ -46,20 +55,19 @@ class Refused(ValueError):
         self.reply = reply
 
 
-class _Room(threading.local):
-    """Memory of a thread for its requests. Pages that no request touches cost nothing."""
-    size = None
+class _Room:
+    """Memory for requests, which a process that forks doesn't share. Pages that no request touches cost nothing."""
 
-    def of(self, size):
-        if self.size is None:
-            self.size = size
-            self.lent, self.out = mmap.mmap(-1, size), mmap.mmap(-1, size)
-            self.at = [ctypes.addressof(ctypes.c_char.from_buffer(it)) for it in (self.lent, self.out)]
-            self.sizes = array('Q', bytes(8 * _PARTS))
-        return self
+    def __init__(self, size):
+        try:
+            self.lent, self.out = (mmap.mmap(-1, size, mmap.MAP_PRIVATE | mmap.MAP_ANONYMOUS) for _ in range(2))
+        except OSError as why:
+            raise MemoryError('the system gives no memory for the request') from why
+        self.at = [ctypes.addressof(ctypes.c_char.from_buffer(it)) for it in (self.lent, self.out)]
+        self.sizes = array('Q', bytes(8 * _PARTS))
 
 
-_room = _Room()
+_kept = threading.local()
 
 
 def serve(values, files=()):
@@ -69,27 +77,29 @@ def serve(values, files=()):
     joined = b''.join(pieces)
     # (an empty array has no address)
     numbers, lengths = array('Q', values), array('Q', [*map(len, pieces), 0])
-    room, size = _room.of(_FIRST), _FIRST
+    size = _FIRST
     while size < len(joined):
         size *= 2
-    while True:
-        if size > _FIRST:
-            room = _Room().of(size)
-        lent, out = room.at
-        status = _serve(lent, size, numbers.buffer_info()[0], len(values), joined, len(joined),
-                        lengths.buffer_info()[0], len(pieces), out, size, room.sizes.buffer_info()[0], _PARTS)
-        if status not in (OUT_OF_MEMORY, NO_ROOM):
-            break
-        size *= 2
-        if size > _MOST:
-            raise MemoryError('the request takes too much memory')
-    if status == NO_REQUEST:
-        raise ValueError('no such request, or other files than it needs')
-    parts, at = [], 0
-    for length in room.sizes[1:room.sizes[0] + 1]:
-        parts.append(room.out[at:at + length])
-        at += length
-    return status, parts
+    # a call within this one, as of a signal, finds no room kept, and makes its own
+    first = _kept.__dict__.pop('room', None) or _Room(_FIRST)
+    try:
+        while size <= _MOST:
+            room = first if size == _FIRST else _Room(size)
+            lent, out = room.at
+            status = _serve(lent, size, numbers.buffer_info()[0], len(values), joined, len(joined),
+                            lengths.buffer_info()[0], len(pieces), out, size, room.sizes.buffer_info()[0], _PARTS)
+            if status == NO_REQUEST:
+                raise ValueError('no such request, or other files than it needs')
+            if status not in (OUT_OF_MEMORY, NO_ROOM):
+                parts, at = [], 0
+                for length in room.sizes[1:room.sizes[0] + 1]:
+                    parts.append(room.out[at:at + length])
+                    at += length
+                return status, parts
+            size *= 2
+    finally:
+        _kept.room = first
+    raise MemoryError('the request takes too much memory')
 
 
 def _asked(values, files=()):
@@ -109,25 +119,83 @@ def _named(kind, text):
     return [(f'question.{kind}', text)]
 
 
+def _paged(reply, values, files, said=''):
+    """The reply with the page of the same request without JSON, and lines after its first one."""
+    first, line, rest = serve(values, files)[1][0].decode().partition('\n')
+    return reply._replace(page=first + line + said + rest)
+
+
 def log(text, name='0.log'):
     """Why the text of one log alone is as it is."""
-    return _asked([JSON, EXPLAIN_LOG], [(name, text)])
+    return _paged(_asked([JSON, EXPLAIN_LOG], [(name, text)]), [EXPLAIN_LOG], [(name, text)])
 
 
-def logs(texts, names=None):
-    """The answer for the logs of a ring, in the order of its places."""
-    return _asked([JSON, LOGS], _ring(texts, names))
+def _led(leads):
+    """The values that ask who leads."""
+    return [] if leads is None else [LEADERS, ANY] if leads == 'any' else [LEADERS, len(leads), *leads]
 
 
-def explain(texts, question=None, certificate=None, case=None, names=None):
-    """The answer for the logs of a ring, and why it is so; with a question what is found for its cases, and why, of the
-    case of a number or of the first ones; with a certificate too, the answer for all three, and why."""
+def logs(texts, names=None, over=False, leads=None):
+    """The answer for the logs of a ring, in the order of its places. With `over` or `leads` the status is NO after a
+    yes too, where the election isn't over when the logs end, or others lead than are to, as `show` says."""
     ring = _ring(texts, names)
-    if question is None:
-        return _asked([JSON, EXPLAIN], ring)
-    if certificate is None:
-        return _asked([JSON, EXPLAIN_QUESTION, *([] if case is None else [case])], _named('ask', question) + ring)
-    return _asked([JSON, EXPLAIN_CERT], _named('ask', question) + _named('cert', certificate) + ring)
+    if not over and leads is None:
+        return _asked([JSON, LOGS], ring)
+    status, _, values, *_ = _asked([JSON, *_led(leads), SHOW], ring)
+    if over and values.get('over') is False:
+        status = values['status'] = NO
+    return Reply(status, json.dumps(values, separators=(',', ':')) + '\n', values, [], [])
+
+
+def explain(texts, question=None, certificate=None, case=None, names=None, over=False, leads=None):
+    """The answer for the logs of a ring, and why it is so, with `over` and `leads` as for `logs`; with a question what
+    is found for its cases, and why, of the case of a number or of the first ones; with a certificate too, the answer
+    for all three, and why."""
+    files, values = _ring(texts, names), [EXPLAIN]
+    if certificate is not None:
+        files, values = _named('ask', question) + _named('cert', certificate) + files, [EXPLAIN_CERT]
+    elif question is not None:
+        files, values = _named('ask', question) + files, [EXPLAIN_QUESTION, *([] if case is None else [case])]
+    elif over or leads is not None:
+        reply = logs(texts, names, over, leads)
+        if reply.values['answer'] == 'yes':
+            shown = serve([*_led(leads), SHOW], files)[1][0].decode().partition('\n\n')[0]
+            return _paged(reply, values, files, ''.join(f'{line}\n' for line in shown.split('\n')[1:]))
+    return _paged(_asked([JSON, *values], files), values, files)
+
+
+def read_logs(folder):
+    """The texts and the names of the logs in a folder: 0.log, 1.log and so on, as many as the first one's head says."""
+    names, texts = [], []
+    while not texts or len(texts) < _nodes(texts[0]):
+        names.append(os.path.join(folder, f'{len(names)}.log'))
+        with open(names[-1], 'rb') as file:
+            texts.append(file.read())
+    return texts, names
+
+
+def _nodes(text):
+    """How many nodes the ring of a log has, 1 where its head isn't whole."""
+    *head, left = text.split(b'\n', 4)
+    is_head = len(head) == 4 and serve([LOG], [('0.log', b'\n'.join([*head, b'end 0', b'']))])[0] == YES
+    return int(head[1].split()[1]) if is_head else 1
+
+
+def audit(folder, over=False, leads=None):
+    """What `explain` says of the logs in a folder. `leads` may be the name of a file in it too, with a place a line."""
+    texts, names = read_logs(folder)
+    if isinstance(leads, str) and leads != 'any':
+        with open(os.path.join(folder, leads), encoding='ascii') as file:
+            leads = [int(line) for line in file]
+    return explain(texts, names=names, over=over, leads=leads)
+
+
+def assert_election(folder, leaders=None, over=True):
+    """Raises AssertionError, with the page that says why, unless the logs in a folder are a yes, their election is
+    over, and those lead who are to: places, 'any', or the name of a file in the folder."""
+    reply = audit(folder, over, leaders)
+    if reply.status != YES:
+        raise AssertionError(f'{folder}: {reply.page}')
 
 
 def _moment(at, question, case):
@@ -140,10 +208,10 @@ def _moment(at, question, case):
 
 def show(texts, at=None, question=None, case=None, events=False, leads=None, names=None):
     """A ring at a moment, with an order of all events where these are wanted. With places in `leads` the status says
-    whether these nodes lead when the logs end, and no other; with none, whether any does."""
+    whether these nodes lead when the logs end, and no other, so of an empty list whether nobody does; with 'any',
+    whether some node does."""
     values, asked = _moment(at, question, case)
-    led = [] if leads is None else [LEADERS, len(leads), *leads]
-    return _asked([JSON, *led, EVENTS if events else SHOW, *values], asked + _ring(texts, names))
+    return _asked([JSON, *_led(leads), EVENTS if events else SHOW, *values], asked + _ring(texts, names))
 
 
 def draw(texts, at=None, question=None, case=None, columns=ALL, page=False, names=None):
@@ -167,12 +235,68 @@ def pairs(nodes):
     return _asked([PAIRS, nodes]).text.encode()
 
 
+_PARTS_OF = b'any ', b'other ', b'each other ', b'all '
+_DUE = ('a sentence begins with `any CLAUSE` or `all CLAUSE`',
+        'after `any CLAUSE` may stand `, other CLAUSE`, `, each other CLAUSE` or `, all CLAUSE`',
+        'after `other CLAUSE` may stand `, each other CLAUSE` or `, all CLAUSE`',
+        'after `each other CLAUSE` may stand `, all CLAUSE`', 'after `all CLAUSE` nothing may stand')
+_GUIDE = '; see `ira guide questions`'
+_NO_EVENTS = [b'irlog 1\nnodes 2\nplace %d\nstart passive\nend 0\n' % place for place in range(2)]
+
+
+def _is_clause(text):
+    question = b'irask 1\nnodes 2\ncase\n0: %s\nend\n' % text
+    return b'\n' not in text and not decide(_NO_EVENTS, question).values['answer'].startswith('no')
+
+
+def _refuse(line):
+    raise Refused(f'ira: {line}', Reply(REFUSED, '', None, [], []))
+
+
+def ask(nodes, sentence):
+    """The question whether a sentence on the nodes of a ring of so many ever holds, as bytes."""
+    left = sentence.encode() if isinstance(sentence, str) else sentence
+    if not 2 <= nodes <= 255:
+        _refuse('ring size')
+    if len(left) > 65536:
+        _refuse('a sentence has at most 65,536 bytes')
+    clauses, due = [None] * 4, 0
+    for part, word in enumerate(_PARTS_OF):
+        if left is None or not left.startswith(word) or (part in (1, 2) and clauses[0] is None):
+            continue
+        clauses[part], comma, left = left[len(word):].partition(b',')
+        if (comma and left[:1] != b' ') or not _is_clause(clauses[part]):
+            _refuse(f'after `{word.decode()}` a clause is due, as `leader` or `(active and round > 1)`{_GUIDE}')
+        left, due = left[1:] if comma else None, part + 1
+    if left is not None:
+        _refuse(_DUE[due] + _GUIDE)
+    *own, every = clauses
+    asked = [clause or every if None in (clause, every) else b'(%s and %s)' % (clause, every) for clause in own]
+    if not all(clause is None or _is_clause(clause) for clause in asked):
+        _refuse('with that of all nodes a clause is nested deeper than 32')
+    places, (first, second) = range(nodes), own[:2]
+    picks = [(None, None)] if first is None else [(i, None) for i in places] if second is None else \
+        [(i, j) for i in places for j in places if i < j or (i != j and first != second)]
+    if len(picks) > 32385:
+        _refuse('a question has at most 32,385 cases')
+    text = bytearray(b'irask 1\nnodes %d\n' % nodes)
+    for pick in picks:
+        text += b'case\n'
+        for place in places:
+            clause = asked[pick.index(place) if place in pick else 2]
+            if clause is not None:
+                text += b'%d: %s\n' % (place, clause)
+        if len(text) > 2 ** 26 - 4:
+            _refuse('a question has at most 64 MiB')
+    return bytes(text + b'end\n')
+
+
 def upgrade(texts, names=None):
     """The logs of a ring in version 2, as files."""
     return _asked([UPGRADE], _ring(texts, names))
 
 
-def mend(texts, initiators=False, names=None):
+def mend(texts, initiators=True, names=None):
     """Of what is left of the logs of a ring the longest beginnings such that all are consistent, as files; whether a
     node of whose log no whole head is left is taken for an initiator."""
     return _asked([MEND, int(initiators)], _ring(texts, names))

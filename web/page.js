@@ -58,6 +58,7 @@ function send(message) {
 
 const [LOG, LOGS, EXPLAIN_LOG, EXPLAIN, EXPLAIN_QUESTION, EXPLAIN_CERT, SHOW, EVENTS, DRAW, DECIDE, CHECK, PAIRS,
   UPGRADE, MEND, RUN, PAGE, AS_JSON, LEADERS, OVERVIEW] = Array(19).keys();
+const ANY = 2n ** 64n - 1n;
 
 // The status of the first of so many commands, and what each prints and writes.
 async function askAll(values, files, count) {
@@ -71,18 +72,19 @@ const ask = async (values, files) => (await askAll(values, files, 1))[0];
 // ---- what is given ----
 let rings = new Map, chosen, logs = [], question = null, cert = null;
 
-const kindOf = ({name, text}) => [['ask', 'irask '], ['cert', 'ircert '], ['log', 'irlog ']].find(([suffix, begins]) =>
+const kindOf = ({name, text}) => /(^|\/)leaders$/.test(name) ? 'leaders' : [['ask', 'irask '], ['cert', 'ircert '], ['log', 'irlog ']].find(([suffix, begins]) =>
   name.endsWith(`.${suffix}`) || decoder.decode(text.subarray(0, begins.length)) == begins)?.[0];
 const folderOf = name => name.slice(0, name.lastIndexOf('/') + 1);
 
-// Files of one folder or several. Others than logs, questions and certificates count where they were chosen one by one.
+// Files of one folder or several. Others than logs, leaders, questions and certificates count where they were chosen one by
+// one.
 function take(files, areChosen) {
   $('opened').hidden = true;
   rings = new Map;
   for (const file of files.sort((a, b) => byPlace(a.name, b.name))) {
     const kind = kindOf(file) ?? (areChosen && 'log'), folder = folderOf(file.name);
     if (!kind) continue;
-    if (!rings.has(folder)) rings.set(folder, {log: [], ask: [], cert: []});
+    if (!rings.has(folder)) rings.set(folder, {log: [], leaders: [], ask: [], cert: []});
     rings.get(folder)[kind].push(file);
   }
   const folders = [...rings.keys()].filter(folder => rings.get(folder).log.length);
@@ -94,6 +96,7 @@ function take(files, areChosen) {
 function takeRing(ring) {
   chosen = ring;
   [logs, question, cert] = [ring?.log ?? [], null, null];
+  $('leads').value = '';
   takeQuestions(ring ? [ring] : []);
 }
 function takeQuestions(groups) {
@@ -102,6 +105,9 @@ function takeQuestions(groups) {
   $('kind').append(...questions.map(file => Object.assign(tag('option', {className: 'given', value: 'given'},
     file.name), {file})));
   certs = groups.flatMap(group => group.cert);
+  for (const {text} of groups.flatMap(group => group.leaders)) {
+    $('leads').value = decoder.decode(text).replace(/\n$/, '').replaceAll('\n', ',') || 'none';
+  }
   $('kind').value = '';
   if (questions.length == 1) $('kind').selectedIndex = $('kind').options.length - 1;
   pickQuestion();
@@ -162,17 +168,26 @@ function momentAsked() {
   return cut.includes(null) ? null : {values: [1, ...cut], files: [], words: `--at ${cut} `};
 }
 
-// Who is to lead, if that is asked, as values and as words on a command line; nothing where it is neither places nor any.
+// Who is to lead, if that is asked, as values and as words on a command line; nothing where it is neither places nor any nor
+// none. Of none the auditor isn't asked: a node leads just where the election is over.
 function leadersAsked() {
   const named = $('leads').value.replaceAll(' ', '');
-  if (!named) return {values: [], words: ''};
+  if (!named || named == 'none') return {values: [], words: '', none: !!named};
   const places = named == 'any' ? [] : named.split(',').map(text => number(text, null));
-  return places.includes(null) ? null : {values: [LEADERS, places.length, ...places], words: `--leads ${named} `};
+  return places.includes(null) ? null : {values: [LEADERS, named == 'any' ? ANY : places.length, ...places], words: `--leads ${named} `};
 }
 
 // A name as a shell takes it.
 const quoted = ({name}) => /^[\w./][\w./-]*$/.test(name) ? name : `'${name.replaceAll("'", "'\\''")}'`;
 const namesOf = files => files.map(quoted).join(' ');
+// The logs on a command line: by their folder, where it has just those of the ring.
+function logsNamed() {
+  if (!logs.length) return '';
+  const [{name, text}] = logs, folder = folderOf(name), head = decoder.decode(text.subarray(0, 20));
+  const nodes = /^irlog [12]\nnodes (\d+)\n/.exec(head)?.[1];
+  const isWhole = folder && nodes == logs.length && logs.every(({name}, i) => name == `${folder}${i}.log`);
+  return isWhole ? `--dir ${quoted({name: folder.slice(0, -1)})}` : namesOf(logs);
+}
 // A name as the program shows it, so that none makes a line of its own.
 const shownName = name => Array.from(encoder.encode(name), byte => byte > 31 && byte < 127 ? String.fromCharCode(byte)
   : {9: '\\t', 13: '\\r'}[byte] ?? `\\x${byte.toString(16).padStart(2, '0')}`).join('');
@@ -233,12 +248,13 @@ async function judge() {
   $('answer').textContent = '\u2026';
   await told(async () => {
     if (asked.size) await begin();
-    const add = made => isNow() && $('answers').append(made), names = namesOf(logs);
-    const first = (line, {status, out, err}, more = '') => {
+    const add = made => isNow() && $('answers').append(made);
+    const first = (line, {status, out, err}, more = '', kind = 'yes') => {
       $('judged').textContent = `$ ira ${line}`;
       $('answer').textContent = (out || err).trim() + more;
-      $('answer').className = status ? 'bad' : 'yes';
+      $('answer').className = status ? 'bad' : kind;
     };
+    const names = logs.length == 1 ? namesOf(logs) : logsNamed();
     if (logs.length == 1) {
       const answer = await ask([LOG], logs);
       if (!isNow()) return;
@@ -250,9 +266,13 @@ async function judge() {
     const shown = [from ?? 0n, to ?? 0n, ...at.values];
     const given = [question, cert].filter(file => file), end = 2 + 2 * given.length;
     const replies = await askAll([OVERVIEW, given.length, ...shown], [...given, ...logs], end + 2);
-    if (!isNow()) return;
     const [answer, why] = replies, [drawn, page] = replies.slice(end), {status} = answer;
-    first(`logs ${names}`, answer);
+    const leaders = leadersAsked(), isAsked = leaders?.values.length && !status;
+    const led = isAsked && await ask([...leaders.values, SHOW], logs);
+    if (!isNow()) return;
+    const unmet = status ? '' : !why.out.endsWith('The election is over.\n') ? ', not over'
+      : led.status || leaders?.none ? ', other leaders' : '';
+    first(`logs ${names}`, answer, unmet, unmet ? 'unmet' : 'yes');
     $('json').append(asJson(`logs ${names}`, [LOGS], logs));
     add(answered('Why', `explain ${names}`, why, [EXPLAIN], logs));
     if (question) addQuestion(names, replies.slice(2, end), add);
@@ -264,11 +284,10 @@ async function judge() {
     if (svg || drawn.err) add(piece('Picture', line('svg'), {...drawn, out: ''},
       svg && picture(svg, toMoveIn(line('html'), [PAGE, ...shown], files))));
     if (status) return;
-    const leaders = leadersAsked();
-    if (!leaders) return fault('Who is to lead are places with commas between them, or any.');
+    if (!leaders) return fault('Who is to lead are places with commas between them, any or none.');
     const looks = [...leaders.values, SHOW, ...moment.values], events = [EVENTS, ...moment.values];
     add(answered('Who leads, and what is on its way', `show ${leaders.words}${moment.words}${names}`,
-      leaders.words ? await ask(looks, files) : page, looks, files));
+      !led ? page : moment.words ? await ask(looks, files) : led, looks, files));
     add(answered('An order of all events', `show --events ${moment.words}${names}`, await ask(events, files), events,
       files));
   });
@@ -375,9 +394,9 @@ $('uncertified').onclick = () => {
   judge();
 };
 for (const input of [$('moment'), $('at'), $('leads'), $('from'), $('to')]) input.onchange = judge;
-$('mend').onclick = () => write('Mended', `mend --start ${$('start').value} --out mended ${namesOf(logs)}`,
+$('mend').onclick = () => write('Mended', `mend --start ${$('start').value} --out mended ${logsNamed()}`,
   [MEND, +($('start').value == 'initiator')], logs);
-$('upgrade').onclick = () => write('Upgraded', `upgrade --out upgraded ${namesOf(logs)}`, [UPGRADE], logs);
+$('upgrade').onclick = () => write('Upgraded', `upgrade --out upgraded ${logsNamed()}`, [UPGRADE], logs);
 $('record').onsubmit = event => {
   event.preventDefault();
   const {nodes, initiators, seed, terms} = Object.fromEntries([...$('record').elements].map(({name, value}) =>

@@ -17,7 +17,7 @@ import java.util.concurrent.LinkedBlockingQueue;
 public class Ring {
 
     /** The log of one node. One thread calls it, each time after the step that the record tells of. */
-    static class Recorder implements AutoCloseable {
+    static class Recorder {
         private final Writer file;
         private int records;
         private final int place;
@@ -51,9 +51,8 @@ public class Ring {
             Files.writeString(leaders, place + "\n", StandardOpenOption.CREATE, StandardOpenOption.APPEND);
         }
 
-        /** Writes the end line, without which the log counts as cut off. */
-        @Override
-        public void close() throws IOException {
+        /** Writes the end line, without which the log counts as cut off: not for a node that threw. */
+        void close() throws IOException {
             file.write("end " + records + "\n");
             file.close();
         }

@@ -64,8 +64,11 @@ class Recorder:
     def __enter__(self):
         return self
 
-    def __exit__(self, *_):
-        self.close()
+    def __exit__(self, thrown, *_):
+        if thrown:
+            self.file.close()  # Not at its end: no end line says that it is.
+        else:
+            self.close()
 
 
 def bit(dirty):

@@ -1,5 +1,5 @@
 -- All replies to a command have one status.
-use Rattle.std.proofs.Common.{◌≡◌, ◌⊎◌, ℕ, Bool, List, Option, ap, inl, inr, refl, subst, sym, ◌∙◌}
+use Rattle.std.proofs.Common.{◌≡◌, ◌++◌, ◌⊎◌, ℕ, Bool, List, Option, ap, inl, inr, refl, subst, sym, ◌∙◌}
 use Rattle.ira_event.specs.Log.{Log}
 use Rattle.ira_audit.proofs.LogTexts.{one_list}
 use Rattle.ira_audit.proofs.MadeCertificates.{made_or_none}
@@ -25,16 +25,13 @@ use Rattle.ira_commands.specs.Answers.{Answers}
 use Rattle.ira_commands.specs.Decide.{PrintsDecided, absent, certified, no_certificate, past_limits}
 use Rattle.ira_commands.specs.Expected as expect
 use Rattle.ira_commands.specs.Explain.{ExplainsAll, alone, goes_on}
-use Rattle.ira_commands.specs.ExplainLeaders as lead
+use Rattle.ira_commands.specs.ExplainExpected as explain
 use Rattle.ira_commands.specs.Given.{Given}
-use Rattle.ira_commands.specs.Laws.{NamesNodes, Shows}
+use Rattle.ira_commands.specs.Laws.{Shows}
 use Rattle.ira_commands.specs.Reply.{Reply}
-use Rattle.ira_commands.specs.RingLeaders.{AreNoPlaces}
 use Rattle.ira_commands.specs.declared.expected.Expected.{Expected}
-use Rattle.ira_commands.specs.declared.expected.Expected.TheVariants.{Leaders}
 use Rattle.ira_commands.specs.declared.logs_command.LogsCommand.{LogsCommand}
 use Rattle.ira_commands.specs.declared.logs_command.LogsCommand.TheVariants as asks
-use Rattle.ira_commands.specs.declared.ring_leaders.RingLeaders.{RingLeaders}
 
 -- ---- an answer
 
@@ -75,35 +72,33 @@ one_judged texts expected a b (inr h) (inl k) = absurd (good_or_not texts k.0 h.
 one_judged texts expected a b (inr h) (inr k) = h.2 ∙ sym k.2
 
 expected_met : (form : Form) (expected : Expected) (logs : List Log) (reply : Reply)
-    → ¬ (expect.AsksNoPlaces logs expected) → expect.TellsExpected form expected logs reply
-    → SaysMet logs expected reply
-expected_met form expected logs reply places (expect.told lines s are leads e) =
-    (lines, are, subst (IsLeadsStatus lines) (sym (ap counted e.2)) leads)
-expected_met form expected logs reply places (expect.no_place none e) = absurd (places none)
+    → expect.TellsExpected form expected logs reply → SaysMet logs expected reply
+expected_met form expected logs reply (expect.told over differences s are leads e) =
+    inl (over, differences, are, subst (IsLeadsStatus (over ++ differences)) (sym (ap counted e.2)) leads)
+expected_met form expected logs reply (expect.no_place none e) = inr (none, ap counted e)
 
-leaders_met : (A : Type 0) (form : Form) (leaders : RingLeaders) (files : List NamedText) (logs : List Log)
-    (reply : Reply) → ¬ (AreNoPlaces logs leaders) → lead.TellsLeadersAs A form leaders files logs reply
-    → SaysMet logs (Leaders leaders) reply
-leaders_met A Words leaders files logs reply places (lead.told lines s are leads e) =
-    (lines, are, subst (IsLeadsStatus lines) (sym (ap counted e.2)) leads)
-leaders_met A Words leaders files logs reply places (lead.no_place none e) = absurd (places none)
-leaders_met A Json leaders files logs reply places told = expected_met Json (Leaders leaders) logs reply places told
+explained_good : (A : Type 0) (form : Form) (expected : Expected) (files : List NamedText) (logs : List Log)
+    (reply : Reply) → explain.TellsExplainedAs A form expected files logs reply → SaysMet logs expected reply
+explained_good A Words expected files logs reply (explain.told over differences s are leads e) =
+    inl (over, differences, are, subst (IsLeadsStatus (over ++ differences)) (sym (ap counted e.2)) leads)
+explained_good A Words expected files logs reply (explain.no_place none e) = inr (none, ap counted e)
+explained_good A Json expected files logs reply told = expected_met Json expected logs reply told
 
 module _ (texts : List (List ℕ)) (form : Form) (reply : Reply) where
-  judged_met : (expected : Expected) → ((logs : List Log) → AreGoodLogs texts logs → ¬ (expect.AsksNoPlaces logs expected))
-      → expect.JudgesExpected form expected texts reply → JudgesMet texts expected reply
-  judged_met expected places (expect.good logs good runs tells) =
-      inl (logs, good, expected_met form expected logs reply (places logs good) tells)
-  judged_met expected places (expect.no r is told) = inr (r, is.0, ap counted told.2)
+  judged_met : (expected : Expected) → expect.JudgesExpected form expected texts reply → JudgesMet texts expected reply
+  judged_met expected (expect.good logs good runs tells) =
+      inl (logs, good, expected_met form expected logs reply tells)
+  judged_met expected (expect.no r is told) = inr (r, is.0, ap counted told.2)
 
-  explained_met : (A : Type 0) (leaders : RingLeaders) (files : List NamedText)
-      → ((logs : List Log) → AreGoodLogs texts logs → ¬ (AreNoPlaces logs leaders))
-      → texts_of files ≡ texts → lead.ExplainsLeaders A form leaders files reply
-      → JudgesMet texts (Leaders leaders) reply
-  explained_met A leaders files places same (lead.good logs good runs tells) =
-      let good_too = subst (λ ts. AreGoodLogs ts logs) same good in
-      inl (logs, good_too, leaders_met A form leaders files logs reply (places logs good_too) tells)
-  explained_met A leaders files places same (lead.no r is told) =
+  explained_met : (A : Type 0) (expected : Expected) (files : List NamedText) → texts_of files ≡ texts
+      → explain.ExplainsExpected A form expected files reply → JudgesMet texts expected reply
+  explained_met A expected files same (explain.good logs good runs tells) =
+      inl (
+        logs,
+        subst (λ ts. AreGoodLogs ts logs) same good,
+        explained_good A form expected files logs reply tells,
+      )
+  explained_met A expected files same (explain.no r is told) =
       let why = subst (λ ts. IsRingAnswer ts (answer.No r)) same is.0 in
       let a = explained form texts files reply same told in
       inr (r, why, a.2 ∙ ap answer_status (one_logs_answer texts a.0 (answer.No r) a.1 why))
@@ -154,27 +149,26 @@ checked A form given reply h =
 -- ---- each command
 
 pub one_status : (A B : Type 0) (command : LogsCommand) (given : Given) (a b : Reply) → ¬ (Shows command)
-    → NamesNodes command given.texts → Answers A command given a → Answers B command given b → counted a ≡ counted b
-one_status A B (asks.Answer form) given a b apart places h k =
+    → Answers A command given a → Answers B command given b → counted a ≡ counted b
+one_status A B (asks.Answer form) given a b apart h k =
     one_said (IsRingAnswer given.texts) a b (one_logs_answer given.texts)
     (h.answer, h.judged, ap counted h.told.2) (k.answer, k.judged, ap counted k.told.2)
-one_status A B (asks.Expect form expected) given a b apart places h k =
-    one_judged given.texts expected a b (judged_met given.texts form a expected places h)
-    (judged_met given.texts form b expected places k)
-one_status A B (asks.Explain form) given a b apart places h k =
+one_status A B (asks.Expect form expected) given a b apart h k =
+    one_judged given.texts expected a b (judged_met given.texts form a expected h)
+    (judged_met given.texts form b expected k)
+one_status A B (asks.Explain form) given a b apart h k =
     one_said (IsRingAnswer given.texts) a b (one_logs_answer given.texts)
     (explained form given.texts h.0 a h.1.texts_are h.2) (explained form given.texts k.0 b k.1.texts_are k.2)
-one_status A B (asks.ExplainLeaders form leaders) given a b apart places h k =
-    one_judged given.texts (Leaders leaders) a b
-    (explained_met given.texts form a A leaders h.0 places h.1.texts_are h.2)
-    (explained_met given.texts form b B leaders k.0 places k.1.texts_are k.2)
-one_status A B (asks.Decide form certify) given a b apart places h k =
+one_status A B (asks.ExplainExpected form expected) given a b apart h k =
+    one_judged given.texts expected a b (explained_met given.texts form a A expected h.0 h.1.texts_are h.2)
+    (explained_met given.texts form b B expected k.0 k.1.texts_are k.2)
+one_status A B (asks.Decide form certify) given a b apart h k =
     one_found {A = A} {B = B} given a b (h.findings, h.found, decided form certify h.findings a h.told)
     (k.findings, k.found, decided form certify k.findings b k.told)
-one_status A B (asks.ExplainQuestion form case) given a b apart places h k =
+one_status A B (asks.ExplainQuestion form case) given a b apart h k =
     one_found {A = A} {B = B} given a b (asked_findings A form case given a h) (asked_findings B form case given b k)
-one_status A B (asks.Check form) given a b apart places h k =
+one_status A B (asks.Check form) given a b apart h k =
     one_check given a b (h.answer, h.judged, ap counted h.told.2) (k.answer, k.judged, ap counted k.told.2)
-one_status A B (asks.ExplainCheck form) given a b apart places h k =
+one_status A B (asks.ExplainCheck form) given a b apart h k =
     one_check given a b (checked A form given a h) (checked B form given b k)
-one_status A B (asks.Show form moment) given a b apart places h k = absurd (apart tt)
+one_status A B (asks.Show form moment) given a b apart h k = absurd (apart tt)

@@ -9,7 +9,7 @@ use Rattle.ira_event.specs.Sink.{SinkState, StopsIn, Takes}
 use Rattle.ira_view_json.specs.ShownAnswer.{AreTold, WroteRing}
 use Rattle.ira_view_page.specs.Printable.{IsPrintable, is_graphic}
 use Rattle.ira_view_page.specs.declared.show_fault.ShowFault.{ShowFault}
-use Rattle.ira_view_page.specs.declared.show_fault.ShowFault.TheVariants.{OutOfMemory, Write}
+use Rattle.ira_view_page.specs.declared.show_fault.ShowFault.TheVariants.{OutOfMemory, WrongColumns, Write}
 use Rattle.ira_view_show.specs.Showed.{Showed}
 use Rattle.ira_view.specs.ShownRing.{AreEventsOf, ShownRing}
 use Rattle.ira_view.specs.Status.{status_number}
@@ -45,6 +45,8 @@ events_written ring d (Err Write) s t u p first more told =
     (_, lines_after d (λ _. ⊤) more.0 p tt more.1, Takes-StopsIn s t u (front d) more.0 first more.2)
 events_written ring d (Err OutOfMemory) s t u p first more told =
     inr (_, lines_after d (λ _. ⊤) more.0 p tt more.1, Takes-append s t u (front d) more.0 first more.2)
+events_written ring d (Err WrongColumns) s t u p first more told =
+    inr (_, lines_after d (λ _. ⊤) more.0 p tt more.1, Takes-append s t u (front d) more.0 first more.2)
 
 -- lines of JSON, of which the first has the number of the status
 pub json_written : {T : Type 0} (lines : JsonLines) (n : ℕ) (r : Result T ShowFault) (s t : SinkState)
@@ -56,3 +58,4 @@ json_written lines n (Ok v) s t number wrote = (wrote.0, rw number at wrote.1, w
 json_written lines n (Err Write) s t number wrote = (wrote.0, rw number at wrote.1, wrote.2)
 json_written lines n (Err OutOfMemory) s t number (inl none) = inl none
 json_written lines n (Err OutOfMemory) s t number (inr took) = inr (took.0, rw number at took.1, took.2)
+json_written lines n (Err WrongColumns) s t number took = inr (took.0, rw number at took.1, took.2)

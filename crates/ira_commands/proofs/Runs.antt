@@ -1,6 +1,6 @@
 -- What is told of a run.
-use Rattle.std.proofs.Common.{◌≡◌, ◌∙◌, ◌<◌, ◌⊎◌, Bool, Err, IfOk, List, [], ◌∷◌, Ok, OnOk, Result, ap, arith, false}
-use Rattle.std.proofs.Common.{get_or, inl, inr, length, suc, true, zero, ℕ}
+use Rattle.std.proofs.Common.{◌≡◌, ◌∙◌, ◌<◌, ◌↔◌, ◌⊎◌, Bool, Err, IfOk, List, [], ◌∷◌, Ok, OnOk, Result, ap, arith, false}
+use Rattle.std.proofs.Common.{get_or, inl, inr, length, refl, suc, true, zero, ℕ}
 use Rattle.std.proofs.lemmas.List.{length-map}
 use Rattle.std.proofs.lemmas.List.FromFn.{fill_by_all}
 use Rattle.std.specs.Prelude.{◌≢◌, IfErr, IfSome, map, slice_get}
@@ -38,28 +38,34 @@ pub alone_fault : (s : Setup) (r : Result Run RunFault) → (r ≡ Err fault.Set
     → IfErr r (λ f. f ≢ fault.OutOfMemory → IsRunFault true s f)
 alone_fault s (Ok run) broken two = tt
 alone_fault s (Err f) broken (inl setup) = λ other. record {
-  broken = λ e. broken (ap (λ x. Err x) e);
+  broken = (λ e. broken (ap (λ x. Err x) e), λ breaks. setup);
   alone = λ _. setup;
   parts = (λ e. cc, λ e. cc);
+  ends = λ e. cc;
+  memory = other;
 }
 alone_fault s (Err f) broken (inr none) = λ other. absurd (other none)
 
-pub threads_fault : (s : Setup) (r : Result Run RunFault) → (r ≡ Err fault.Setup → ¬ (KeepsRules s))
-    → IfErr r (λ f. (f ≢ fault.Stranger) × (f ≢ fault.Double))
+pub threads_fault : (s : Setup) (r : Result Run RunFault) → (r ≡ Err fault.Setup) ↔ ¬ (KeepsRules s)
+    → IfErr r (λ f. (f ≢ fault.Stranger) × (f ≢ fault.Double)) → r ≢ Err fault.NoEnd
     → IfErr r (λ f. f ≢ fault.OutOfMemory → IsRunFault false s f)
-threads_fault s (Ok run) broken neither = tt
-threads_fault s (Err f) broken neither = λ other. record {
-  broken = λ e. broken (ap (λ x. Err x) e);
+threads_fault s (Ok run) rules neither ends = tt
+threads_fault s (Err f) rules neither ends = λ other. record {
+  broken = (λ e. rules.0 (ap (λ x. Err x) e), λ breaks. (let same = rules.1 breaks in cc));
   alone = λ e. cc;
   parts = neither;
+  ends = λ e. ends (ap (λ x. Err x) e);
+  memory = other;
 }
 
 -- more terms than a number of 32 bits says are those of a setup that breaks the rules
 pub many_terms : (s : Setup) → ¬ (s.terms < 4294967296) → IsRunFault false s fault.Setup
 many_terms s many = record {
-  broken = λ _ (keeps : KeepsRules s). omega (arith, many, keeps.terms.1);
+  broken = (λ _ (keeps : KeepsRules s). omega (arith, many, keeps.terms.1), λ breaks. refl);
   alone = λ e. cc;
   parts = (λ e. cc, λ e. cc);
+  ends = λ e. cc;
+  memory = λ e. cc;
 }
 
 -- it is a run of the ring, or why there is none

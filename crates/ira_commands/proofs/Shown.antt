@@ -14,7 +14,7 @@ use Rattle.ira_view.specs.declared.ring_fault.RingFault.TheVariants as fault
 use Rattle.ira_commands.specs.RingMoment.{IsAskedRing, IsNoAskedRing}
 use Rattle.ira_commands.specs.Reply.{Reply}
 use Rattle.ira_commands.specs.Show.{Draws, IsReportableFault, TellsPicture}
-use Rattle.ira_commands.specs.Show.Draws.{drawn, too_many}
+use Rattle.ira_commands.specs.Show.Draws.{drawn, too_many, wrong_columns}
 use Rattle.ira_commands.specs.declared.ring_moment.RingMoment.{RingMoment}
 use Rattle.ira_commands.specs.declared.ring_moment.RingMoment.TheVariants.{AtCut, AtEnd, OfQuestion}
 
@@ -43,6 +43,7 @@ pub draws : (answer : Answer) (IsPicture : List ℕ → Type 0) (AreTooMany : �
 draws answer IsPicture AreTooMany (Ok picture) reply printable is many told = drawn picture printable is told
 draws answer IsPicture AreTooMany (Err (draw.TooManyEvents events)) reply printable is many told =
     too_many events (many events refl) told
+draws answer IsPicture AreTooMany (Err draw.WrongColumns) reply printable is many told = wrong_columns told
 draws answer IsPicture AreTooMany (Err draw.OutOfMemory) reply printable is many told = absurd told
 
 -- a ring that is asked for has these logs

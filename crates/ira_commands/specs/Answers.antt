@@ -6,7 +6,7 @@ use Rattle.ira_view.specs.Texts.{AreFiles, texts_of}
 use Rattle.ira_commands.specs.Check.{ChecksTexts}
 use Rattle.ira_commands.specs.Decide.{DecidesTexts, PrintsDecided}
 use Rattle.ira_commands.specs.Explain.{ExplainsAll, ExplainsCheck}
-use Rattle.ira_commands.specs.ExplainLeaders.{ExplainsLeaders}
+use Rattle.ira_commands.specs.ExplainExpected.{ExplainsExpected}
 use Rattle.ira_commands.specs.ExplainQuestion.{ExplainsFindings}
 use Rattle.ira_commands.specs.Given.{Given, IsFile}
 use Rattle.ira_commands.specs.Judging.{JudgesLogs}
@@ -15,7 +15,7 @@ use Rattle.ira_commands.specs.Show.{ShowsLogs}
 use Rattle.ira_commands.specs.Expected.{JudgesExpected}
 use Rattle.ira_commands.specs.declared.logs_command.LogsCommand.{LogsCommand}
 use Rattle.ira_commands.specs.declared.logs_command.LogsCommand.TheVariants.{Answer, Check, Decide, Explain, ExplainCheck}
-use Rattle.ira_commands.specs.declared.logs_command.LogsCommand.TheVariants.{Expect, ExplainLeaders, ExplainQuestion, Show}
+use Rattle.ira_commands.specs.declared.logs_command.LogsCommand.TheVariants.{Expect, ExplainExpected, ExplainQuestion, Show}
 
 -- these are the files of the question and of the logs
 abbrev pub AreAsked : Given → AskedFiles → Type 0
@@ -27,8 +27,8 @@ Answers A (Answer form) given reply = JudgesLogs (ReportsAs form) given.texts re
 Answers A (Expect form expected) given reply = JudgesExpected form expected given.texts reply
 Answers A (Explain form) given reply =
     (files : List NamedText) × AreFiles given.names given.texts files × ExplainsAll A form files reply
-Answers A (ExplainLeaders form leaders) given reply =
-    (files : List NamedText) × AreFiles given.names given.texts files × ExplainsLeaders A form leaders files reply
+Answers A (ExplainExpected form expected) given reply =
+    (files : List NamedText) × AreFiles given.names given.texts files × ExplainsExpected A form expected files reply
 Answers A (Decide form certify) given reply =
     DecidesTexts {A = A} (PrintsDecided form certify) given.question.text given.texts reply
 Answers A (ExplainQuestion form case) given reply = (asked : AskedFiles) × AreAsked given asked

@@ -10,7 +10,7 @@ use Rattle.ira_view.specs.DrawFaultLine.{too_many_text}
 use Rattle.ira_view.specs.RunFaultLine.{run_fault_text}
 use Rattle.ira_commands.specs.declared.command_fault.CommandFault.{CommandFault}
 use Rattle.ira_commands.specs.declared.command_fault.CommandFault.TheVariants.{CertificatePastLimits, NoCase, NoMoment, NoPlace}
-use Rattle.ira_commands.specs.declared.command_fault.CommandFault.TheVariants.{NoSentence, RingSize, RunRefused, TooManyEvents}
+use Rattle.ira_commands.specs.declared.command_fault.CommandFault.TheVariants.{NoSentence, RingSize, RunRefused, TooManyEvents, WrongColumns}
 
 -- what may stand after a part of a sentence, or at its beginning
 abbrev pub due_after : Option SentencePart → List ℕ
@@ -40,6 +40,7 @@ command_fault_text (NoMoment fault) = cut_fault_text fault
 command_fault_text NoCase = codes "ira: --case names a case that the question has not\n"
 command_fault_text NoPlace = codes "ira: --leads names a node that the ring has not\n"
 command_fault_text (TooManyEvents events) = too_many_text events
+command_fault_text WrongColumns = codes "ira: a fault of ira: wrong columns of events\n"
 command_fault_text (RunRefused fault) = run_fault_text fault
 command_fault_text CertificatePastLimits = codes "ira: certificate past the limits\n"
 command_fault_text (NoSentence fault) = sentence_fault_text fault

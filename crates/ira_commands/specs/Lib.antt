@@ -7,7 +7,7 @@ pub mod CommandFault
 pub mod Decide
 pub mod Expected
 pub mod Explain
-pub mod ExplainLeaders
+pub mod ExplainExpected
 pub mod ExplainQuestion
 pub mod Given
 pub mod JsonLines

@@ -3,14 +3,14 @@ use Rattle.std.specs.Prelude.{Bool, false, true}
 use Rattle.ira_commands.specs.RingForm.{wants_page}
 use Rattle.ira_commands.specs.declared.logs_command.LogsCommand.{LogsCommand}
 use Rattle.ira_commands.specs.declared.logs_command.LogsCommand.TheVariants.{Answer, Check, Decide, Explain, ExplainCheck}
-use Rattle.ira_commands.specs.declared.logs_command.LogsCommand.TheVariants.{Expect, ExplainLeaders, ExplainQuestion, Show}
+use Rattle.ira_commands.specs.declared.logs_command.LogsCommand.TheVariants.{Expect, ExplainExpected, ExplainQuestion, Show}
 
 -- it tells of the logs with their texts and the names of their files
 abbrev pub needs_texts : LogsCommand → Bool
 needs_texts (Answer form) = false
 needs_texts (Expect form expected) = false
 needs_texts (Explain form) = true
-needs_texts (ExplainLeaders form leaders) = true
+needs_texts (ExplainExpected form expected) = true
 needs_texts (Decide form certify) = false
 needs_texts (ExplainQuestion form case) = true
 needs_texts (Check form) = false

@@ -5,7 +5,7 @@ use Rattle.ira_audit.specs.Report.{report_line}
 use Rattle.ira_audit.specs.declared.answer.Answer.TheVariants.{Yes}
 use Rattle.ira_view_page.specs.Printable.{IsPrintable}
 use Rattle.ira_view_page.specs.declared.show_fault.ShowFault.{ShowFault}
-use Rattle.ira_view_page.specs.declared.show_fault.ShowFault.TheVariants.{OutOfMemory, Write}
+use Rattle.ira_view_page.specs.declared.show_fault.ShowFault.TheVariants.{OutOfMemory, WrongColumns, Write}
 use Rattle.ira_view.specs.ShownRing.{AreEventsOf, AreJsonLines, AreSomeJsonLines, ShownRing}
 use Rattle.ira_commands.specs.JsonLines.{JsonLines}
 use Rattle.ira_commands.specs.declared.output.Output.{Output}
@@ -35,16 +35,17 @@ IsBegun (whole_text printed) text = text ≡ printed
 IsBegun (all_events ring differences) text = AreLinesAfter differences (λ _. ⊤) text
 IsBegun (json_lines lines) text = AreSomeJsonLines lines.named lines.ring lines.status text
 
--- memory ran out after a first part of it, or before it. Of a text it doesn't
+-- memory or columns failed after a first part of it, or before it. Of a text they don't
 abbrev pub RanOut : Printed → SinkState → SinkState → Type 0
 RanOut (whole_text printed) old new = ⊥
 RanOut printed old new = (new ≡ old) ⊎ ((text : List ℕ) × IsBegun printed text × Takes text old new)
 
--- a sink took all of it; or a first part, where the sink failed or memory ran out
+-- a sink took all of it; or a first part, where the sink, memory or columns failed
 abbrev pub WroteOutput : {T : Type 0} → Printed → Result T ShowFault → SinkState → SinkState → Type 0
 WroteOutput printed (Ok v) old new = (text : List ℕ) × IsPrinted printed text × Takes text old new
 WroteOutput printed (Err Write) old new = (text : List ℕ) × IsBegun printed text × StopsIn text old new
 WroteOutput printed (Err OutOfMemory) old new = RanOut printed old new
+WroteOutput printed (Err WrongColumns) old new = RanOut printed old new
 
 -- ---- Helpers, no definitions.
 

@@ -1,7 +1,8 @@
 -- What comes of running a ring.
-use Rattle.std.specs.Prelude.{◌≡◌, ◌≢◌, Bool, Err, Ok, Result, false, true}
+use Rattle.std.specs.Prelude.{◌≡◌, ◌≢◌, ◌↔◌, Bool, Err, Ok, Result, false, true}
 use Rattle.ira_event.specs.RingSize.{IsRingSize}
 use Rattle.ira_ring.specs.SeededRing.{setup_of}
+use Rattle.ira_ring_setup.specs.Agreement.{Agrees}
 use Rattle.ira_ring_setup.specs.EndsWriter.{ends_text}
 use Rattle.ira_ring_setup.specs.Recording.{HasOwnEnd, IsRecording}
 use Rattle.ira_ring_setup.specs.Run.{Run}
@@ -28,19 +29,21 @@ TellsRunResult (Ok run) reply = TellsRun run reply
 TellsRunResult (Err fault.OutOfMemory) reply = ⊥
 TellsRunResult (Err f) reply = reply ≡ refused (RunRefused f)
 
--- a run of a setup, on one thread or with a thread for each node
+-- a run of a setup, on one thread or with a thread for each node, whose logs then are those of each full run
 abbrev pub IsRunOf : Bool → Setup → Run → Type 0
 IsRunOf true s run = IsLoneRun s run
-IsRunOf false s run = IsRecording s run × HasOwnEnd run
+IsRunOf false s run = IsRecording s run × Agrees s run × HasOwnEnd run
 
 -- why there is no run of a setup
 pub record IsRunFault (is_alone : Bool) (s : Setup) (f : RunFault) : Type 0 where
-  -- it says that the setup breaks the rules only where it does
-  pub broken : f ≡ fault.Setup → ¬ (KeepsRules s)
+  -- it says that the setup breaks the rules just where it does
+  pub broken : (f ≡ fault.Setup) ↔ ¬ (KeepsRules s)
   -- on one thread it says that
   pub alone : is_alone ≡ true → f ≡ fault.Setup
-  -- and never that the collector refuses a part
+  -- and never that the collector refuses a part, that no node ended by itself, or that memory ran out, which is no refusal
   pub parts : (f ≢ fault.Stranger) × (f ≢ fault.Double)
+  pub ends : f ≢ fault.NoEnd
+  pub memory : f ≢ fault.OutOfMemory
 
 -- a run of the ring is told, which keeps the rules; or why there is none, or that no ring has so many nodes, and that is
 -- refused

@@ -33,7 +33,7 @@ use Rattle.ira_commands.specs.Reply.MadeFiles.{one_text}
 use Rattle.ira_commands.specs.RingForm.{answer_form, leaders_of}
 use Rattle.ira_commands.specs.RingLeaders.{AreDifferencesOf, AreNoPlaces, named_places}
 use Rattle.ira_commands.specs.RingMoment.{IsAskedRing, IsNoAskedRing}
-use Rattle.ira_commands.specs.declared.command_fault.CommandFault.TheVariants.{NoCase, NoMoment, NoPlace, TooManyEvents}
+use Rattle.ira_commands.specs.declared.command_fault.CommandFault.TheVariants.{NoCase, NoMoment, NoPlace, TooManyEvents, WrongColumns}
 use Rattle.ira_commands.specs.declared.ring_form.LinesForm.{LinesForm}
 use Rattle.ira_commands.specs.declared.ring_form.RingForm.{RingForm}
 use Rattle.ira_commands.specs.declared.ring_form.RingForm.TheVariants.{Html, Lines, Picture}
@@ -41,13 +41,14 @@ use Rattle.ira_commands.specs.declared.ring_leaders.RingLeaders.{RingLeaders}
 use Rattle.ira_commands.specs.declared.ring_moment.RingMoment.{RingMoment}
 
 -- such a picture, which is printable, is a file, and the line of the answer is printed; or so many events are too many for a
--- picture, and that is refused
+-- picture, or the columns that were found aren't right, and that is refused
 pub data Draws (answer : Answer) (IsPicture : List ℕ → Type 0) (AreTooMany : ℕ → Type 0) (reply : Reply) : Type 0 where
   drawn : (picture : List ℕ) → IsPrintable picture → IsPicture picture
       → reply ≡ with_files (printed (answer_status answer) (report_line answer)) (one_text picture)
       → Draws answer IsPicture AreTooMany reply
   too_many : (events : ℕ) → AreTooMany events → reply ≡ refused (TooManyEvents events)
       → Draws answer IsPicture AreTooMany reply
+  wrong_columns : reply ≡ refused WrongColumns → Draws answer IsPicture AreTooMany reply
 
 -- lines on a ring are printed, with this status: as JSON; or, after these on who leads, all events in an order, where these
 -- are wanted, or what it looks like at its moment
@@ -135,9 +136,10 @@ IsReportableFault (fault.Cut f) = ⊤
 IsReportableFault fault.NoCase = ⊤
 IsReportableFault fault.OutOfMemory = ⊤
 
--- a picture is a file, and the line of the answer is printed; or the events are too many for one
+-- a picture is a file, and the line of the answer is printed; or the events are too many for one, or their columns wrong
 abbrev pub TellsPicture : Answer → Result (List ℕ) DrawFault → Reply → Type 0
 TellsPicture answer (Ok picture) reply =
     reply ≡ with_files (printed (answer_status answer) (report_line answer)) (one_text picture)
 TellsPicture answer (Err (draw.TooManyEvents events)) reply = reply ≡ refused (TooManyEvents events)
+TellsPicture answer (Err draw.WrongColumns) reply = reply ≡ refused WrongColumns
 TellsPicture answer (Err draw.OutOfMemory) reply = ⊥

@@ -10,7 +10,7 @@ use crate::decide::decide_asked;
 use crate::expected::answer_expected;
 use crate::explain::explain_all;
 use crate::explain_check::explain_check_alone;
-use crate::explain_leaders::explain_leaders;
+use crate::explain_expected::explain_expected;
 use crate::explain_question::explain_asked;
 use crate::given_files::GivenFiles;
 use crate::logs::answer_logs;
@@ -45,8 +45,8 @@ pub fn answer<A: Allocator + Clone>(
         LogsCommand::Answer { form } => answer_logs(alloc, form, &judged),
         LogsCommand::Expect { form, expected } => answer_expected(alloc, form, expected, &judged),
         LogsCommand::Explain { form } => explain_all(alloc, form, logs, &judged),
-        LogsCommand::ExplainLeaders(form, leaders) => {
-            explain_leaders(alloc, form, leaders, logs, &judged)
+        LogsCommand::ExplainExpected { form, expected } => {
+            explain_expected(alloc, form, expected, logs, &judged)
         }
         LogsCommand::Decide { form, certify } => {
             decide_asked(alloc, form, certify, question.text, &judged)

@@ -22,6 +22,8 @@ pub enum CommandFault {
     NoPlace,
     /// So many events have the columns that are asked for, and these are too many for one picture.
     TooManyEvents(u32),
+    /// The columns that were found for events aren't right.
+    WrongColumns,
     /// The run was refused, or came to nothing.
     RunRefused(RunFault),
     /// The text of the certificate couldn't be read back.
@@ -109,6 +111,9 @@ impl CommandFault {
                 write_bytes(b"ira: --leads names a node that the ring has not\n", err)
             }
             CommandFault::TooManyEvents(events) => too_many_events(*events).write(err),
+            CommandFault::WrongColumns => {
+                write_bytes(b"ira: a fault of ira: wrong columns of events\n", err)
+            }
             CommandFault::RunRefused(fault) => refused_run(*fault).write(err),
             CommandFault::CertificatePastLimits => {
                 write_bytes(b"ira: certificate past the limits\n", err)

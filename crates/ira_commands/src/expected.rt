@@ -1,7 +1,8 @@
-ghost use Rattle.std.specs.Prelude.{◌≡◌, IfOk, List, MatchBool, MatchOption, option_map, ℕ};
+ghost use Rattle.std.specs.Prelude.{◌≡◌, ◌++◌, [], IfOk, List, MatchBool, MatchOption, option_map, ℕ};
 ghost use Rattle.ira_audit.specs.Judged.{IsJudged};
-ghost use Rattle.ira_commands.specs.Expected.{AreLinesOn, AsksNoPlaces, IsExpectedText, IsMet, IsMissed, JudgesExpected};
-ghost use Rattle.ira_commands.specs.Expected.{TellsExpected, named_by};
+ghost use Rattle.ira_commands.specs.Expected.{AreLinesOver, IsExpectedText, IsMet, IsUnmet, JudgesExpected, LeadOthers};
+ghost use Rattle.ira_commands.specs.Expected.{TellsExpected, others_than};
+ghost use Rattle.ira_commands.specs.RingLeaders.{AreDifferencesOf, named_places};
 
 use crate::command_fault::CommandFault;
 use crate::reply::Reply;
@@ -11,55 +12,112 @@ use ira_event::{MemorySink, OutOfMemory, WriteFault, write_bytes};
 use ira_view::{Form, Status, unfinished_election, write_view};
 use ira_view_json::{ShownAnswer, yes_line};
 use ira_view_moment::ChosenMoment;
-use ira_view_page::PageText;
+use ira_view_page::{Page, PageText};
 use std::alloc::Allocator;
 
 /// What is expected of an election when the logs of its ring end.
 #[derive(Clone, Copy)]
-pub enum Expected<'v> {
-    /// That it is over.
-    Over,
-    /// That those lead who are to.
-    Leaders(RingLeaders<'v>),
+pub struct Expected<'v> {
+    /// Whether it is to be over.
+    pub is_over: bool,
+    /// Who is to lead.
+    pub leaders: RingLeaders<'v>,
+}
+
+/// What isn't as expected.
+#[derive(Clone, Copy)]
+pub enum Unmet {
+    /// The election isn't over.
+    NotOver,
+    /// No node leads.
+    NoLeader,
+    /// Others lead than those who are to.
+    OtherLeaders,
+}
+
+/// What isn't as expected where others lead.
+fn others_than(leaders: &RingLeaders<'_>) -> Unmet
+    ensures { result ≡ others_than leaders.now }
+{
+    match leaders {
+        RingLeaders::Any => Unmet::NoLeader,
+        RingLeaders::NotAsked | RingLeaders::Places(_) => Unmet::OtherLeaders,
+    }
 }
 
 impl<'v> Expected<'v> {
-    /// Lines on what isn't so; nothing where a node that is to lead is none of the ring.
-    fn lines<A: Allocator + Clone>(
+    /// Lines on an election that is to be over and isn't.
+    fn lines_over<A: Allocator + Clone>(
         &self,
         alloc: A,
         logs: &GoodLogs<A>,
-    ) -> Result<Option<PageText<A>>, OutOfMemory>
-        ensures { IfOk result (λ found.
-            MatchOption found (AsksNoPlaces logs.now self.now) (AreLinesOn logs.now self.now)) }
+    ) -> Result<PageText<A>, OutOfMemory>
+        ensures { IfOk result (AreLinesOver logs.now self.now.is_over) }
     {
-        match self {
-            Expected::Over => Ok(Some(unfinished_election(alloc, logs)?)),
-            Expected::Leaders(leaders) => leaders.differences(alloc, logs),
+        if self.is_over {
+            unfinished_election(alloc, logs)
+        } else {
+            Page::new(alloc).finish()
         }
     }
 
-    /// Whether it is so when the logs end. It isn't where a node that is to lead is none of the ring.
-    pub fn is_met<A: Allocator + Clone>(
+    /// The same lines, and after them these on who leads.
+    pub(crate) fn lines<A: Allocator + Clone>(
+        &self,
+        alloc: A,
+        logs: &GoodLogs<A>,
+        differences: &PageText<A>,
+    ) -> Result<PageText<A>, OutOfMemory>
+        ensures { IfOk result (λ lines. (over : List ℕ) × AreLinesOver logs.now self.now.is_over over
+            × (lines ≡ over ++ differences.now)) }
+    {
+        let over = self.lines_over(alloc.clone()?, logs)?;
+        let mut lines = Page::new(alloc);
+        lines.words(over.as_str());
+        lines.words(differences.as_str());
+        lines.finish()
+    }
+
+    /// Whether others lead than those who are to, or one of these is none of the ring.
+    fn lead_others<A: Allocator + Clone>(
         &self,
         alloc: A,
         logs: &GoodLogs<A>,
     ) -> Result<bool, OutOfMemory>
-        ensures { IfOk result (λ met. MatchBool met (IsMet logs.now self.now) (IsMissed logs.now self.now)) }
+        ensures { IfOk result (λ others. MatchBool others (LeadOthers logs.now self.now.leaders)
+            (AreDifferencesOf logs.now self.now.leaders [])) }
     {
-        match self.lines(alloc, logs)? {
-            Some(lines) => Ok(lines.bytes().is_empty()),
-            None => Ok(false),
+        match self.leaders.differences(alloc, logs)? {
+            Some(lines) => Ok(!lines.bytes().is_empty()),
+            None => Ok(true),
+        }
+    }
+
+    /// What isn't so when the logs end, first of all that the election isn't over; nothing where all is.
+    pub fn unmet<A: Allocator + Clone>(
+        &self,
+        alloc: A,
+        logs: &GoodLogs<A>,
+    ) -> Result<Option<Unmet>, OutOfMemory>
+        ensures { IfOk result (λ unmet. MatchOption unmet (IsMet logs.now self.now) (IsUnmet logs.now self.now)) }
+    {
+        if !self.lines_over(alloc.clone()?, logs)?.bytes().is_empty() {
+            return Ok(Some(Unmet::NotOver));
+        }
+        if self.lead_others(alloc, logs)? {
+            Ok(Some(others_than(&self.leaders)))
+        } else {
+            Ok(None)
         }
     }
 
     /// The places of the nodes that are to lead, if some are named.
     fn named(&self) -> Option<&'v [u64]>
-        ensures { option_map (λ named. named.now) result ≡ named_by self.now }
+        ensures { option_map (λ named. named.now) result ≡ named_places self.now.leaders }
     {
-        match *self {
-            Expected::Leaders(RingLeaders::Places(places)) => Some(places),
-            Expected::Leaders(RingLeaders::NotAsked | RingLeaders::Any) | Expected::Over => None,
+        match self.leaders {
+            RingLeaders::Places(places) => Some(places),
+            RingLeaders::NotAsked | RingLeaders::Any => None,
         }
     }
 }
@@ -73,7 +131,8 @@ fn expected_text<A: Allocator + Clone>(
     lines: &PageText<A>,
     status: Status,
 ) -> Result<MemorySink<A>, OutOfMemory>
-    ensures { IfOk result (λ text. IsExpectedText form (named_by expected.entry) logs.now lines.now status text.bytes) }
+    ensures { IfOk result (λ text.
+        IsExpectedText form (named_places expected.entry.leaders) logs.now lines.now status text.bytes) }
 {
     let mut text = MemorySink::new(alloc.clone()?);
     let written = match form {
@@ -102,9 +161,10 @@ pub(crate) fn tell_expected<A: Allocator + Clone>(
 ) -> Result<Reply<A>, OutOfMemory>
     ensures { IfOk result (TellsExpected form expected.entry logs.now) }
 {
-    let Some(lines) = expected.lines(alloc.clone()?, logs)? else {
+    let Some(differences) = expected.leaders.differences(alloc.clone()?, logs)? else {
         return Ok(Reply::refused(alloc, CommandFault::NoPlace));
     };
+    let lines = expected.lines(alloc.clone()?, logs, &differences)?;
     let status = Status::of_differences(lines.bytes());
     let text = expected_text(alloc, form, expected, logs, &lines, status)?;
     Ok(Reply::printed(status, text))

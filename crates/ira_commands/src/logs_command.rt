@@ -3,7 +3,6 @@ ghost use Rattle.ira_commands.specs.LogsCommand.{needs_texts};
 
 use crate::expected::Expected;
 use crate::ring_form::RingForm;
-use crate::ring_leaders::RingLeaders;
 use crate::ring_moment::RingMoment;
 use ira_view::Form;
 
@@ -16,8 +15,8 @@ pub enum LogsCommand<'v> {
     Expect { form: Form, expected: Expected<'v> },
     /// Their answer, and why it is so.
     Explain { form: Form },
-    /// The same, and after a yes whether those lead who are to, and why.
-    ExplainLeaders(Form, RingLeaders<'v>),
+    /// The same, and after a yes whether their election is as expected.
+    ExplainExpected { form: Form, expected: Expected<'v> },
     /// What is found for a question about them, and its certificate where that is wanted.
     Decide { form: Form, certify: bool },
     /// What is found, and why it is so: for the case of a number, counted from 0, or for the first ones.
@@ -37,7 +36,7 @@ impl LogsCommand<'_> {
     {
         match *self {
             LogsCommand::Explain { .. }
-            | LogsCommand::ExplainLeaders(..)
+            | LogsCommand::ExplainExpected { .. }
             | LogsCommand::ExplainQuestion { .. }
             | LogsCommand::ExplainCheck { .. }
             | LogsCommand::Show(RingForm::Html(_), _) => true,

@@ -13,8 +13,7 @@ use std::alloc::Allocator;
 pub enum Output<A: Allocator> {
     /// This text.
     Text(MemorySink<A>),
-    /// An order of all events of a ring, after the line of a yes and these lines on who leads. It is made as it is
-    /// written.
+    /// An order of all events, after the line of a yes and these lines on who leads, made as it is written.
     Events {
         alloc: A,
         ring: ShownRing<A>,

@@ -19,8 +19,7 @@ pub enum RingLeaders<'v> {
 }
 
 impl<'v> RingLeaders<'v> {
-    /// Lines on how those who lead when the logs end differ from those who are to; nothing where one that is named is
-    /// none of the ring.
+    /// Lines on who leads otherwise than is asked in the end; nothing where one that is named is none of the ring.
     pub(crate) fn differences<A: Allocator + Clone>(
         &self,
         alloc: A,

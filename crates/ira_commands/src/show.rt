@@ -111,6 +111,7 @@ fn tell_picture<A: Allocator + Clone>(
         Err(DrawFault::TooManyEvents { events }) => {
             Ok(Reply::refused(alloc, CommandFault::TooManyEvents(events)))
         }
+        Err(DrawFault::WrongColumns) => Ok(Reply::refused(alloc, CommandFault::WrongColumns)),
         Err(DrawFault::OutOfMemory) => Err(OutOfMemory),
     }
 }

@@ -302,13 +302,13 @@ module _ {n i : ℕ} {ph ph' : ℕ → Phase} {Q Q' : ℕ → List Msg} (t : Has
         ])
 
   by_turn : Turn n (ph i) (ph' i) t.taken t.put → Change n ph ph' Q Q'
-  by_turn (turn_draw r d m1 ep eq et eo er ed eh) = drawing r d m1 ep eq et eo er ed eh
-  by_turn (turn_pass m0 m1 ep eq et eo up) =
+  by_turn (turn_draw r d m1 ep eq et eo er ed eh cl) = drawing r d m1 ep eq et eo er ed eh
+  by_turn (turn_pass m0 m1 ep eq et eo up dk) =
       passing m0 et m1 eo up (up_same (eq ∙ sym ep)) (λ a x y la pa. elim (was_active Passive a x y eq la pa) [
         | inl same ↦ (let both = same.1 in absurd cc)
         | inr other ↦ (other.1, inl other.0)
       ])
-  by_turn (turn_give r d m0 m1 ep eq g et eo up) = giving_in m0 et r d m1 ep eq g eo up
+  by_turn (turn_give r d m0 m1 ep eq g et eo up dk) = giving_in m0 et r d m1 ep eq g eo up
   by_turn (turn_meet r d m0 m1 ep eq g short et eo up dirt) =
       passing m0 et m1 eo up (up_same (eq ∙ sym ep)) (λ a x y la pa. elim (was_active (Active r d) a x y eq la pa) [
         | inl same ↦ (subst (λ (k : ℕ). ph k ≡ Active x y) (sym same.0) (ep ∙ same.1), inr short)
@@ -325,7 +325,7 @@ module _ {n i : ℕ} {ph ph' : ℕ → Phase} {Q Q' : ℕ → List Msg} (t : Has
         | inl same ↦ (subst (λ (k : ℕ). ph k ≡ Active x y) (sym same.0) (ep ∙ same.1), not)
         | inr other ↦ (other.1, not)
       ])
-  by_turn (turn_tie r d m0 ep eq same et eo) =
+  by_turn (turn_tie r d m0 ep eq same whole dy et eo) =
       let rank : Ranks n ph' i (r + 1) 0 = ranks_new (Choosing (r + 1)) (r + 1) 0 eq (refl, refl) in
       dropping m0 et eo (up_to (Active r d) (r + 1) 0 ep rank (λ x y is. inl (omega (arith, is.0))))
       (i, r + 1, 0, rank, inl (omega (arith, same.0)))

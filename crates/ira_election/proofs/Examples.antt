@@ -2,18 +2,22 @@
 use Rattle.std.proofs.Common.{◌≡◌, ℕ, zero, suc, ◌<◌, ◌≤◌, true, false, List, [], ◌∷◌, length, refl, subst, arith}
 use Rattle.std.proofs.Common.{lit≤, lit<}
 use Rattle.std.specs.List.{list_all}
+use Rattle.std.specs.Prelude.{Some, slice_get}
 use Rattle.ira_event.specs.declared.event.Event.{Event}
-use Rattle.ira_event.specs.declared.event.Event.TheVariants.{Sent, Got}
+use Rattle.ira_event.specs.declared.event.Event.TheVariants.{Draw, Sent, Got}
 use Rattle.ira_event.specs.Event.{is_event, is_of_version}
 use Rattle.ira_event.specs.Log.{Log, IsLog}
 use Rattle.ira_event.specs.Logs.{AreLogs, EachLog}
+use Rattle.ira_node.specs.NodeState.{first_state}
 use Rattle.ira_order.specs.Before.{Before, own, message, onward}
 use Rattle.ira_order.specs.Matching.{Matches}
 use Rattle.ira_order.specs.Order.{IsPair}
+use Rattle.ira_order.specs.Ring.{log_of}
 use Rattle.ira_order.proofs.Acyclic.{before_own}
-use Rattle.ira_safety.specs.TwoNodes.{hopped, log_of_two}
-use Rattle.ira_safety.proofs.TwoNodes.{one_may_lead}
+use Rattle.ira_safety.specs.TwoNodes.{hopped, log_of_two, both_elected, elected}
+use Rattle.ira_safety.proofs.TwoNodes.{one_may_lead, two_may_lead_unmatched}
 use Rattle.ira_election.specs.AnOrder.{exchanged, MatchingIsNotEnough}
+use Rattle.ira_election.specs.Draws.{Drew, BothMayLeadUnmatched}
 use Rattle.ira_election.specs.Ending.{LeadsBeforeTheEnd}
 
 pub leads_before_the_end : LeadsBeforeTheEnd
@@ -85,3 +89,20 @@ are_logs =
 pub matching_is_not_enough : MatchingIsNotEnough
 matching_is_not_enough =
     (are_logs, (matches, λ order is. (let before : 1 < 1 = before_own exchanged order is 0 1 1 circle in omega arith)))
+
+-- both draw 1, as their first event
+pub both_may_lead_unmatched : BothMayLeadUnmatched
+both_may_lead_unmatched =
+    let w = two_may_lead_unmatched in
+    (w.0, w.1, w.2, w.3, drew_first 0 refl refl, drew_first 1 refl refl)
+  where
+    drew_first : (i : ℕ) → slice_get both_elected i ≡ Some (log_of_two 1 i true elected)
+        → slice_get (log_of both_elected i) 0 ≡ Some (Draw 1) → Drew both_elected i 1 1 1
+    drew_first i at draws = record {
+      events = 0;
+      state = first_state true;
+      is_in = record { log = log_of_two 1 i true elected; at = at; reached = refl };
+      term_is = refl;
+      chooses = refl;
+      draws = draws;
+    }

@@ -29,12 +29,12 @@ Least p x y = (u : ℕ) × (v : ℕ) × HasRank p u v × IsAtMost x y u v
 -- a rank stays or rises in a turn, or a greater message is received
 rank_on : (n : ℕ) (p q : Phase) (taken put : List Msg) (u v : ℕ) → Turn n p q taken put → HasRank p u v
     → Least q u v ⊎ ((m0 : Msg) × (taken ≡ m0 ∷ []) × IsUnder u v m0.round m0.id)
-rank_on n p q taken put u v (turn_draw r d m1 ep eq et eo er ed eh) h =
+rank_on n p q taken put u v (turn_draw r d m1 ep eq et eo er ed eh cl) h =
     let is : HasRank (Choosing r) u v = subst (λ (k : Phase). HasRank k u v) ep h in
     inl (r, d, subst (λ (k : Phase). HasRank k r d) (sym eq) (refl, refl), inr (is.0, omega (arith, is.1)))
-rank_on n p q taken put u v (turn_pass m0 m1 ep eq et eo up) h =
+rank_on n p q taken put u v (turn_pass m0 m1 ep eq et eo up dk) h =
     absurd (subst (λ (k : Phase). HasRank k u v) ep h)
-rank_on n p q taken put u v (turn_give r d m0 m1 ep eq g et eo up) h =
+rank_on n p q taken put u v (turn_give r d m0 m1 ep eq g et eo up dk) h =
     let is : HasRank (Active r d) u v = subst (λ (k : Phase). HasRank k u v) ep h in
     inr (m0, et, greater g is)
   where
@@ -45,7 +45,7 @@ rank_on n p q taken put u v (turn_meet r d m0 m1 ep eq g short et eo up dirt) h 
     inl (u, v, subst (λ (k : Phase). HasRank k u v) (ep ∙ sym eq) h, at_most_refl u v u v refl refl)
 rank_on n p q taken put u v (turn_purge r d m0 ep eq less et eo) h =
     inl (u, v, subst (λ (k : Phase). HasRank k u v) (ep ∙ sym eq) h, at_most_refl u v u v refl refl)
-rank_on n p q taken put u v (turn_tie r d m0 ep eq same et eo) h =
+rank_on n p q taken put u v (turn_tie r d m0 ep eq same whole dy et eo) h =
     let is : HasRank (Active r d) u v = subst (λ (k : Phase). HasRank k u v) ep h in
     inl (r + 1, 0, subst (λ (k : Phase). HasRank k (r + 1) 0) (sym eq) (refl, refl), inl (omega (arith, is.0)))
 rank_on n p q taken put u v (turn_win r d m0 ep eq g hop c et eo) h =
@@ -269,9 +269,9 @@ module _ {n i : ℕ} {ph ph' : ℕ → Phase} {Q Q' : ℕ → List Msg} (t : Has
   ]
     where
       by_put : Put n (ph i) (ph' i) t.taken m → (a : ℕ) × (a < n) × IsAt n a i m.hop
-      by_put (put_draw r d ep eq er ed eh) =
+      by_put (put_draw r d ep eq er ed eh cl) =
           (i, t.li, subst (λ (g : ℕ). IsAt n i i g) (sym eh) (omega arith, omega (arith, t.two), inl (omega arith)))
-      by_put (put_raise m0 et up ends own nc nl) =
+      by_put (put_raise m0 et up ends own nc nl dk) =
           let o = inv.origins (prev n i) m0 (lp t) (took t m0 et) in (
             o.0,
             o.1,
@@ -324,7 +324,7 @@ module _ {n i : ℕ} {ph ph' : ℕ → Phase} {Q Q' : ℕ → List Msg} (t : Has
     where
       by_put : IsAt n a i m.hop → Put n (ph i) (ph' i) t.taken m
           → IsHeld ph' a m ⊎ HasAhead n ph' a m.hop (IsUnder m.round m.id)
-      by_put here (put_draw r d ep eq er ed eh) =
+      by_put here (put_draw r d ep eq er ed eh cl) =
           let own : a ≡ i = first_hop n a i la t.li (subst (λ (g : ℕ). IsAt n a i g) eh here) in
           inl (record {
             u = r;
@@ -333,7 +333,7 @@ module _ {n i : ℕ} {ph ph' : ℕ → Phase} {Q Q' : ℕ → List Msg} (t : Has
                 (subst (λ (p : Phase). HasRank p r d) (sym eq) (refl, refl));
             most = at_most_refl m.round m.id r d er ed;
           })
-      by_put here (put_raise m0 et up ends own nc nl) = held_raised m m0 et up own nc nl a la here
+      by_put here (put_raise m0 et up ends own nc nl dk) = held_raised m m0 et up own nc nl a la here
 
   fronts' : (j : ℕ) (m : Msg) (a : ℕ) (front behind : List Msg) (g : Msg) → j < n → a < n → Q' j ≡ front ++ m ∷ behind
       → IsAt n a j m.hop → IsInFront n Q' a m.hop front g → IsUnder m.round m.id g.round g.id
@@ -353,7 +353,7 @@ module _ {n i : ℕ} {ph ph' : ℕ → Phase} {Q Q' : ℕ → List Msg} (t : Has
       -- one that was put in front
       by_new : (old : Old t j m front behind) (h : ℕ) → m.hop < h → IsAt n a i h → Put n (ph i) (ph' i) t.taken g
           → HasAhead n ph' a m.hop (IsAtMost g.round g.id)
-      by_new old h low far (put_draw r d ep eq er ed eh) = record {
+      by_new old h low far (put_draw r d ep eq er ed eh cl) = record {
         b = i;
         h = h;
         place = t.li;
@@ -364,7 +364,7 @@ module _ {n i : ℕ} {ph ph' : ℕ → Phase} {Q Q' : ℕ → List Msg} (t : Has
         rank = subst (λ (p : Phase). HasRank p r d) (sym eq) (refl, refl);
         such = at_most_refl g.round g.id r d er ed;
       }
-      by_new old h low far (put_raise m0 et up ends own nc nl) =
+      by_new old h low far (put_raise m0 et up ends own nc nl dk) =
           let same : IsAtMost g.round g.id m0.round m0.id = at_most_refl g.round g.id m0.round m0.id up.round up.id in
           let s = by_both old m0
           (in_front j a (h - 1) m m0 front behind old lj la at et (before_at a h m.hop la at.0 far low) (omega arith))
@@ -383,9 +383,9 @@ module _ {n i : ℕ} {ph ph' : ℕ → Phase} {Q Q' : ℕ → List Msg} (t : Has
 
       by_put : IsAt n a i m.hop → ((o : Msg) → Has front o → Has (Q i) o) → Put n (ph i) (ph' i) t.taken m
           → HasAhead n ph' a m.hop (IsAtMost g.round g.id)
-      by_put here were (put_raise m0 et up ends own nc nl) =
+      by_put here were (put_raise m0 et up ends own nc nl dk) =
           fronts_raised m m0 et up own nc nl a front g la here were ahead under
-      by_put here were (put_draw r d ep eq er ed eh) =
+      by_put here were (put_draw r d ep eq er ed eh cl) =
           let own : a ≡ i = first_hop n a i la t.li (subst (λ (g : ℕ). IsAt n a i g) eh here) in
           let w : IsReached n ph' g.round g.id = elim ahead [
             | inl f ↦ base'.reached i g t.li (subst (λ (ks : List Msg). Has ks g) (sym t.moves.puts)

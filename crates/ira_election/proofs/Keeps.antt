@@ -158,17 +158,17 @@ module _ (n i term : ℕ) (two : 2 ≤ n) (e : Event) (c d : Configuration) (ste
       (term_is (d.state i) _ et ∙ sym (term_is (c.state i) _ es)) (λ at.
       turn_draw round id (first_message round id) at.old at.new (takes_none (ap receipt ee))
       (puts_one (Choosing round) (Active round id) (first_message round id) at (owed_is
-      (d.state i) _ et)) refl refl refl)
+      (d.state i) _ et)) refl refl refl refl)
   turn_by (passes t m es ee h et) =
       turn_or Passive Passive (phase_is (c.state i) _ es) (phase_is (d.state i) _ et) refl
       (term_is (d.state i) _ et ∙ sym (term_is (c.state i) _ es)) (λ at.
       turn_pass m (raised m) at.old at.new (takes_one Passive Passive m at (ap receipt ee))
-      (puts_one Passive Passive (raised m) at (owed_is (d.state i) _ et)) (raises m))
+      (puts_one Passive Passive (raised m) at (owed_is (d.state i) _ et)) (raises m) (λ e. e))
   turn_by (gives_in t round id m es ee g h et) =
       turn_or (Active round id) Passive (phase_is (c.state i) _ es) (phase_is (d.state i) _ et) refl
       (term_is (d.state i) _ et ∙ sym (term_is (c.state i) _ es)) (λ at.
       turn_give round id m (raised m) at.old at.new g (takes_one (Active round id) Passive m at (ap receipt ee))
-      (puts_one (Active round id) Passive (raised m) at (owed_is (d.state i) _ et)) (raises m))
+      (puts_one (Active round id) Passive (raised m) at (owed_is (d.state i) _ et)) (raises m) (λ e. e))
   turn_by (purges t round id m es ee g et) =
       turn_or (Active round id) (Active round id) (phase_is (c.state i) _ es)
       (phase_is (d.state i) _ et ∙ phase_is (c.state i) _ es) refl (term_is (d.state i) _ et) (λ at.
@@ -183,7 +183,7 @@ module _ (n i term : ℕ) (two : 2 ≤ n) (e : Event) (c d : Configuration) (ste
   turn_by (ties t round id m es ee g h k j et) =
       turn_or (Active round id) (Choosing (round + 1)) (phase_is (c.state i) _ es) (phase_is (d.state i) _ et) refl
       (term_is (d.state i) _ et ∙ sym (term_is (c.state i) _ es)) (λ at.
-      turn_tie round id m at.old at.new g (takes_one (Active round id) (Choosing (round + 1)) m at (ap receipt ee))
+      turn_tie round id m at.old at.new g h k (takes_one (Active round id) (Choosing (round + 1)) m at (ap receipt ee))
       (puts_none (owed_is (d.state i) _ et)))
   turn_by (wins t round id m es ee g h k et) =
       turn_or (Active round id) (Leader round id) (phase_is (c.state i) _ es) (phase_is (d.state i) _ et) refl
@@ -232,7 +232,7 @@ module _ (n i term : ℕ) (two : 2 ≤ n) (e : Event) (c d : Configuration) (ste
       (moves n two i step.place c d step.others e step (sound.settled i step.place))
       (step_terms n (c.state i) e (d.state i) step.node).0 term
 
-  seen : HasTurn n i P P' (messages_of n term c) (messages_of n term d)
+  pub seen : HasTurn n i P P' (messages_of n term c) (messages_of n term d)
       ⊎ IsUnseen n P P' (messages_of n term c) (messages_of n term d)
   seen = elim (turn_by step.node) [
     | inr turn ↦ inl (record {

@@ -5,6 +5,8 @@ pub mod Alive
 pub mod Orderly
 pub mod Guards
 pub mod Queues
+pub mod Drawn
+pub mod Onwards
 pub mod Keeps
 pub mod Past
 pub mod Beginning
@@ -14,5 +16,13 @@ pub mod Loads
 pub mod Going
 pub mod AnOrder
 pub mod Cuts
+pub mod Draws
+pub mod Decided
+pub mod InOrder
+pub mod Ways
+pub mod Rounds
+pub mod Tables
+pub mod FirstTerm
+pub mod History
 pub mod Onward
 pub mod Examples

@@ -58,8 +58,8 @@ module _ {n i : ℕ} {ph ph' : ℕ → Phase} {Q Q' : ℕ → List Msg} (t : Has
   ]
     where
       by_put : IsAt n a i m.hop → Put n (ph i) (ph' i) t.taken m → ph' b ≡ Passive
-      by_put here (put_draw r d ep eq er ed eh) = absurd (omega arith)
-      by_put here (put_raise m0 et up ends own nc nl) = elim (cases_eq a i) [
+      by_put here (put_draw r d ep eq er ed eh cl) = absurd (omega arith)
+      by_put here (put_raise m0 et up ends own nc nl dk) = elim (cases_eq a i) [
         | inl e ↦ absurd (omega (arith, own_hop n i m.hop (subst (λ (k : ℕ). IsAt n k i m.hop) e here)))
         | inr ne ↦
             let before : IsAt n a (prev n i) m0.hop =
@@ -102,13 +102,13 @@ module _ {n i : ℕ} {ph ph' : ℕ → Phase} {Q Q' : ℕ → List Msg} (t : Has
       ]
 
       by_put : Put n (ph i) (ph' i) t.taken m → HasOrigin n ph' i m x y
-      by_put (put_draw r d ep eq er ed eh) = record {
+      by_put (put_draw r d ep eq er ed eh cl) = record {
         b = i;
         place = t.li;
         at = subst (λ (g : ℕ). IsAt n i i g) (sym eh) (omega arith, omega arith, inl (omega arith));
         has = inl (eq ∙ ap (λ (u : ℕ). Active u d) (sym er ∙ mr) ∙ ap (λ (u : ℕ). Active x u) (sym ed ∙ mi));
       }
-      by_put (put_raise m0 et up ends own nc nl) =
+      by_put (put_raise m0 et up ends own nc nl dk) =
           let o = inv.origins (prev n i) m0 x y (lp t) (took t m0 et) (sym up.round ∙ mr) (sym up.id
           ∙ mi) (lower x y top) in
           let ne : o.b ≢ i = λ e. elim o.has [
@@ -138,7 +138,7 @@ module _ {n i : ℕ} {ph ph' : ℕ → Phase} {Q Q' : ℕ → List Msg} (t : Has
       later ne = later_hop n a i h la t.li ne far
 
       by_put : Put n (ph i) (ph' i) t.taken o → IsForeign n a x y i o
-      by_put (put_draw r d ep eq er ed eh) = absurd (elim (cases_eq a i) [
+      by_put (put_draw r d ep eq er ed eh cl) = absurd (elim (cases_eq a i) [
         | inl e ↦
             let z : Choosing r ≡ Active x y = sym ep ∙ subst (λ (k : ℕ). ph k ≡ Active x y) e pa in
             (let w : ⊥ = cc in w)
@@ -147,7 +147,7 @@ module _ {n i : ℕ} {ph ph' : ℕ → Phase} {Q Q' : ℕ → List Msg} (t : Has
           | inr p ↦ (let z : Choosing r ≡ Active x y = sym ep ∙ p in let w : ⊥ = cc in w)
         ]
       ])
-      by_put (put_raise m0 et up ends own nc nl) = elim (cases_eq a i) [
+      by_put (put_raise m0 et up ends own nc nl dk) = elim (cases_eq a i) [
         | inl e ↦ elim (own x y (subst (λ (k : ℕ). ph k ≡ Active x y) e pa)) [
           | inl g ↦ absurd (no_greater x y top m0 et g)
           | inr s ↦ (
@@ -269,12 +269,12 @@ module _ {n i : ℕ} {ph ph' : ℕ → Phase} {Q Q' : ℕ → List Msg} (t : Has
 
       by_put : ph a ≡ Active x y → j ≡ i → behind ≡ [] → Put n (ph i) (ph' i) t.taken m
           → IsAhead n ph' Q' a x y j m behind
-      by_put was same none (put_draw r d ep eq er ed eh) =
+      by_put was same none (put_draw r d ep eq er ed eh cl) =
           let here : IsAt n a i 1 = subst (λ (k : ℕ). IsAt n a k 1) same (subst (λ (g : ℕ). IsAt n a j g) eh at) in
           let own : a ≡ i = first_hop n a i la t.li here in
           let z : Choosing r ≡ Active x y = sym ep ∙ subst (λ (k : ℕ). ph k ≡ Active x y) own was in
           absurd (let w : ⊥ = cc in w)
-      by_put was same none (put_raise m0 et up ends own nc nl) =
+      by_put was same none (put_raise m0 et up ends own nc nl dk) =
           let here : IsAt n a i (m0.hop + 1) =
           subst (λ (g : ℕ). IsAt n a i g) up.hop (subst (λ (k : ℕ). IsAt n a k m.hop) same at) in
           let mr0 : m0.round ≡ x = sym up.round ∙ mr in

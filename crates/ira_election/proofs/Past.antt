@@ -338,7 +338,7 @@ module _ (n i term : ℕ) (two : 2 ≤ n) (e : Event) (c d : Configuration) (ste
                 ];
               }
 
-      stays_past : IsPast n term y d
+      pub stays_past : IsPast n term y d
       stays_past = record {
         place = past.place;
         own = still_on Yielding (inr refl) y past.place past.own;
@@ -446,7 +446,7 @@ module _ (n i term : ℕ) (two : 2 ≤ n) (e : Event) (c d : Configuration) (ste
           stays_on : ((d.state i).term ≡ term → yielding (d.state i).phase ≡ 0) → IsOn n term d
           stays_on none = keeps_on n i term two e c d step sound (stays_within none) on
 
-    on_or_past : IsOnOrPast n term c → IsOnOrPast n term d
+    pub on_or_past : IsOnOrPast n term c → IsOnOrPast n term d
     on_or_past (inl on) = goes_on_or_past on
     on_or_past (inr past) = inr (past.0, stays_past past.0 past.1)
 

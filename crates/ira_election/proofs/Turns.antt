@@ -167,17 +167,17 @@ pub record IsRaised (m0 m1 : Msg) : Type 0 where
 -- what a node in phase p does that is in phase q then: what it receives, and what it comes to owe
 pub data Turn (n : ℕ) (p q : Phase) (taken put : List Msg) : Type 0 where
   turn_draw : (r d : ℕ) (m1 : Msg) → p ≡ Choosing r → q ≡ Active r d → taken ≡ [] → put ≡ m1 ∷ [] → m1.round ≡ r
-      → m1.id ≡ d → m1.hop ≡ 1 → Turn n p q taken put
+      → m1.id ≡ d → m1.hop ≡ 1 → m1.dirty ≡ false → Turn n p q taken put
   turn_pass : (m0 m1 : Msg) → p ≡ Passive → q ≡ Passive → taken ≡ m0 ∷ [] → put ≡ m1 ∷ [] → IsRaised m0 m1
-      → Turn n p q taken put
+      → (m1.dirty ≡ true → m0.dirty ≡ true) → Turn n p q taken put
   turn_give : (r d : ℕ) (m0 m1 : Msg) → p ≡ Active r d → q ≡ Passive → IsGreater m0 r d → taken ≡ m0 ∷ []
-      → put ≡ m1 ∷ [] → IsRaised m0 m1 → Turn n p q taken put
+      → put ≡ m1 ∷ [] → IsRaised m0 m1 → (m1.dirty ≡ true → m0.dirty ≡ true) → Turn n p q taken put
   turn_meet : (r d : ℕ) (m0 m1 : Msg) → p ≡ Active r d → q ≡ Active r d → IsEqual m0 r d → m0.hop < n → taken ≡ m0 ∷ []
       → put ≡ m1 ∷ [] → IsRaised m0 m1 → m1.dirty ≡ true → Turn n p q taken put
   turn_purge : (r d : ℕ) (m0 : Msg) → p ≡ Active r d → q ≡ Active r d → IsLess m0 r d → taken ≡ m0 ∷ [] → put ≡ []
       → Turn n p q taken put
-  turn_tie : (r d : ℕ) (m0 : Msg) → p ≡ Active r d → q ≡ Choosing (r + 1) → IsEqual m0 r d → taken ≡ m0 ∷ []
-      → put ≡ [] → Turn n p q taken put
+  turn_tie : (r d : ℕ) (m0 : Msg) → p ≡ Active r d → q ≡ Choosing (r + 1) → IsEqual m0 r d → m0.hop ≡ n
+      → m0.dirty ≡ true → taken ≡ m0 ∷ [] → put ≡ [] → Turn n p q taken put
   turn_win : (r d : ℕ) (m0 : Msg) → p ≡ Active r d → q ≡ Leader r d → IsEqual m0 r d → m0.hop ≡ n → m0.dirty ≡ false
       → taken ≡ m0 ∷ [] → put ≡ [] → Turn n p q taken put
 
@@ -205,23 +205,25 @@ pub record IsUnseen (n : ℕ) (ph ph' : ℕ → Phase) (Q Q' : ℕ → List Msg)
 -- a message that is put is drawn, or was taken one hop before
 pub data Put (n : ℕ) (p q : Phase) (taken : List Msg) (m1 : Msg) : Type 0 where
   put_draw : (r d : ℕ) → p ≡ Choosing r → q ≡ Active r d → m1.round ≡ r → m1.id ≡ d → m1.hop ≡ 1
-      → Put n p q taken m1
+      → m1.dirty ≡ false → Put n p q taken m1
   put_raise : (m0 : Msg) → taken ≡ m0 ∷ [] → IsRaised m0 m1
       → ((q ≡ Passive) ⊎ ((q ≡ Active m1.round m1.id) × (m1.dirty ≡ true)))
       → ((x y : ℕ) → p ≡ Active x y → IsGreater m0 x y ⊎ (IsEqual m0 x y × (m0.hop < n)))
-      → ((r : ℕ) → p ≡ Choosing r → ⊥) → ((x y : ℕ) → p ≡ Leader x y → ⊥) → Put n p q taken m1
+      → ((r : ℕ) → p ≡ Choosing r → ⊥) → ((x y : ℕ) → p ≡ Leader x y → ⊥)
+      → (m1.dirty ≡ true → (m0.dirty ≡ true) ⊎ (q ≡ Active m1.round m1.id)) → Put n p q taken m1
 
 pub put_of : (n : ℕ) (p q : Phase) (taken put : List Msg) (k : Msg) → Turn n p q taken put → Has put k
     → Put n p q taken k
-put_of n p q taken put k (turn_draw r d m1 ep eq et eo er ed eh) h =
+put_of n p q taken put k (turn_draw r d m1 ep eq et eo er ed eh cl) h =
     let same = one_of m1 k put eo h in
     put_draw r d ep eq (ap (λ (x : Msg). x.round) same ∙ er) (ap (λ (x : Msg). x.id) same ∙ ed)
-    (ap (λ (x : Msg). x.hop) same ∙ eh)
-put_of n p q taken put k (turn_pass m0 m1 ep eq et eo up) h =
+    (ap (λ (x : Msg). x.hop) same ∙ eh) (ap (λ (x : Msg). x.dirty) same ∙ cl)
+put_of n p q taken put k (turn_pass m0 m1 ep eq et eo up dk) h =
     let same = one_of m1 k put eo h in
     put_raise m0 et (subst (λ (x : Msg). IsRaised m0 x) (sym same) up) (inl eq)
     (λ x y e. (let z = sym ep ∙ e in cc)) (λ r e. (let z = sym ep ∙ e in cc)) (λ x y e. (let z = sym ep ∙ e in cc))
-put_of n p q taken put k (turn_give r d m0 m1 ep eq g et eo up) h =
+    (λ e. inl (dk (sym (ap (λ (x : Msg). x.dirty) same) ∙ e)))
+put_of n p q taken put k (turn_give r d m0 m1 ep eq g et eo up dk) h =
     let same = one_of m1 k put eo h in
     put_raise m0 et (subst (λ (x : Msg). IsRaised m0 x) (sym same) up) (inl eq)
     (λ x y e.
@@ -230,14 +232,16 @@ put_of n p q taken put k (turn_give r d m0 m1 ep eq g et eo up) h =
     let dy : d ≡ y = cc in
     inl (subst (λ (u : ℕ). IsGreater m0 u y) rx (subst (λ (u : ℕ). IsGreater m0 r u) dy g))))
     (λ r e. (let z = sym ep ∙ e in cc)) (λ x y e. (let z = sym ep ∙ e in cc))
+    (λ e. inl (dk (sym (ap (λ (x : Msg). x.dirty) same) ∙ e)))
 put_of n p q taken put k (turn_meet r d m0 m1 ep eq g short et eo up dirt) h =
     let same = one_of m1 k put eo h in
+    let a : m1.round ≡ r = up.round ∙ g.0 in
+    let b : m1.id ≡ d = up.id ∙ g.1 in
+    let now : q ≡ Active k.round k.id = eq ∙ ap (λ (u : ℕ). Active u d) (sym (ap (λ (x : Msg). x.round) same ∙ a))
+    ∙ ap (λ (u : ℕ). Active k.round u) (sym (ap (λ (x : Msg). x.id) same ∙ b)) in
     put_raise m0 et (subst (λ (x : Msg). IsRaised m0 x) (sym same) up)
     (inr (
-      (let a : m1.round ≡ r = up.round ∙ g.0 in
-          let b : m1.id ≡ d = up.id ∙ g.1 in
-          eq ∙ ap (λ (u : ℕ). Active u d) (sym (ap (λ (x : Msg). x.round) same ∙ a))
-          ∙ ap (λ (u : ℕ). Active k.round u) (sym (ap (λ (x : Msg). x.id) same ∙ b))),
+      now,
       ap (λ (x : Msg). x.dirty) same ∙ dirt,
     ))
     (λ x y e.
@@ -246,48 +250,49 @@ put_of n p q taken put k (turn_meet r d m0 m1 ep eq g short et eo up dirt) h =
     let dy : d ≡ y = cc in
     inr ((g.0 ∙ rx, g.1 ∙ dy), short)))
     (λ r e. (let z = sym ep ∙ e in cc)) (λ x y e. (let z = sym ep ∙ e in cc))
+    (λ e. inr now)
 put_of n p q taken put k (turn_purge r d m0 ep eq g et eo) h = absurd (none_of k put eo h)
-put_of n p q taken put k (turn_tie r d m0 ep eq g et eo) h = absurd (none_of k put eo h)
+put_of n p q taken put k (turn_tie r d m0 ep eq g whole dy et eo) h = absurd (none_of k put eo h)
 put_of n p q taken put k (turn_win r d m0 ep eq g hop c et eo) h = absurd (none_of k put eo h)
 
 pub few : (n : ℕ) (p q : Phase) (taken put : List Msg) → Turn n p q taken put → length put ≤ 1
-few n p q taken put (turn_draw r d m1 ep eq et eo er ed eh) = omega (arith, ap length eo)
-few n p q taken put (turn_pass m0 m1 ep eq et eo up) = omega (arith, ap length eo)
-few n p q taken put (turn_give r d m0 m1 ep eq g et eo up) = omega (arith, ap length eo)
+few n p q taken put (turn_draw r d m1 ep eq et eo er ed eh cl) = omega (arith, ap length eo)
+few n p q taken put (turn_pass m0 m1 ep eq et eo up dk) = omega (arith, ap length eo)
+few n p q taken put (turn_give r d m0 m1 ep eq g et eo up dk) = omega (arith, ap length eo)
 few n p q taken put (turn_meet r d m0 m1 ep eq g short et eo up dirt) = omega (arith, ap length eo)
 few n p q taken put (turn_purge r d m0 ep eq g et eo) = omega (arith, ap length eo)
-few n p q taken put (turn_tie r d m0 ep eq g et eo) = omega (arith, ap length eo)
+few n p q taken put (turn_tie r d m0 ep eq g whole dy et eo) = omega (arith, ap length eo)
 few n p q taken put (turn_win r d m0 ep eq g hop c et eo) = omega (arith, ap length eo)
 
 -- no leader has a turn
 pub not_leader : (n : ℕ) (p q : Phase) (taken put : List Msg) (x y : ℕ) → Turn n p q taken put → p ≡ Leader x y → ⊥
-not_leader n p q taken put x y (turn_draw r d m1 ep eq et eo er ed eh) e = (let z = sym ep ∙ e in cc)
-not_leader n p q taken put x y (turn_pass m0 m1 ep eq et eo up) e = (let z = sym ep ∙ e in cc)
-not_leader n p q taken put x y (turn_give r d m0 m1 ep eq g et eo up) e = (let z = sym ep ∙ e in cc)
+not_leader n p q taken put x y (turn_draw r d m1 ep eq et eo er ed eh cl) e = (let z = sym ep ∙ e in cc)
+not_leader n p q taken put x y (turn_pass m0 m1 ep eq et eo up dk) e = (let z = sym ep ∙ e in cc)
+not_leader n p q taken put x y (turn_give r d m0 m1 ep eq g et eo up dk) e = (let z = sym ep ∙ e in cc)
 not_leader n p q taken put x y (turn_meet r d m0 m1 ep eq g short et eo up dirt) e = (let z = sym ep ∙ e in cc)
 not_leader n p q taken put x y (turn_purge r d m0 ep eq g et eo) e = (let z = sym ep ∙ e in cc)
-not_leader n p q taken put x y (turn_tie r d m0 ep eq g et eo) e = (let z = sym ep ∙ e in cc)
+not_leader n p q taken put x y (turn_tie r d m0 ep eq g whole dy et eo) e = (let z = sym ep ∙ e in cc)
 not_leader n p q taken put x y (turn_win r d m0 ep eq g hop c et eo) e = (let z = sym ep ∙ e in cc)
 
 -- who is passive stays so
 pub stays_passive : (n : ℕ) (p q : Phase) (taken put : List Msg) → Turn n p q taken put → p ≡ Passive → q ≡ Passive
-stays_passive n p q taken put (turn_draw r d m1 ep eq et eo er ed eh) e = (let z = sym ep ∙ e in cc)
-stays_passive n p q taken put (turn_pass m0 m1 ep eq et eo up) e = eq
-stays_passive n p q taken put (turn_give r d m0 m1 ep eq g et eo up) e = eq
+stays_passive n p q taken put (turn_draw r d m1 ep eq et eo er ed eh cl) e = (let z = sym ep ∙ e in cc)
+stays_passive n p q taken put (turn_pass m0 m1 ep eq et eo up dk) e = eq
+stays_passive n p q taken put (turn_give r d m0 m1 ep eq g et eo up dk) e = eq
 stays_passive n p q taken put (turn_meet r d m0 m1 ep eq g short et eo up dirt) e = (let z = sym ep ∙ e in cc)
 stays_passive n p q taken put (turn_purge r d m0 ep eq g et eo) e = (let z = sym ep ∙ e in cc)
-stays_passive n p q taken put (turn_tie r d m0 ep eq g et eo) e = (let z = sym ep ∙ e in cc)
+stays_passive n p q taken put (turn_tie r d m0 ep eq g whole dy et eo) e = (let z = sym ep ∙ e in cc)
 stays_passive n p q taken put (turn_win r d m0 ep eq g hop c et eo) e = (let z = sym ep ∙ e in cc)
 
 -- who chooses takes nothing, and who takes something doesn't choose
 pub takes_or_chooses : (n : ℕ) (p q : Phase) (taken put : List Msg) → Turn n p q taken put
     → ((m0 : Msg) × (taken ≡ m0 ∷ [])) ⊎ ((r : ℕ) × (p ≡ Choosing r))
-takes_or_chooses n p q taken put (turn_draw r d m1 ep eq et eo er ed eh) = inr (r, ep)
-takes_or_chooses n p q taken put (turn_pass m0 m1 ep eq et eo up) = inl (m0, et)
-takes_or_chooses n p q taken put (turn_give r d m0 m1 ep eq g et eo up) = inl (m0, et)
+takes_or_chooses n p q taken put (turn_draw r d m1 ep eq et eo er ed eh cl) = inr (r, ep)
+takes_or_chooses n p q taken put (turn_pass m0 m1 ep eq et eo up dk) = inl (m0, et)
+takes_or_chooses n p q taken put (turn_give r d m0 m1 ep eq g et eo up dk) = inl (m0, et)
 takes_or_chooses n p q taken put (turn_meet r d m0 m1 ep eq g short et eo up dirt) = inl (m0, et)
 takes_or_chooses n p q taken put (turn_purge r d m0 ep eq g et eo) = inl (m0, et)
-takes_or_chooses n p q taken put (turn_tie r d m0 ep eq g et eo) = inl (m0, et)
+takes_or_chooses n p q taken put (turn_tie r d m0 ep eq g whole dy et eo) = inl (m0, et)
 takes_or_chooses n p q taken put (turn_win r d m0 ep eq g hop c et eo) = inl (m0, et)
 
 -- how a node came to lead
@@ -302,12 +307,12 @@ pub record Win (n : ℕ) (p : Phase) (taken put : List Msg) (x y : ℕ) : Type 0
 
 pub win_of : (n : ℕ) (p q : Phase) (taken put : List Msg) (x y : ℕ) → Turn n p q taken put → q ≡ Leader x y
     → Win n p taken put x y
-win_of n p q taken put x y (turn_draw r d m1 ep eq et eo er ed eh) e = (let z = sym eq ∙ e in absurd cc)
-win_of n p q taken put x y (turn_pass m0 m1 ep eq et eo up) e = (let z = sym eq ∙ e in absurd cc)
-win_of n p q taken put x y (turn_give r d m0 m1 ep eq g et eo up) e = (let z = sym eq ∙ e in absurd cc)
+win_of n p q taken put x y (turn_draw r d m1 ep eq et eo er ed eh cl) e = (let z = sym eq ∙ e in absurd cc)
+win_of n p q taken put x y (turn_pass m0 m1 ep eq et eo up dk) e = (let z = sym eq ∙ e in absurd cc)
+win_of n p q taken put x y (turn_give r d m0 m1 ep eq g et eo up dk) e = (let z = sym eq ∙ e in absurd cc)
 win_of n p q taken put x y (turn_meet r d m0 m1 ep eq g short et eo up dirt) e = (let z = sym eq ∙ e in absurd cc)
 win_of n p q taken put x y (turn_purge r d m0 ep eq g et eo) e = (let z = sym eq ∙ e in absurd cc)
-win_of n p q taken put x y (turn_tie r d m0 ep eq g et eo) e = (let z = sym eq ∙ e in absurd cc)
+win_of n p q taken put x y (turn_tie r d m0 ep eq g whole dy et eo) e = (let z = sym eq ∙ e in absurd cc)
 win_of n p q taken put x y (turn_win r d m0 ep eq g hop c et eo) e =
     let z : Leader r d ≡ Leader x y = sym eq ∙ e in
     let rx : r ≡ x = cc in
@@ -325,15 +330,15 @@ win_of n p q taken put x y (turn_win r d m0 ep eq g hop c et eo) e =
 -- a node that is active now was so, or has drawn
 pub active_of : (n : ℕ) (p q : Phase) (taken put : List Msg) (x y : ℕ) → Turn n p q taken put → q ≡ Active x y
     → (p ≡ Active x y) ⊎ ((p ≡ Choosing x) × ((m : Msg) → Has put m → m.hop ≡ 1))
-active_of n p q taken put x y (turn_draw r d m1 ep eq et eo er ed eh) e =
+active_of n p q taken put x y (turn_draw r d m1 ep eq et eo er ed eh cl) e =
     let z : Active r d ≡ Active x y = sym eq ∙ e in
     let rx : r ≡ x = cc in
     inr (ep ∙ ap Choosing rx, λ m h. ap (λ (k : Msg). k.hop) (one_of m1 m put eo h) ∙ eh)
-active_of n p q taken put x y (turn_pass m0 m1 ep eq et eo up) e = (let z = sym eq ∙ e in absurd cc)
-active_of n p q taken put x y (turn_give r d m0 m1 ep eq g et eo up) e = (let z = sym eq ∙ e in absurd cc)
+active_of n p q taken put x y (turn_pass m0 m1 ep eq et eo up dk) e = (let z = sym eq ∙ e in absurd cc)
+active_of n p q taken put x y (turn_give r d m0 m1 ep eq g et eo up dk) e = (let z = sym eq ∙ e in absurd cc)
 active_of n p q taken put x y (turn_meet r d m0 m1 ep eq g short et eo up dirt) e = inl (ep ∙ sym eq ∙ e)
 active_of n p q taken put x y (turn_purge r d m0 ep eq g et eo) e = inl (ep ∙ sym eq ∙ e)
-active_of n p q taken put x y (turn_tie r d m0 ep eq g et eo) e = (let z = sym eq ∙ e in absurd cc)
+active_of n p q taken put x y (turn_tie r d m0 ep eq g whole dy et eo) e = (let z = sym eq ∙ e in absurd cc)
 active_of n p q taken put x y (turn_win r d m0 ep eq g hop c et eo) e = (let z = sym eq ∙ e in absurd cc)
 
 -- what a node with this pair comes to: it keeps it, or leads with it, where it receives no greater one, and isn't in
@@ -342,17 +347,17 @@ active_of n p q taken put x y (turn_win r d m0 ep eq g hop c et eo) e = (let z =
 pub next_of : (n : ℕ) (p q : Phase) (taken put : List Msg) (x y : ℕ) → Turn n p q taken put → p ≡ Active x y
     → ((m0 : Msg) → taken ≡ m0 ∷ [] → IsGreater m0 x y → ⊥) → (q ≡ Choosing (x + 1) → ⊥)
     → (q ≡ Active x y) ⊎ (q ≡ Leader x y)
-next_of n p q taken put x y (turn_draw r d m1 ep eq et eo er ed eh) e no_more no_next = (let z = sym ep
+next_of n p q taken put x y (turn_draw r d m1 ep eq et eo er ed eh cl) e no_more no_next = (let z = sym ep
     ∙ e in absurd cc)
-next_of n p q taken put x y (turn_pass m0 m1 ep eq et eo up) e no_more no_next = (let z = sym ep ∙ e in absurd cc)
-next_of n p q taken put x y (turn_give r d m0 m1 ep eq g et eo up) e no_more no_next =
+next_of n p q taken put x y (turn_pass m0 m1 ep eq et eo up dk) e no_more no_next = (let z = sym ep ∙ e in absurd cc)
+next_of n p q taken put x y (turn_give r d m0 m1 ep eq g et eo up dk) e no_more no_next =
     let z : Active r d ≡ Active x y = sym ep ∙ e in
     let rx : r ≡ x = cc in
     let dy : d ≡ y = cc in
     absurd (no_more m0 et (subst (λ (u : ℕ). IsGreater m0 u y) rx (subst (λ (u : ℕ). IsGreater m0 r u) dy g)))
 next_of n p q taken put x y (turn_meet r d m0 m1 ep eq g short et eo up dirt) e no_more no_next = inl (eq ∙ sym ep ∙ e)
 next_of n p q taken put x y (turn_purge r d m0 ep eq g et eo) e no_more no_next = inl (eq ∙ sym ep ∙ e)
-next_of n p q taken put x y (turn_tie r d m0 ep eq g et eo) e no_more no_next =
+next_of n p q taken put x y (turn_tie r d m0 ep eq g whole dy et eo) e no_more no_next =
     let z : Active r d ≡ Active x y = sym ep ∙ e in
     let rx : r ≡ x = cc in
     absurd (no_next (eq ∙ ap (λ (u : ℕ). Choosing (u + 1)) rx))

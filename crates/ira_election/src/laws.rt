@@ -1,4 +1,11 @@
 ghost use Rattle.ira_election.specs.AnOrder.{LocalRunsHaveAnOrder, CirclesHaveAFault, MatchingIsNotEnough};
+ghost use Rattle.ira_election.specs.Draws.{AllTheGreatestGoOn, AllWhoStartDraw, BothMayLeadUnmatched};
+ghost use Rattle.ira_election.specs.Draws.{DrawsDecide, FirstTermInOrder, NobodyDrawsLate};
+ghost use Rattle.ira_election.specs.Draws.{OneDrawInARound, OnlyWhoStartDraw, RoundsCountFromOne, TheGreatestGoOn};
+ghost use Rattle.ira_election.specs.Draws.{TheGreatestAreStillIn, TheGreatestLeads};
+ghost use Rattle.ira_election.specs.Rounds.{FewElectNobody};
+ghost use Rattle.ira_election.specs.Tables.{ElectedIsSomebody, FirstLeadersAreElected, LeadersAreElected, TablesElectOne};
+ghost use Rattle.ira_election.specs.Ways.{AtLeastHalfElect, HalfIsSharp, WaysToDraw, WaysToElect};
 ghost use Rattle.ira_election.specs.Ending.{LeadersEndElections, ElectionsEndAtCuts, LeadsBeforeTheEnd};
 ghost use Rattle.ira_election.specs.GoingOn.{LoadsHaveSteps, LoadsAtCutsHaveSteps, RunsGoOn};
 ghost use Rattle.ira_election.specs.StandingStill.{NoRunStandsStill, NoCutStandsStill, StillWithoutInitiators};
@@ -41,4 +48,48 @@ pub fn local_runs_have_an_order()
 
     // Logs that match may have none.
     ensures needed { MatchingIsNotEnough }
+{}
+
+/// A law: who leads is decided by what the nodes draw, and not by the order in which messages come. In logs
+/// that match, and all of whose events have steps, those draw in the first round of a term who begin to
+/// choose in it, and in each next one those who drew the greatest ID of the one before; who leads drew
+/// the greatest alone. So logs of which the same nodes begin and draw the same have one leader.
+pub fn draws_decide()
+    ensures decide { DrawsDecide }
+    ensures start { OnlyWhoStartDraw }
+    ensures all_start { AllWhoStartDraw }
+    ensures from_one { RoundsCountFromOne }
+    ensures one { OneDrawInARound }
+    ensures go_on { TheGreatestGoOn }
+    ensures all_go_on { AllTheGreatestGoOn }
+    ensures leads { TheGreatestLeads }
+    ensures late { NobodyDrawsLate }
+    ensures still_in { TheGreatestAreStillIn }
+    ensures in_order { FirstTermInOrder }
+
+    // Of logs that don't match two nodes may lead with the same draw.
+    ensures needed { BothMayLeadUnmatched }
+{}
+
+/// A law: of the n^k ways in which k nodes may draw IDs of 1 to n just k (0^(k-1) + 1^(k-1) + .. + (n-1)^(k-1)) have
+/// one greatest, and those are at least half, where k is at most n.
+pub fn half_of_the_draws_elect()
+    ensures ways { WaysToDraw }
+    ensures elect { WaysToElect }
+    ensures half { AtLeastHalfElect }
+    ensures sharp { HalfIsSharp }
+
+    // So of all tables of so many rounds at most one in 2^rounds elects nobody.
+    ensures rounds { FewElectNobody }
+{}
+
+/// A law: who leads is whom the draws of its term elect, as a table with a row for each round, whatever the table
+/// says of those who don't draw. So that can be told before anything runs: a table elects one node at most.
+pub fn tables_elect_leaders()
+    ensures leaders { LeadersAreElected }
+    ensures first { FirstLeadersAreElected }
+    ensures one { TablesElectOne }
+
+    // And those that elect some node are not among those that elect nobody.
+    ensures somebody { ElectedIsSomebody }
 {}

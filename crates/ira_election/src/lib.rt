@@ -3,4 +3,7 @@
 
 mod laws;
 
-pub use laws::{leaders_end_elections, local_runs_have_an_order, no_ring_stands_still, runs_go_on};
+pub use laws::{
+    draws_decide, half_of_the_draws_elect, leaders_end_elections, local_runs_have_an_order,
+    no_ring_stands_still, runs_go_on, tables_elect_leaders,
+};

@@ -57,6 +57,7 @@ module _ {S : Type 0} (writes : Writing S) (reply : Reply) (out out' : SinkState
   text_kept name file (logs_of logs) old new status named other is told wrote =
       printed (λ f t one. let m = one.made in cc) wrote.0 told
   text_kept name file (one_text text) old new status named other is (Err show.Write, took, end) wrote = absurd cc
+  text_kept name file (one_text text) old new status named other is (Err show.WrongColumns, took, end) wrote = absurd cc
   text_kept name file (one_text text) old new status named other is (Err show.OutOfMemory, took, end) wrote = absurd cc
 
   pub text_unkept : (name : Option (Bor (List ℕ))) (file : Bor (List ℕ)) (files : MadeFiles) (old new : S)
@@ -68,6 +69,7 @@ module _ {S : Type 0} (writes : Writing S) (reply : Reply) (out out' : SinkState
       unwritten file text wrote.0 (record { named = named; fine = ends.0; made = is }) other took wrote.1
       (let e = wrote.2 in cc)
   text_unkept name file (one_text text) old new status f named other is (Err show.Write, took, end) wrote = absurd cc
+  text_unkept name file (one_text text) old new status f named other is (Err show.WrongColumns, took, end) wrote = absurd cc
   text_unkept name file (one_text text) old new status f named other is (Err show.OutOfMemory, took, end) wrote = absurd cc
   text_unkept name file no_files old new status f named other is told wrote = absurd (let e = wrote.1 in cc)
   text_unkept name file (logs_of logs) old new status f named other is told wrote = absurd (let e = wrote.1 in cc)

@@ -12,15 +12,13 @@ use Rattle.ira_audit.proofs.Zipped.{zipped_more}
 use Rattle.ira_event.specs.Log.{Log}
 use Rattle.ira_audit.specs.Report.{IsReportable}
 use Rattle.ira_audit.specs.declared.answer.Answer.TheVariants as audit
-use Rattle.ira_main_cli.specs.declared.asked_leaders.AskedLeaders.TheVariants.{Any, File, Places}
 use Rattle.ira_main_cli.specs.declared.expectation.Expectation.{Expectation}
-use Rattle.ira_main_cli.specs.declared.expectation.Expectation.TheVariants.{Leaders, Over}
 use Rattle.ira_main_files.specs.Shelf.{Reading}
 use Rattle.ira_main.specs.Each.{AreAnswersOf, AreTold, FolderTelling, IsAnswerOf, IsFolderAnswer}
 use Rattle.ira_main.specs.Each.{IsUntold, TellsEach}
 use Rattle.ira_main.specs.Each.TellsEach.{no_memory, stopped}
 use Rattle.ira_main.specs.FolderText.{AreTellable, IsTellable}
-use Rattle.ira_main.specs.JudgedFolder.{IsElectionJudged, IsJudgedOf, answer_of, other_than}
+use Rattle.ira_main.specs.JudgedFolder.{IsElectionJudged, IsJudgedOf, answer_of}
 use Rattle.ira_main.specs.JudgedFolder.IsJudgedOf.{good, no}
 use Rattle.ira_main.specs.Outcome.{Outcome}
 use Rattle.ira_main.specs.declared.program_fault.ProgramFault.{ProgramFault}
@@ -141,34 +139,26 @@ module _ (Told : FolderTelling) (folders : List (Bor (List ℕ))) (answers : Lis
       → length more ≡ min size (length (drop (length answers) folders))
   more_told size more rest is = told_many Told _ _ _ is ∙ length-take size (drop (length answers) folders)
 
--- answers that were given can be told
-other_yes : (expectation : Expectation) → answer_of (other_than expectation) ≡ audit.Yes
-other_yes Over = refl
-other_yes (Leaders Any) = refl
-other_yes (Leaders (Places places)) = refl
-other_yes (Leaders (File name)) = refl
-
 -- of good logs it is a yes
-election_yes : (expected : Option Expectation) (read : List ℕ) (logs : List Log) (judged : JudgedFolder)
+election_yes : (expected : Expectation) (read : List ℕ) (logs : List Log) (judged : JudgedFolder)
     → IsElectionJudged expected read logs judged → answer_of judged ≡ audit.Yes
-election_yes None read logs judged is = ap answer_of is
-election_yes (Some expectation) read logs judged (asked, by, inl met) = ap answer_of met.1
-election_yes (Some expectation) read logs judged (asked, by, inr missed) =
-    ap answer_of missed.1 ∙ other_yes expectation
+election_yes expected read logs judged (asked, by, inl met) = ap answer_of met.1
+election_yes expected read logs judged (asked, by, inr unmet) = ap answer_of unmet.2
 
-judged_tellable : (expected : Option Expectation) (read : List ℕ) (texts : List (List ℕ)) (judged : JudgedFolder)
+-- answers that were given can be told
+judged_tellable : (expected : Expectation) (read : List ℕ) (texts : List (List ℕ)) (judged : JudgedFolder)
     → IsJudgedOf expected read texts judged → IsReportable (answer_of judged)
 judged_tellable expected read texts judged (good logs are runs is) =
     subst IsReportable (sym (election_yes expected read logs judged is)) tt
 judged_tellable expected read texts judged (no reason is same) =
     subst (λ j. IsReportable (answer_of j)) (sym same) is.1
 
-tellable : {S : Type 0} (reads : Reading S) (expected : Option Expectation) (shelf : S) (folder : Bor (List ℕ))
+tellable : {S : Type 0} (reads : Reading S) (expected : Expectation) (shelf : S) (folder : Bor (List ℕ))
     (answer : FolderAnswer) → IsFolderAnswer reads expected shelf folder answer → IsTellable answer
 tellable reads expected shelf folder (Judged judged) is = judged_tellable expected is.read is.texts judged is.is
 tellable reads expected shelf folder (Unread name) is = tt
 
-pub all_tellable : {S : Type 0} (reads : Reading S) (expected : Option Expectation) (shelf : S)
+pub all_tellable : {S : Type 0} (reads : Reading S) (expected : Expectation) (shelf : S)
     (folders : List (Bor (List ℕ))) (answers : List FolderAnswer)
     → AllZip (IsFolderAnswer reads expected shelf) folders answers → AreTellable answers
 all_tellable reads expected shelf [] [] are i answer at = absurd cc
@@ -181,7 +171,7 @@ all_tellable reads expected shelf (f ∷ folders) (a ∷ answers) are (suc i) an
     all_tellable reads expected shelf folders answers are.1 i answer at
 
 -- the answer of a folder, where it is known
-pub known_answer : {S : Type 0} (reads : Reading S) (expected : Option Expectation) (shelf : S)
+pub known_answer : {S : Type 0} (reads : Reading S) (expected : Expectation) (shelf : S)
     (folders : List (Bor (List ℕ))) (answers : List (Option JudgedFolder)) (i : ℕ) (folder : Bor (List ℕ))
     (answer : Option JudgedFolder) → AreAnswersOf reads expected shelf folders answers
     → slice_get answers i ≡ Some answer → slice_get folders i ≡ Some folder

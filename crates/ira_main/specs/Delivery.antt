@@ -7,6 +7,7 @@ use Rattle.ira_commands.specs.Output.{WroteOutput}
 use Rattle.ira_commands.specs.Reply.{AreNoLogs, MadeFiles, Reply}
 use Rattle.ira_commands.specs.Reply.MadeFiles.{logs_of, one_text}
 use Rattle.ira_commands.specs.declared.command_fault.CommandFault.{CommandFault}
+use Rattle.ira_commands.specs.declared.command_fault.CommandFault.TheVariants.{WrongColumns}
 use Rattle.ira_main_files.specs.Shelf.{MakesFile, Writing}
 use Rattle.ira_main_files.specs.declared.shelf_fault.ShelfFault.{ShelfFault}
 use Rattle.ira_main.specs.LogFiles.{StopsInLogs, WritesLogs}
@@ -27,6 +28,7 @@ outcome_of status (Some fault) = Err (Refused fault)
 abbrev pub printed_outcome : {T : Type 0} → Reply → Result T ShowFault → Outcome
 printed_outcome reply (Ok v) = outcome_of reply.status reply.fault
 printed_outcome reply (Err show.Write) = Err CannotWriteAnswer
+printed_outcome reply (Err show.WrongColumns) = Err (Refused WrongColumns)
 printed_outcome reply (Err show.OutOfMemory) = Err OutOfMemory
 
 -- what a reply has for the output was written, or a first part of it, and the outcome says so

@@ -14,7 +14,6 @@ use Rattle.ira_main_files.specs.declared.file_name.FileName.{FileName}
 use Rattle.ira_main.specs.FilesRead.{HasTakenFiles, IsFilesFault, ReadsFiles, names_of}
 use Rattle.ira_main.specs.FolderReasons.{IsExplained}
 use Rattle.ira_main.specs.FolderText.{IsFolderText, is_no}
-use Rattle.ira_main.specs.Judge.{leaders_expected}
 use Rattle.ira_main.specs.JudgedFolder.{IsJudgedOf}
 use Rattle.ira_main.specs.LeadersFile.{HasLeadersIn, IsNoLeaders}
 use Rattle.ira_main.specs.Outcome.{Outcome}
@@ -31,26 +30,26 @@ use Rattle.ira_view.specs.declared.status.Status.TheVariants as status
 
 -- why the texts of a folder aren't judged: there are no leaders in the file of these, if one is named; or the first log wasn't
 -- read, or one of those that it names, or memory ran out
-abbrev pub IsFolderFault : {S : Type 0} → Reading S → Option Expectation → S → Bor (List ℕ) → ProgramFault → Type 0
+abbrev pub IsFolderFault : {S : Type 0} → Reading S → Expectation → S → Bor (List ℕ) → ProgramFault → Type 0
 IsFolderFault reads expected shelf folder f =
-    IsNoLeaders reads shelf (Folder folder) (leaders_expected expected) f
+    IsNoLeaders reads shelf (Folder folder) expected.leaders f
     ⊎ (IsNamesFault reads shelf (Folder folder) f
     ⊎ ((names : List FileName) × HasNames reads shelf (Folder folder) names × IsFilesFault reads (names_of names) shelf f))
 
 -- the file of leaders was read, if one is named, and the texts of a folder's logs were taken; or why they weren't
-abbrev pub IsFolderAudit : {A S : Type 0} → Reading S → Option Expectation → S → Bor (List ℕ)
+abbrev pub IsFolderAudit : {A S : Type 0} → Reading S → Expectation → S → Bor (List ℕ)
     → Result (FolderTexts A) ProgramFault → Type 0
 IsFolderAudit reads expected shelf folder (Ok taken) =
-    HasLeadersIn reads shelf (Folder folder) (leaders_expected expected) taken.leaders.items
+    HasLeadersIn reads shelf (Folder folder) expected.leaders taken.leaders.items
     × (names : List FileName) × HasNames reads shelf (Folder folder) names
     × HasTakenFiles reads (names_of names) shelf taken.audit
 IsFolderAudit reads expected shelf folder (Err f) = IsFolderFault reads expected shelf folder f
 
 -- the file of leaders, if one is named, and those of a folder's logs were read, and the logs are judged so
-pub record IsAnswerOf {S : Type 0} (reads : Reading S) (expected : Option Expectation) (shelf : S) (folder : Bor (List ℕ))
+pub record IsAnswerOf {S : Type 0} (reads : Reading S) (expected : Expectation) (shelf : S) (folder : Bor (List ℕ))
     (judged : JudgedFolder) : Type 0 where
   pub read : List ℕ
-  pub leaders : HasLeadersIn reads shelf (Folder folder) (leaders_expected expected) read
+  pub leaders : HasLeadersIn reads shelf (Folder folder) expected.leaders read
   pub names : List FileName
   pub names_are : HasNames reads shelf (Folder folder) names
   pub texts : List (List ℕ)
@@ -58,12 +57,12 @@ pub record IsAnswerOf {S : Type 0} (reads : Reading S) (expected : Option Expect
   pub is : IsJudgedOf expected read texts judged
 
 -- the folder of this number is judged so
-abbrev pub IsAnswerAt : {S : Type 0} → Reading S → Option Expectation → S → List (Bor (List ℕ)) → ℕ → JudgedFolder → Type 0
+abbrev pub IsAnswerAt : {S : Type 0} → Reading S → Expectation → S → List (Bor (List ℕ)) → ℕ → JudgedFolder → Type 0
 IsAnswerAt reads expected shelf folders i judged =
     (folder : Bor (List ℕ)) → slice_get folders i ≡ Some folder → IsAnswerOf reads expected shelf folder judged
 
 -- each folder that is judged is judged so
-abbrev pub AreAnswersOf : {S : Type 0} → Reading S → Option Expectation → S → List (Bor (List ℕ))
+abbrev pub AreAnswersOf : {S : Type 0} → Reading S → Expectation → S → List (Bor (List ℕ))
     → List (Option JudgedFolder) → Type 0
 AreAnswersOf reads expected shelf folders answers = (i : ℕ) (judged : JudgedFolder)
     → slice_get answers i ≡ Some (Some judged) → IsAnswerAt reads expected shelf folders i judged
@@ -73,7 +72,7 @@ abbrev pub NamesFile : ProgramFault → FileName → Type 0
 NamesFile f name = (f ≡ CannotRead name) ⊎ ((line : ℕ) × (f ≡ NoPlaceInLine line name))
 
 -- what comes of a folder: its logs are judged, or a file wasn't read
-abbrev pub IsFolderAnswer : {S : Type 0} → Reading S → Option Expectation → S → Bor (List ℕ) → FolderAnswer → Type 0
+abbrev pub IsFolderAnswer : {S : Type 0} → Reading S → Expectation → S → Bor (List ℕ) → FolderAnswer → Type 0
 IsFolderAnswer reads expected shelf folder (Judged judged) = IsAnswerOf reads expected shelf folder judged
 IsFolderAnswer reads expected shelf folder (Unread name) =
     (f : ProgramFault) × IsFolderFault reads expected shelf folder f × NamesFile f name
@@ -121,18 +120,18 @@ pub data TellsEach (Told : FolderTelling) (folders : List (Bor (List ℕ))) (out
       → outcome ≡ Err OutOfMemory → TellsEach Told folders out out' outcome
 
 -- what is printed of a folder: its line, or why it is so as well
-abbrev pub IsDetailed : Type 0 → {S : Type 0} → Reading S → Form → Option Expectation → FolderDetail → S → FolderTelling
+abbrev pub IsDetailed : Type 0 → {S : Type 0} → Reading S → Form → Expectation → FolderDetail → S → FolderTelling
 IsDetailed A reads form expected Line shelf folder answer text = IsFolderText form folder.now answer text
 IsDetailed A reads form expected Reasons shelf folder answer text =
-    IsExplained A reads form (leaders_expected expected) shelf folder answer text
+    IsExplained A reads form expected shelf folder answer text
 
 -- a folder was judged, and this is printed of it
-abbrev pub IsJudgedLine : Type 0 → {S : Type 0} → Reading S → Form → Option Expectation → FolderDetail → S → FolderTelling
+abbrev pub IsJudgedLine : Type 0 → {S : Type 0} → Reading S → Form → Expectation → FolderDetail → S → FolderTelling
 IsJudgedLine A reads form expected detail shelf folder answer text =
     IsFolderAnswer reads expected shelf folder answer × IsDetailed A reads form expected detail shelf folder answer text
 
 -- each of the folders was judged for itself, and this printed of it
-abbrev pub JudgesEach : Type 0 → {S : Type 0} → Reading S → Form → Option Expectation → FolderDetail
+abbrev pub JudgesEach : Type 0 → {S : Type 0} → Reading S → Form → Expectation → FolderDetail
     → List (Bor (List ℕ)) → S → SinkState → SinkState → Outcome → Type 0
 JudgesEach A reads form expected detail folders shelf out out' outcome =
     TellsEach (IsJudgedLine A reads form expected detail shelf) folders out out' outcome

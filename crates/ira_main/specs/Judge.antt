@@ -1,17 +1,16 @@
 -- What words ask for that judge the logs of a ring.
-use Rattle.std.specs.Prelude.{◌≡◌, ◌⊎◌, ℕ, List, None, Option, Some}
+use Rattle.std.specs.Prelude.{◌≡◌, ◌⊎◌, ℕ, Bool, List, None, false}
 use Rattle.ira_commands.specs.Answers.{Answers}
 use Rattle.ira_commands.specs.Reply.{Reply}
 use Rattle.ira_commands.specs.declared.expected.Expected.{Expected}
-use Rattle.ira_commands.specs.declared.expected.Expected.TheVariants as expected
 use Rattle.ira_commands.specs.declared.logs_command.LogsCommand.{LogsCommand}
-use Rattle.ira_commands.specs.declared.logs_command.LogsCommand.TheVariants.{Answer, Expect}
+use Rattle.ira_commands.specs.declared.logs_command.LogsCommand.TheVariants.{Answer, Expect, Explain, ExplainExpected}
 use Rattle.ira_commands.specs.declared.ring_leaders.RingLeaders.{RingLeaders}
-use Rattle.ira_main_cli.specs.declared.asked_leaders.AskedLeaders.{AskedLeaders}
+use Rattle.ira_commands.specs.declared.ring_leaders.RingLeaders.TheVariants.{NotAsked}
 use Rattle.ira_main_cli.specs.declared.expectation.Expectation.{Expectation}
-use Rattle.ira_main_cli.specs.declared.expectation.Expectation.TheVariants.{Leaders, Over}
-use Rattle.ira_main_cli.specs.declared.logs_request.LogsRequest.{LogsRequest}
-use Rattle.ira_view.specs.Form.{json_form}
+use Rattle.ira_main_cli.specs.declared.folder_detail.FolderDetail.{FolderDetail}
+use Rattle.ira_main_cli.specs.declared.folder_detail.FolderDetail.TheVariants.{Line, Reasons}
+use Rattle.ira_main_cli.specs.declared.log_source.LogSource.{LogSource}
 use Rattle.ira_view.specs.declared.form.Form.{Form}
 use Rattle.ira_main_files.specs.Shelf.{Reading}
 use Rattle.ira_main.specs.Given.{IsUnread, OfFiles}
@@ -19,36 +18,34 @@ use Rattle.ira_main.specs.LeadersFile.{HasLeadersIn, IsNoLeaders}
 use Rattle.ira_main.specs.Show.{AreLeadersOf}
 use Rattle.ira_main.specs.declared.program_fault.ProgramFault.{ProgramFault}
 
--- what is expected of an election by the words: that it is over, or that these lead
+-- what is expected of an election by the words: whether it is to be over, and who is to lead
 abbrev pub IsExpectedBy : Expectation → List ℕ → Expected → Type 0
-IsExpectedBy Over read asked = asked ≡ expected.Over
-IsExpectedBy (Leaders named) read asked =
-    (leaders : RingLeaders) × AreLeadersOf named read leaders × (asked ≡ expected.Leaders leaders)
+IsExpectedBy expectation read asked =
+    (asked.is_over ≡ expectation.is_over) × AreLeadersOf expectation.leaders read asked.leaders
 
--- the leaders that are expected, if some are
-abbrev pub leaders_expected : Option Expectation → Option AskedLeaders
-leaders_expected (Some (Leaders named)) = Some named
-leaders_expected other = None
+-- what is asked of logs, where nothing is expected of their election: their answer, or why it is so as well
+abbrev pub asked_alone : FolderDetail → Form → LogsCommand
+asked_alone Line form = Answer form
+asked_alone Reasons form = Explain form
 
--- the answer is asked for, and, where something is expected, whether it is so
-abbrev pub AsksAnswer : Form → Option Expectation → List ℕ → LogsCommand → Type 0
-AsksAnswer form None read asked = asked ≡ Answer form
-AsksAnswer form (Some expectation) read asked =
-    (e : Expected) × IsExpectedBy expectation read e × (asked ≡ Expect form e)
+-- and where something is, whether it is so too
+abbrev pub asked_with : FolderDetail → Form → Expected → LogsCommand
+asked_with Line form expected = Expect form expected
+asked_with Reasons form expected = ExplainExpected form expected
 
--- they ask this of the logs that they name, with the places in the file of leaders, if one is named
-abbrev pub AsksToJudge : LogsRequest → List ℕ → LogsCommand → Type 0
-AsksToJudge logs read asked = AsksAnswer (json_form logs.is_json) logs.expected read asked
+abbrev pub asked_of : FolderDetail → Form → Bool → RingLeaders → LogsCommand
+asked_of detail form false NotAsked = asked_alone detail form
+asked_of detail form is_over leaders = asked_with detail form (record { is_over = is_over; leaders = leaders })
 
 -- the logs, and the file of leaders if one is named, were read, and their texts are judged
-abbrev pub JudgesFiles : Type 0 → {S : Type 0} → Reading S → LogsRequest → S → Reply → Type 0
-JudgesFiles A reads logs shelf reply =
-    (read : List ℕ) × HasLeadersIn reads shelf logs.logs (leaders_expected logs.expected) read
-    × (asked : LogsCommand) × AsksToJudge logs read asked
-    × OfFiles reads None None None logs.logs shelf (Answers A asked) reply
+abbrev pub JudgesFiles : Type 0 → {S : Type 0} → Reading S → FolderDetail → Form → Expectation → LogSource → S → Reply
+    → Type 0
+JudgesFiles A reads detail form expectation logs shelf reply =
+    (read : List ℕ) × HasLeadersIn reads shelf logs expectation.leaders read
+    × (expected : Expected) × IsExpectedBy expectation read expected
+    × OfFiles reads None None None logs shelf (Answers A (asked_of detail form expected.is_over expected.leaders)) reply
 
 -- why they aren't
-abbrev pub IsUnjudged : {S : Type 0} → Reading S → LogsRequest → S → ProgramFault → Type 0
-IsUnjudged reads logs shelf f =
-    IsNoLeaders reads shelf logs.logs (leaders_expected logs.expected) f
-    ⊎ IsUnread reads None None None logs.logs shelf f
+abbrev pub IsUnjudged : {S : Type 0} → Reading S → Expectation → LogSource → S → ProgramFault → Type 0
+IsUnjudged reads expectation logs shelf f =
+    IsNoLeaders reads shelf logs expectation.leaders f ⊎ IsUnread reads None None None logs shelf f

@@ -1,5 +1,5 @@
 -- What the logs in a folder are judged to be, where something may be expected of their election.
-use Rattle.std.specs.Prelude.{◌≡◌, ◌⊎◌, ℕ, List, None, Option, Some, codes}
+use Rattle.std.specs.Prelude.{◌≡◌, ◌⊎◌, ℕ, List, codes}
 use Rattle.ira_event.specs.Log.{Log}
 use Rattle.ira_audit.specs.GoodLogs.{AreGoodLogs}
 use Rattle.ira_audit.specs.Refusal.{IsLogsReason}
@@ -8,17 +8,17 @@ use Rattle.ira_audit.specs.TextRuns.{AreTextsOfRuns}
 use Rattle.ira_audit.specs.declared.answer.Answer.{Answer}
 use Rattle.ira_audit.specs.declared.answer.Answer.TheVariants as audit
 use Rattle.ira_audit.specs.declared.reason.Reason.{Reason}
-use Rattle.ira_commands.specs.Expected.{IsMet, IsMissed}
+use Rattle.ira_commands.specs.Expected.{IsMet, IsUnmet}
 use Rattle.ira_commands.specs.declared.expected.Expected.{Expected}
-use Rattle.ira_main_cli.specs.declared.asked_leaders.AskedLeaders.TheVariants.{Any}
+use Rattle.ira_commands.specs.declared.expected.Unmet as commands
+use Rattle.ira_commands.specs.declared.expected.Unmet.TheVariants.{NoLeader, NotOver, OtherLeaders}
 use Rattle.ira_main_cli.specs.declared.expectation.Expectation.{Expectation}
-use Rattle.ira_main_cli.specs.declared.expectation.Expectation.TheVariants.{Leaders, Over}
 use Rattle.ira_view.specs.Status.{answer_status}
 use Rattle.ira_view.specs.declared.status.Status.{Status}
 use Rattle.ira_view.specs.declared.status.Status.TheVariants as status
 use Rattle.ira_main.specs.Judge.{IsExpectedBy}
 use Rattle.ira_main.specs.declared.judged_folder.JudgedFolder.{JudgedFolder}
-use Rattle.ira_main.specs.declared.judged_folder.JudgedFolder.TheVariants.{Answered, NoLeader, NotOver, OtherLeaders}
+use Rattle.ira_main.specs.declared.judged_folder.JudgedFolder.TheVariants.{Answered, Unmet}
 
 -- the answer of the logs: a yes where only their election isn't as expected
 abbrev pub answer_of : JudgedFolder → Answer
@@ -33,24 +33,18 @@ judged_status other = status.No
 -- its line
 abbrev pub judged_line : JudgedFolder → List ℕ
 judged_line (Answered answer) = report_line answer
-judged_line NotOver = codes "yes, not over\n"
-judged_line NoLeader = codes "yes, no leader\n"
-judged_line OtherLeaders = codes "yes, other leaders\n"
+judged_line (Unmet NotOver) = codes "yes, not over\n"
+judged_line (Unmet NoLeader) = codes "yes, no leader\n"
+judged_line (Unmet OtherLeaders) = codes "yes, other leaders\n"
 
--- what logs are judged to be whose election isn't as expected
-abbrev pub other_than : Expectation → JudgedFolder
-other_than Over = NotOver
-other_than (Leaders Any) = NoLeader
-other_than (Leaders named) = OtherLeaders
-
--- good logs are judged so: a yes where nothing is expected of their election, or it is as expected; or else that it isn't
-abbrev pub IsElectionJudged : Option Expectation → List ℕ → List Log → JudgedFolder → Type 0
-IsElectionJudged None read logs judged = judged ≡ Answered audit.Yes
-IsElectionJudged (Some expectation) read logs judged = (asked : Expected) × IsExpectedBy expectation read asked
-    × ((IsMet logs asked × (judged ≡ Answered audit.Yes)) ⊎ (IsMissed logs asked × (judged ≡ other_than expectation)))
+-- good logs are judged so: a yes where all is as expected of their election; or else what isn't
+abbrev pub IsElectionJudged : Expectation → List ℕ → List Log → JudgedFolder → Type 0
+IsElectionJudged expectation read logs judged = (asked : Expected) × IsExpectedBy expectation read asked
+    × ((IsMet logs asked × (judged ≡ Answered audit.Yes))
+    ⊎ ((unmet : commands.Unmet) × IsUnmet logs asked unmet × (judged ≡ Unmet unmet)))
 
 -- that is told of the texts of good logs, which are those of runs; or the reason against others
-pub data IsJudgedOf (expected : Option Expectation) (read : List ℕ) (texts : List (List ℕ)) (judged : JudgedFolder)
+pub data IsJudgedOf (expected : Expectation) (read : List ℕ) (texts : List (List ℕ)) (judged : JudgedFolder)
     : Type 0 where
   good : (logs : List Log) → AreGoodLogs texts logs → AreTextsOfRuns texts → IsElectionJudged expected read logs judged
       → IsJudgedOf expected read texts judged

@@ -1,5 +1,5 @@
 -- What the program does.
-use Rattle.std.specs.Prelude.{◌≡◌, ◌≢◌, ◌⊎◌, ℕ, ◌+◌, true, Err, List, [], None, Option, Some, codes, option_map}
+use Rattle.std.specs.Prelude.{◌≡◌, ◌≢◌, ◌⊎◌, ℕ, ◌+◌, true, Err, List, [], None, Option, Some, codes}
 use Rattle.std.specs.Borrow.{Bor}
 use Rattle.std.specs.Option.{is_some}
 use Rattle.ira_event.specs.Limits.{MAX_TEXT}
@@ -16,15 +16,15 @@ use Rattle.ira_commands.specs.declared.logs_command.LogsCommand.{LogsCommand}
 use Rattle.ira_commands.specs.declared.logs_command.LogsCommand.TheVariants.{Check, Decide, ExplainCheck, ExplainQuestion}
 use Rattle.ira_main_cli.specs.Request.{IsCheckLine, IsDecideLine, IsDrawLine, IsEachLine, IsExplainLine, IsGuideLine, IsLogsLine}
 use Rattle.ira_main_cli.specs.Request.{IsAskLine, IsMendLine, IsPairsLine, IsRunLine, IsShowLine, IsUpgradeLine, IsVersionLine, MayBeRefused}
-use Rattle.ira_main_cli.specs.declared.asked_leaders.AskedLeaders.{AskedLeaders}
 use Rattle.ira_main_cli.specs.declared.check_request.CheckRequest.{CheckRequest}
 use Rattle.ira_main_cli.specs.declared.decide_request.DecideRequest.{DecideRequest}
 use Rattle.ira_main_cli.specs.declared.draw_request.DrawRequest.{DrawRequest}
 use Rattle.ira_main_cli.specs.declared.each_request.EachRequest.{EachRequest}
-use Rattle.ira_main_cli.specs.declared.expectation.Expectation.TheVariants.{Leaders}
+use Rattle.ira_main_cli.specs.declared.expectation.Expectation.{Expectation}
 use Rattle.ira_main_cli.specs.declared.explain_request.ExplainRequest.{ExplainRequest}
 use Rattle.ira_main_cli.specs.declared.explained_answer.ExplainedAnswer.{ExplainedAnswer}
 use Rattle.ira_main_cli.specs.declared.explained_answer.ExplainedAnswer.TheVariants.{OneLog, Logs, Findings, Certificate}
+use Rattle.ira_main_cli.specs.declared.folder_detail.FolderDetail.{FolderDetail}
 use Rattle.ira_main_cli.specs.declared.folder_detail.FolderDetail.TheVariants.{Line, Reasons}
 use Rattle.ira_main_cli.specs.declared.guide_topic.GuideTopic.{GuideTopic}
 use Rattle.ira_main_cli.specs.declared.log_source.LogSource.{LogSource}
@@ -45,7 +45,7 @@ use Rattle.ira_main.specs.AskedRun.{run_of}
 use Rattle.ira_main.specs.Delivery.{Tells, TellsAndKeeps, TellsAndRecords}
 use Rattle.ira_main.specs.Draw.{DrawsFiles, IsUndrawn}
 use Rattle.ira_main.specs.Each.{JudgesEach}
-use Rattle.ira_main.specs.Explain.{ExplainsIn, ExplainsInput, IsUnexplained}
+use Rattle.ira_main.specs.Explain.{ExplainsInput}
 use Rattle.ira_main.specs.Given.{IsNoMemory, IsUnread, OfFiles}
 use Rattle.ira_main.specs.Guide.{guide_text}
 use Rattle.ira_main.specs.Mend.{IsUnmended, MendsLogs}
@@ -77,21 +77,23 @@ TellsOfLogs A reads question certificate source shelf out out' outcome command =
     Tells (OfFiles reads None question certificate source shelf (Answers A command))
     (IsUnread reads None question certificate source shelf) out out' outcome
 
--- the answer of logs was explained, or of each of some folders, which may stand in place of files
-abbrev pub ExplainsLogs : Type 0 → Form → {S : Type 0} → Reading S → Option AskedLeaders → LogSource → S → SinkState
+-- logs were judged, of whose election this is expected, or those of each of some folders, which may stand in place of
+-- files
+abbrev pub AnswersLogs : Type 0 → {S : Type 0} → Reading S → FolderDetail → Form → Expectation → LogSource → S → SinkState
     → SinkState → Outcome → Type 0
-ExplainsLogs A form reads named source shelf out out' outcome =
+AnswersLogs A reads detail form expected source shelf out out' outcome =
     (IsOfOneRing reads shelf source
-    × Tells (ExplainsIn A reads form named source shelf) (IsUnexplained reads named source shelf) out out' outcome)
+    × Tells (JudgesFiles A reads detail form expected source shelf) (IsUnjudged reads expected source shelf) out out'
+    outcome)
     ⊎ ((folders : List (Bor (List ℕ))) × AreSeveralFolders reads shelf source folders
-    × JudgesEach A reads form (option_map Leaders named) Reasons folders shelf out out' outcome)
+    × JudgesEach A reads form expected detail folders shelf out out' outcome)
 
 -- the answer that is asked for was explained; that of one log is none of these, since it comes of the input
 abbrev pub ExplainsAnswer : Type 0 → Form → {S : Type 0} → Reading S → ExplainedAnswer → S → SinkState → SinkState
     → Outcome → Type 0
 ExplainsAnswer A form reads OneLog shelf out out' outcome = ⊥
-ExplainsAnswer A form reads (Logs named source) shelf out out' outcome =
-    ExplainsLogs A form reads named source shelf out out' outcome
+ExplainsAnswer A form reads (Logs expected source) shelf out out' outcome =
+    AnswersLogs A reads Reasons form expected source shelf out out' outcome
 ExplainsAnswer A form reads (Findings asked source) shelf out out' outcome =
     TellsOfLogs A reads (Some asked.question) None source shelf out out' outcome (ExplainQuestion form asked.case)
 ExplainsAnswer A form reads (Certificate question certificate source) shelf out out' outcome =
@@ -110,15 +112,11 @@ pub data CommandOutcome (A : Type 0) {S : Type 0} (reads : Reading S) (writes : 
   refused : (fault : WordsFault) → MayBeRefused words fault → shelf' ≡ shelf → out' ≡ out
       → outcome ≡ Err (words_fault fault)
       → CommandOutcome A reads writes words shelf shelf' out out' outcome
-  judged : (logs : LogsRequest) → IsLogsLine words logs → IsOfOneRing reads shelf logs.logs → shelf' ≡ shelf
-      → Tells (JudgesFiles A reads logs shelf) (IsUnjudged reads logs shelf) out out' outcome
+  judged : (logs : LogsRequest) → IsLogsLine words logs → shelf' ≡ shelf
+      → AnswersLogs A reads Line (json_form logs.is_json) logs.expected logs.logs shelf out out' outcome
       → CommandOutcome A reads writes words shelf shelf' out out' outcome
   each : (asked : EachRequest) → IsEachLine words asked → shelf' ≡ shelf
       → JudgesEach A reads (json_form asked.is_json) asked.expected asked.detail asked.folders.items shelf out out' outcome
-      → CommandOutcome A reads writes words shelf shelf' out out' outcome
-  folders : (logs : LogsRequest) (names : List (Bor (List ℕ))) → IsLogsLine words logs
-      → AreSeveralFolders reads shelf logs.logs names → shelf' ≡ shelf
-      → JudgesEach A reads (json_form logs.is_json) logs.expected Line names shelf out out' outcome
       → CommandOutcome A reads writes words shelf shelf' out out' outcome
   explained : (explain : ExplainRequest) → IsExplainLine words explain → shelf' ≡ shelf
       → ExplainsAnswer A (json_form explain.is_json) reads explain.answer shelf out out' outcome

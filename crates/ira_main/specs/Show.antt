@@ -24,22 +24,19 @@ use Rattle.ira_main.specs.declared.program_fault.ProgramFault.{ProgramFault}
 abbrev pub AreAt : List ℕ → RingLeaders → Type 0
 AreAt places asked = (lent : Bor (List ℕ)) × (lent.now ≡ places) × (asked ≡ leaders.Places lent)
 
--- who is to lead by the words: some node, or the nodes at these places, or at those in the file that is named
-abbrev pub AreLeadersOf : AskedLeaders → List ℕ → RingLeaders → Type 0
-AreLeadersOf Any read asked = asked ≡ leaders.Any
-AreLeadersOf (Places places) read asked = AreAt places.items asked
-AreLeadersOf (File name) read asked = AreAt read asked
-
--- or nobody is asked for
-abbrev pub MayBeLeadersOf : Option AskedLeaders → List ℕ → RingLeaders → Type 0
-MayBeLeadersOf None read asked = asked ≡ leaders.NotAsked
-MayBeLeadersOf (Some named) read asked = AreLeadersOf named read asked
+-- who is to lead by the words: some node, or the nodes at these places, or at those in the file that is named; or nobody
+-- is asked for
+abbrev pub AreLeadersOf : Option AskedLeaders → List ℕ → RingLeaders → Type 0
+AreLeadersOf None read asked = asked ≡ leaders.NotAsked
+AreLeadersOf (Some Any) read asked = asked ≡ leaders.Any
+AreLeadersOf (Some (Places places)) read asked = AreAt places.items asked
+AreLeadersOf (Some (File name)) read asked = AreAt read asked
 
 -- the lines that they ask for
 abbrev pub AreLinesOf : ShowRequest → List ℕ → LinesForm → Type 0
 AreLinesOf show read lines =
     (lines.form ≡ json_form show.is_json) × (lines.has_events ≡ show.has_events)
-    × MayBeLeadersOf show.leads read lines.leaders
+    × AreLeadersOf show.leads read lines.leaders
 
 -- they ask to show a ring as these lines, with the places in the file of leaders, if one is named
 abbrev pub AsksToShow : ShowRequest → List ℕ → LogsCommand → Type 0

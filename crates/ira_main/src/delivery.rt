@@ -7,7 +7,7 @@ ghost use Rattle.ira_main.specs.Outcome.{PrintsLine};
 use crate::log_files::write_files;
 use crate::program_fault::ProgramFault;
 use crate::text_file::write_text;
-use ira_commands::{Files, Reply};
+use ira_commands::{CommandFault, Files, Reply};
 use ira_event::{Sink, WriteFault, write_bytes};
 use ira_main_files::Shelf;
 use ira_view::Status;
@@ -51,6 +51,7 @@ fn print<'a, A: Allocator + Clone, W: Sink>(
     match reply.out().write(out) {
         Ok(()) => outcome(reply),
         Err(ShowFault::Write) => Err(ProgramFault::CannotWriteAnswer),
+        Err(ShowFault::WrongColumns) => Err(ProgramFault::Refused(CommandFault::WrongColumns)),
         Err(ShowFault::OutOfMemory) => Err(ProgramFault::OutOfMemory),
     }
 }
@@ -100,8 +101,7 @@ fn print_file<'a, A: Allocator + Clone, W: Sink>(
     print_text(text, reply.status(), out)
 }
 
-/// Prints a reply, if there is one, and then makes its file, if it has a text for one and a name is given; `-` stands for
-/// the output.
+/// Prints a reply, and then makes its file, if it has a text for one and a name is given; `-` is the output.
 pub(crate) fn deliver_and_keep<'a, A: Allocator + Clone, F: Shelf, W: Sink>(
     reply: Result<Reply<A>, ProgramFault<'a>>,
     name: Option<&'a str>,
@@ -123,8 +123,7 @@ pub(crate) fn deliver_and_keep<'a, A: Allocator + Clone, F: Shelf, W: Sink>(
     Ok(status)
 }
 
-/// Writes the logs of a reply, if there is one and it has some, each to the file of its place in a folder, and then prints
-/// it.
+/// Writes the logs of a reply, if it has some, each to the file of its place in a folder, and then prints it.
 pub(crate) fn record_and_deliver<'a, A: Allocator + Clone, F: Shelf, W: Sink>(
     alloc: &A,
     reply: Result<Reply<A>, ProgramFault<'a>>,

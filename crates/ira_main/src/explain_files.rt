@@ -1,21 +1,18 @@
-ghost use Rattle.std.specs.Prelude.{◌≤◌, ◌+◌, IfOk, MatchResult, None, Some, option_map};
+ghost use Rattle.std.specs.Prelude.{◌≤◌, ◌+◌, IfOk, MatchResult, None, Some};
 ghost use Rattle.ira_commands.specs.Answers.{Answers};
 ghost use Rattle.ira_commands.specs.Given.{given_of};
 ghost use Rattle.ira_commands.specs.declared.logs_command.LogsCommand.TheVariants.{ExplainCheck};
-ghost use Rattle.ira_main.specs.Explain.{ExplainsIn, ExplainsInput, IsUnexplained};
+ghost use Rattle.ira_main.specs.Explain.{ExplainsInput};
 ghost use Rattle.ira_main.specs.Given.{IsUnread, OfFiles};
 ghost use Rattle.ira_main.specs.NamedFile.{names_in, texts_in};
 ghost use Rattle.ira_main.specs.Serve.{IsInputFault, OfInput};
 
-use crate::answer_files::answer_files;
 use crate::given::{GivenTexts, Inputs, read_given_texts};
-use crate::leaders_file::leaders_in;
 use crate::named_file::{NamedFile, named_texts};
 use crate::program_fault::ProgramFault;
-use crate::show_command::leaders_of;
-use ira_commands::{LogsCommand, Reply, explain_one, tell_view};
+use ira_commands::{Reply, explain_one, tell_view};
 use ira_event::{MAX_TEXT, OutOfMemory};
-use ira_main_cli::{AskedLeaders, LogSource};
+use ira_main_cli::LogSource;
 use ira_main_files::{CountingReader, FileName, TextBuffer, TextSource};
 use ira_view::{AskedFiles, Form, explain_certified, judge_texts};
 use ira_view_page::NamedText;
@@ -44,34 +41,6 @@ pub(crate) fn explain_input<'a, A: Allocator + Clone, I: Read>(
         text: text.bytes(),
     };
     Ok(explain_one(alloc, form, &log)?)
-}
-
-/// Explains the answer of logs in the files that are named, and who leads, where leaders are named.
-pub(crate) fn explain_files<'a, R, A, F>(
-    rt: &R,
-    alloc: A,
-    form: Form,
-    named: Option<&AskedLeaders<'a>>,
-    source: &LogSource<'a>,
-    shelf: &F,
-) -> Result<Reply<A>, ProgramFault<'a>>
-where
-    R: Threads + Sync,
-    A: Allocator + Clone + Send + Sync,
-    F: TextSource + Sync,
-    ensures { MatchResult result
-        (ExplainsIn A F.reads form (option_map (λ asked. asked.now) named.entry) source.now shelf.now)
-        (IsUnexplained F.reads (option_map (λ asked. asked.now) named.entry) source.now shelf.now) }
-{
-    let inputs = Inputs::asked(None, source, None);
-    match named {
-        None => answer_files(rt, alloc, LogsCommand::Explain { form }, inputs, shelf),
-        Some(asked) => {
-            let read = leaders_in(&alloc, Some(asked), source, shelf)?;
-            let command = LogsCommand::ExplainLeaders(form, leaders_of(asked, &read));
-            answer_files(rt, alloc, command, inputs, shelf)
-        }
-    }
 }
 
 /// The answer of logs in files that were read, of a question and of a certificate, and why it is so.

@@ -6,7 +6,6 @@ ghost use Rattle.ira_audit.specs.RingAudit.{HasTaken};
 ghost use Rattle.ira_main.specs.Each.{unread_name};
 ghost use Rattle.ira_main.specs.JudgedFolder.{IsJudgedOf};
 
-use crate::judge_files::expected_leaders;
 use crate::judged_folder::{JudgedFolder, judge_as_expected};
 use crate::leaders_file::leaders_in;
 use crate::program_fault::{ProgramFault, write_file_named};
@@ -41,14 +40,14 @@ struct FolderTexts<A: Allocator> {
 /// Reads the file of leaders, if one is named, and the logs in a folder.
 fn audit_folder<'a, A: Allocator + Clone, F: TextSource>(
     alloc: &A,
-    expected: &Option<Expectation<'a>>,
+    expected: &Expectation<'a>,
     folder: &'a str,
     shelf: &F,
 ) -> Result<FolderTexts<A>, ProgramFault<'a>>
     ensures { IsFolderAudit F.reads expected.now shelf.now folder.entry result }
 {
     let source = LogSource::Folder(folder);
-    let leaders = leaders_in(alloc, expected_leaders(expected), &source, shelf)?;
+    let leaders = leaders_in(alloc, &expected.leaders, &source, shelf)?;
     let names = source_names(alloc, &source, shelf)?;
     let audit = read_in_turn(alloc, &names, shelf)?;
     Ok(FolderTexts { leaders, audit })
@@ -57,7 +56,7 @@ fn audit_folder<'a, A: Allocator + Clone, F: TextSource>(
 /// What the logs that were read in a folder are judged to be.
 fn judge_read<A: Allocator + Clone>(
     alloc: &A,
-    expected: &Option<Expectation<'_>>,
+    expected: &Expectation<'_>,
     read: FolderTexts<A>,
 ) -> Result<JudgedFolder, OutOfMemory>
     requires { (texts : List (List ℕ)) × HasTaken read.audit texts }
@@ -71,7 +70,7 @@ fn judge_read<A: Allocator + Clone>(
 /// Judges the logs in a folder together, of whose election this is expected.
 pub(crate) fn judge_folder<'a, A: Allocator + Clone, F: TextSource>(
     alloc: &A,
-    expected: &Option<Expectation<'a>>,
+    expected: &Expectation<'a>,
     folder: &'a str,
     shelf: &F,
 ) -> Result<FolderAnswer<'a>, OutOfMemory>
@@ -104,10 +103,7 @@ impl<'a> FolderAnswer<'a> {
             FolderAnswer::Unread(_) => false,
             FolderAnswer::Judged(judged) => match judged {
                 JudgedFolder::Answered(Answer::Yes) => false,
-                JudgedFolder::Answered(Answer::No(_))
-                | JudgedFolder::NotOver
-                | JudgedFolder::NoLeader
-                | JudgedFolder::OtherLeaders => true,
+                JudgedFolder::Answered(Answer::No(_)) | JudgedFolder::Unmet(_) => true,
             },
         }
     }

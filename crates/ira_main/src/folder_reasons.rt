@@ -1,14 +1,14 @@
-ghost use Rattle.std.specs.Prelude.{◌≡◌, ◌++◌, ℕ, IfOk, List, MatchOption, OnOk, option_map};
+ghost use Rattle.std.specs.Prelude.{◌≡◌, ◌++◌, ℕ, IfOk, List, MatchOption, OnOk};
 ghost use Rattle.ira_commands.specs.Output.{IsPrinted};
 ghost use Rattle.ira_main.specs.FolderReasons.{GivesReasons, HasNoReasons, IsExplained};
 ghost use Rattle.ira_main.specs.FolderText.{IsTellable};
 
-use crate::explain_files::explain_files;
 use crate::folder_answer::FolderAnswer;
+use crate::judge_files::judge_logs;
 use crate::program_fault::ProgramFault;
 use ira_commands::Reply;
 use ira_event::{MemorySink, OutOfMemory};
-use ira_main_cli::{AskedLeaders, LogSource};
+use ira_main_cli::{Expectation, FolderDetail, LogSource};
 use ira_main_files::TextSource;
 use ira_view::Form;
 use std::alloc::Allocator;
@@ -34,7 +34,7 @@ fn reasons<R, A, F>(
     rt: &R,
     alloc: A,
     form: Form,
-    named: Option<&AskedLeaders<'_>>,
+    expected: &Expectation<'_>,
     folder: &str,
     shelf: &F,
 ) -> Result<Option<Reply<A>>, OutOfMemory>
@@ -43,10 +43,11 @@ where
     A: Allocator + Clone + Send + Sync,
     F: TextSource + Sync,
     ensures { IfOk result (λ found. MatchOption found
-        (HasNoReasons A F.reads form (option_map (λ asked. asked.now) named.entry) shelf.now folder.entry)
-        (GivesReasons A F.reads form (option_map (λ asked. asked.now) named.entry) shelf.now folder.entry)) }
+        (HasNoReasons A F.reads form expected.now shelf.now folder.entry)
+        (GivesReasons A F.reads form expected.now shelf.now folder.entry)) }
 {
-    match explain_files(rt, alloc, form, named, &LogSource::Folder(folder), shelf) {
+    let (detail, source) = (FolderDetail::Reasons, LogSource::Folder(folder));
+    match judge_logs(rt, alloc, detail, form, expected, &source, shelf) {
         Ok(reply) => Ok(match reply.fault() {
             None => Some(reply),
             Some(_) => None,
@@ -63,7 +64,7 @@ pub(crate) fn add_explained<R, A, F>(
     rt: &R,
     alloc: &A,
     form: Form,
-    named: Option<&AskedLeaders<'_>>,
+    expected: &Expectation<'_>,
     folder: &str,
     answer: &FolderAnswer<'_>,
     shelf: &F,
@@ -75,12 +76,12 @@ where
     F: TextSource + Sync,
     requires { IsTellable answer.now }
     ensures { OnOk result ((more : List ℕ)
-        × IsExplained A F.reads form (option_map (λ asked. asked.now) named.entry) shelf.now folder.entry answer.now more
+        × IsExplained A F.reads form expected.now shelf.now folder.entry answer.now more
         × (text.new.bytes ≡ text.old.bytes ++ more)) }
 {
     answer.add_text(alloc.clone()?, form, folder, text)?;
     if answer.is_no() {
-        if let Some(reply) = reasons(rt, alloc.clone()?, form, named, folder, shelf)? {
+        if let Some(reply) = reasons(rt, alloc.clone()?, form, expected, folder, shelf)? {
             return add_reply(&reply, text);
         }
     }

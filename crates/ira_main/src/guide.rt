@@ -14,11 +14,11 @@ const COMMANDS_GUIDE: &[u8] = b"\
 `ira` judges and makes logs of Itai-Rodeh elections on anonymous rings.
 
     ira < LOG
-    ira logs [--over | --leads <P,..|any|FILE>] [--json] <LOGS>
-    ira logs --each [--over | --leads <P,..|any|FILE>] [--json] <DIR>...
+    ira logs [--over] [--leads <P,..|any|FILE>] [--json] <LOGS>
+    ira logs --each [--over] [--leads <P,..|any|FILE>] [--json] <DIR>...
     ira explain [--json] [<LOGS>]
-    ira explain --leads <P,..|any|FILE> [--json] <LOGS>
-    ira explain --each [--leads <P,..|any|FILE>] [--json] <DIR>...
+    ira explain [--over] [--leads <P,..|any|FILE>] [--json] <LOGS>
+    ira explain --each [--over] [--leads <P,..|any|FILE>] [--json] <DIR>...
     ira explain --question <Q> [--case <K> | --cert <C>] [--json] <LOGS>
     ira show [OPTIONS] <LOGS>
     ira draw --out <FILE> [OPTIONS] <LOGS>

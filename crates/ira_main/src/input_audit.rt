@@ -107,7 +107,7 @@ impl<A: Allocator> InputAudit<A> {
         Ok(())
     }
 
-    /// The answer of the text, of which all was read.
+    /// The answer of what the input has left, to its end or to one byte more than `MAX_TEXT`.
     fn finish(self) -> Answer
         ensures answer { (text : List ℕ) → HasReadText self text → IsLogTextAnswer text result }
         ensures reportable { (text : List ℕ) → HasReadText self text → IsReportable result }

@@ -6,7 +6,6 @@ ghost use Rattle.ira_main.specs.FolderText.{AreTellable, IsTellable, is_no};
 
 use crate::folder_answer::{FolderAnswer, judge_folder};
 use crate::folder_reasons::add_explained;
-use crate::judge_files::expected_leaders;
 use crate::judged_folder::JudgedFolder;
 use crate::program_fault::ProgramFault;
 use crate::read_files::{chunk_from, thread_count};
@@ -20,7 +19,7 @@ use std::thread::{self, Threads};
 /// What the logs in the folder of this number are judged to be. `None` where a file can't be read now, or memory is out.
 fn answer_at<'a, A: Allocator + Clone, F: TextSource>(
     alloc: &A,
-    expected: &Option<Expectation<'a>>,
+    expected: &Expectation<'a>,
     folders: &[&'a str],
     number: usize,
     shelf: &F,
@@ -52,7 +51,7 @@ fn no_answers<A: Allocator>(
 fn judge_at_once<'a, R, A, F>(
     rt: &R,
     alloc: &A,
-    expected: &Option<Expectation<'a>>,
+    expected: &Expectation<'a>,
     folders: &[&'a str],
     shelf: &F,
     answers: &mut [Option<JudgedFolder>],
@@ -76,7 +75,7 @@ where
 /// What comes of a folder, of which it may be known what its logs are judged to be.
 fn settled<'a, A: Allocator + Clone, F: TextSource>(
     alloc: &A,
-    expected: &Option<Expectation<'a>>,
+    expected: &Expectation<'a>,
     answer: Option<JudgedFolder>,
     folder: &'a str,
     shelf: &F,
@@ -95,7 +94,7 @@ fn settled<'a, A: Allocator + Clone, F: TextSource>(
 fn folder_answers<'a, R, A, F>(
     rt: &R,
     alloc: &A,
-    expected: &Option<Expectation<'a>>,
+    expected: &Expectation<'a>,
     folders: &[&'a str],
     shelf: &F,
 ) -> Result<Vec<FolderAnswer<'a>, A>, OutOfMemory>
@@ -120,7 +119,7 @@ fn add_detailed<R, A, F>(
     rt: &R,
     alloc: &A,
     form: Form,
-    expected: &Option<Expectation<'_>>,
+    expected: &Expectation<'_>,
     detail: FolderDetail,
     folder: &str,
     answer: &FolderAnswer<'_>,
@@ -139,8 +138,7 @@ where
     match detail {
         FolderDetail::Line => answer.add_text(alloc.clone()?, form, folder, text),
         FolderDetail::Reasons => {
-            let named = expected_leaders(expected);
-            add_explained(rt, alloc, form, named, folder, answer, shelf, text)
+            add_explained(rt, alloc, form, expected, folder, answer, shelf, text)
         }
     }
 }
@@ -150,7 +148,7 @@ fn folder_texts<R, A, F>(
     rt: &R,
     alloc: &A,
     form: Form,
-    expected: &Option<Expectation<'_>>,
+    expected: &Expectation<'_>,
     detail: FolderDetail,
     folders: &[&str],
     answers: &[FolderAnswer<'_>],
@@ -208,7 +206,7 @@ fn tell_some<'a, R, A, F, W>(
     rt: &R,
     alloc: &A,
     form: Form,
-    expected: &Option<Expectation<'a>>,
+    expected: &Expectation<'a>,
     detail: FolderDetail,
     folders: &[&'a str],
     shelf: &F,
@@ -239,7 +237,7 @@ pub(crate) fn judge_each<'a, R, A, F, W>(
     rt: &R,
     alloc: A,
     form: Form,
-    expected: &Option<Expectation<'a>>,
+    expected: &Expectation<'a>,
     detail: FolderDetail,
     folders: &[&'a str],
     shelf: &F,

@@ -1,4 +1,4 @@
-ghost use Rattle.std.specs.Prelude.{◌≡◌, ◌≤◌, ◌+◌, ℕ, IfOk, List, MatchResult, None, Some, option_map};
+ghost use Rattle.std.specs.Prelude.{◌≡◌, ◌≤◌, ◌+◌, ℕ, IfOk, List, MatchResult, None, Some};
 ghost use Rattle.ira_audit.specs.RingAudit.{HasTaken};
 ghost use Rattle.ira_view.specs.Form.{json_form};
 ghost use Rattle.ira_commands.specs.Answers.{Answers};
@@ -7,7 +7,7 @@ ghost use Rattle.ira_commands.specs.Judging.{JudgesLog};
 ghost use Rattle.ira_commands.specs.Reply.{Reports, ReportsAs};
 ghost use Rattle.ira_commands.specs.declared.logs_command.LogsCommand.TheVariants.{Check};
 ghost use Rattle.ira_main.specs.Given.{IsUnread, OfFiles};
-ghost use Rattle.ira_main.specs.Judge.{AsksToJudge, IsExpectedBy, IsUnjudged, JudgesFiles, leaders_expected};
+ghost use Rattle.ira_main.specs.Judge.{IsExpectedBy, IsUnjudged, JudgesFiles, asked_alone, asked_of};
 ghost use Rattle.ira_main.specs.Serve.{IsInputFault, OfInput};
 
 use crate::answer_files::answer_files;
@@ -17,10 +17,10 @@ use crate::leaders_file::leaders_in;
 use crate::program_fault::ProgramFault;
 use crate::show_command::leaders_of;
 use ira_audit::RingAudit;
-use ira_commands::{Expected, LogsCommand, Reply};
+use ira_commands::{Expected, LogsCommand, Reply, RingLeaders};
 use ira_event::{MAX_TEXT, OutOfMemory};
 use ira_links::OpenGate;
-use ira_main_cli::{AskedLeaders, CheckRequest, Expectation, LogsRequest};
+use ira_main_cli::{CheckRequest, Expectation, FolderDetail, LogSource};
 use ira_main_files::{CountingReader, FileName, Shelf, TextSource};
 use ira_view::Form;
 use std::alloc::Allocator;
@@ -43,58 +43,60 @@ pub(crate) fn judge_input<'a, A: Allocator + Clone, I: Read>(
     }
 }
 
-/// What words expect of an election.
+/// What words expect of an election; these places are those of the file of leaders.
 pub(crate) fn expected_by<'t>(expectation: &'t Expectation<'_>, read: &'t [u64]) -> Expected<'t>
     ensures { IsExpectedBy expectation.now read.now result }
 {
-    match expectation {
-        Expectation::Over => Expected::Over,
-        Expectation::Leaders(leaders) => Expected::Leaders(leaders_of(leaders, read)),
+    Expected {
+        is_over: expectation.is_over,
+        leaders: leaders_of(&expectation.leaders, read),
     }
 }
 
-/// The leaders that are expected, if some are.
-pub(crate) fn expected_leaders<'t, 'a>(
-    expected: &'t Option<Expectation<'a>>,
-) -> Option<&'t AskedLeaders<'a>>
-    ensures { option_map (λ asked. asked.now) result ≡ leaders_expected expected.now }
+/// What is asked of logs of whose election nothing is expected.
+fn asked_alone<'t>(detail: FolderDetail, form: Form) -> LogsCommand<'t>
+    ensures { result ≡ asked_alone detail form }
 {
-    match expected {
-        Some(Expectation::Leaders(leaders)) => Some(leaders),
-        Some(Expectation::Over) | None => None,
+    match detail {
+        FolderDetail::Line => LogsCommand::Answer { form },
+        FolderDetail::Reasons => LogsCommand::Explain { form },
     }
 }
 
-/// What words ask of the logs that are to be judged; these places are those of the file of leaders.
-fn judge_command<'t>(logs: &'t LogsRequest<'_>, read: &'t [u64]) -> LogsCommand<'t>
-    ensures { AsksToJudge logs.now read.now result }
+/// What is asked of logs.
+fn asked_of<'t>(detail: FolderDetail, form: Form, expected: Expected<'t>) -> LogsCommand<'t>
+    ensures { result ≡ asked_of detail form expected.entry.is_over expected.entry.leaders }
 {
-    let form = Form::of_json(logs.is_json);
-    match &logs.expected {
-        None => LogsCommand::Answer { form },
-        Some(expectation) => LogsCommand::Expect {
-            form,
-            expected: expected_by(expectation, read),
+    match (expected.is_over, expected.leaders) {
+        (false, RingLeaders::NotAsked) => asked_alone(detail, form),
+        _ => match detail {
+            FolderDetail::Line => LogsCommand::Expect { form, expected },
+            FolderDetail::Reasons => LogsCommand::ExplainExpected { form, expected },
         },
     }
 }
 
-/// Judges logs, with those who are to lead, in the files that are named.
+/// Judges the logs in the files that are named, and says why the answer is as it is, where that is asked.
 pub(crate) fn judge_logs<'a, R, A, F>(
     rt: &R,
     alloc: A,
-    logs: &LogsRequest<'a>,
+    detail: FolderDetail,
+    form: Form,
+    expected: &Expectation<'a>,
+    logs: &LogSource<'a>,
     shelf: &F,
 ) -> Result<Reply<A>, ProgramFault<'a>>
 where
     R: Threads + Sync,
     A: Allocator + Clone + Send + Sync,
     F: TextSource + Sync,
-    ensures { MatchResult result (JudgesFiles A F.reads logs.now shelf.now) (IsUnjudged F.reads logs.now shelf.now) }
+    ensures { MatchResult result (JudgesFiles A F.reads detail form expected.now logs.now shelf.now)
+        (IsUnjudged F.reads expected.now logs.now shelf.now) }
 {
-    let read = leaders_in(&alloc, expected_leaders(&logs.expected), &logs.logs, shelf)?;
-    let inputs = Inputs::asked(None, &logs.logs, None);
-    answer_files(rt, alloc, judge_command(logs, &read), inputs, shelf)
+    let read = leaders_in(&alloc, &expected.leaders, logs, shelf)?;
+    let inputs = Inputs::asked(None, logs, None);
+    let command = asked_of(detail, form, expected_by(expected, &read));
+    answer_files(rt, alloc, command, inputs, shelf)
 }
 
 /// The answer of the logs that an audit has taken, of a question and of a certificate.

@@ -2,12 +2,13 @@ ghost use Rattle.std.specs.Prelude.{◌≡◌, IfOk, List, ℕ};
 ghost use Rattle.ira_audit.specs.Judged.{IsJudged};
 ghost use Rattle.ira_audit.specs.Report.{IsReportable};
 ghost use Rattle.ira_event.specs.Sink.{Wrote};
-ghost use Rattle.ira_main.specs.JudgedFolder.{IsElectionJudged, IsJudgedOf, answer_of, judged_line, judged_status, other_than};
+ghost use Rattle.ira_main.specs.JudgedFolder.{IsElectionJudged, IsJudgedOf, answer_of, judged_line, judged_status};
 
 use crate::judge_files::expected_by;
 use ira_audit::{Answer, GoodLogs, Judged, write_report};
+use ira_commands::Unmet;
 use ira_event::{OutOfMemory, Sink, WriteFault, write_bytes};
-use ira_main_cli::{AskedLeaders, Expectation};
+use ira_main_cli::Expectation;
 use ira_view::Status;
 use std::alloc::Allocator;
 
@@ -16,12 +17,8 @@ use std::alloc::Allocator;
 pub(crate) enum JudgedFolder {
     /// This is their answer, and after a yes all is as expected.
     Answered(Answer),
-    /// Nothing speaks against them, and their election isn't over.
-    NotOver,
-    /// Nothing speaks against them, and no node leads.
-    NoLeader,
-    /// Nothing speaks against them, and other nodes lead than those that are to.
-    OtherLeaders,
+    /// Nothing speaks against them, and this isn't as expected of their election.
+    Unmet(Unmet),
 }
 
 impl JudgedFolder {
@@ -31,9 +28,7 @@ impl JudgedFolder {
     {
         match self {
             JudgedFolder::Answered(answer) => *answer,
-            JudgedFolder::NotOver | JudgedFolder::NoLeader | JudgedFolder::OtherLeaders => {
-                Answer::Yes
-            }
+            JudgedFolder::Unmet(_) => Answer::Yes,
         }
     }
 
@@ -43,9 +38,7 @@ impl JudgedFolder {
     {
         match self {
             JudgedFolder::Answered(answer) => Status::of_answer(answer),
-            JudgedFolder::NotOver | JudgedFolder::NoLeader | JudgedFolder::OtherLeaders => {
-                Status::No
-            }
+            JudgedFolder::Unmet(_) => Status::No,
         }
     }
 
@@ -56,22 +49,9 @@ impl JudgedFolder {
     {
         match self {
             JudgedFolder::Answered(answer) => write_report(answer, sink),
-            JudgedFolder::NotOver => write_bytes(b"yes, not over\n", sink),
-            JudgedFolder::NoLeader => write_bytes(b"yes, no leader\n", sink),
-            JudgedFolder::OtherLeaders => write_bytes(b"yes, other leaders\n", sink),
-        }
-    }
-}
-
-/// What logs are judged to be whose election isn't as expected.
-fn other_than(expectation: &Expectation<'_>) -> JudgedFolder
-    ensures { result ≡ other_than expectation.now }
-{
-    match expectation {
-        Expectation::Over => JudgedFolder::NotOver,
-        Expectation::Leaders(AskedLeaders::Any) => JudgedFolder::NoLeader,
-        Expectation::Leaders(AskedLeaders::Places(_) | AskedLeaders::File(_)) => {
-            JudgedFolder::OtherLeaders
+            JudgedFolder::Unmet(Unmet::NotOver) => write_bytes(b"yes, not over\n", sink),
+            JudgedFolder::Unmet(Unmet::NoLeader) => write_bytes(b"yes, no leader\n", sink),
+            JudgedFolder::Unmet(Unmet::OtherLeaders) => write_bytes(b"yes, other leaders\n", sink),
         }
     }
 }
@@ -79,29 +59,22 @@ fn other_than(expectation: &Expectation<'_>) -> JudgedFolder
 /// What good logs are judged to be, of whose election this is expected; these places are those of the file of leaders.
 fn judge_election<A: Allocator + Clone>(
     alloc: A,
-    expected: &Option<Expectation<'_>>,
+    expected: &Expectation<'_>,
     read: &[u64],
     logs: &GoodLogs<A>,
 ) -> Result<JudgedFolder, OutOfMemory>
     ensures { IfOk result (IsElectionJudged expected.now read.now logs.now) }
 {
-    match expected {
+    match expected_by(expected, read).unmet(alloc, logs)? {
         None => Ok(JudgedFolder::Answered(Answer::Yes)),
-        Some(expectation) => {
-            let asked = expected_by(expectation, read);
-            if asked.is_met(alloc, logs)? {
-                Ok(JudgedFolder::Answered(Answer::Yes))
-            } else {
-                Ok(other_than(expectation))
-            }
-        }
+        Some(unmet) => Ok(JudgedFolder::Unmet(unmet)),
     }
 }
 
 /// What the logs of a ring are judged to be, of whose election this is expected.
 pub(crate) fn judge_as_expected<A: Allocator + Clone>(
     alloc: A,
-    expected: &Option<Expectation<'_>>,
+    expected: &Expectation<'_>,
     read: &[u64],
     judged: &Judged<A>,
 ) -> Result<JudgedFolder, OutOfMemory>

@@ -1,4 +1,4 @@
-ghost use Rattle.std.specs.Prelude.{◌≡◌, MatchOption, MatchResult, Some, option_map};
+ghost use Rattle.std.specs.Prelude.{◌≡◌, MatchOption, MatchResult, Some};
 ghost use Rattle.ira_main_cli.specs.declared.asked_leaders.AskedLeaders.TheVariants.{File};
 ghost use Rattle.ira_main.specs.LeadersFile.{HasLeadersIn, ComesFromNoFolder, ComesFromFolder, IsLeadersFile, IsNoLeaders};
 
@@ -55,13 +55,13 @@ fn places_in<'a, A: Allocator + Clone, F: TextSource>(
 /// The places in the file of leaders, if one is named; else none.
 pub(crate) fn leaders_in<'a, A: Allocator + Clone, F: TextSource>(
     alloc: &A,
-    named: Option<&AskedLeaders<'a>>,
+    named: &Option<AskedLeaders<'a>>,
     source: &LogSource<'a>,
     shelf: &F,
 ) -> Result<Vec<u64, A>, ProgramFault<'a>>
     ensures { MatchResult result
-        (λ places. HasLeadersIn F.reads shelf.now source.now (option_map (λ asked. asked.now) named.entry) places.items)
-        (IsNoLeaders F.reads shelf.now source.now (option_map (λ asked. asked.now) named.entry)) }
+        (λ places. HasLeadersIn F.reads shelf.now source.now named.now places.items)
+        (IsNoLeaders F.reads shelf.now source.now named.now) }
 {
     match named {
         Some(AskedLeaders::File(name)) => places_in(alloc, name, source, shelf),

@@ -2,13 +2,13 @@
 #![tactic(auto)]
 
 mod answer_files;
+mod answer_logs;
 mod ask_files;
 mod asked_run;
 mod cert_file;
 mod delivery;
 mod draw_files;
 mod explain_files;
-mod explain_logs;
 mod folder_answer;
 mod folder_reasons;
 mod given;

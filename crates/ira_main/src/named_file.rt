@@ -19,22 +19,6 @@ pub(crate) struct NamedFile<A: Allocator> {
 }
 
 impl<A: Allocator> NamedFile<A> {
-    /// Reads the file of this name.
-    pub(crate) fn read<'a, F: TextSource>(
-        alloc: &A,
-        name: FileName<'a>,
-        shelf: &F,
-    ) -> Result<NamedFile<A>, ProgramFault<'a>>
-    where
-        A: Clone,
-        ensures named { IfOk result (λ file. string_bytes file.name ≡ file_name name.entry) }
-        ensures read { IfOk result (λ file. F.reads.text shelf.now (file_name name.entry) (Ok file.text.items)) }
-        ensures fault { IfErr result (IsFilesFault F.reads (file_name name.entry ∷ []) shelf.now) }
-    {
-        let mut buffer = TextBuffer::new(alloc.clone()?);
-        NamedFile::read_by(alloc, &mut buffer, name, shelf)
-    }
-
     /// Reads the file of this name through a buffer.
     fn read_by<'a, F: TextSource>(
         alloc: &A,

@@ -9,21 +9,20 @@ ghost use Rattle.ira_main.specs.Unread.{IsWhy, TellsUnread, wants_json};
 ghost use Rattle.ira_main.specs.Serve.{Serves};
 
 use crate::answer_files::answer_files;
+use crate::answer_logs::answer_logs;
 use crate::ask_files::ask_files;
 use crate::asked_run::{record_run_alone, record_run_on_threads};
 use crate::delivery::{deliver, deliver_and_keep, record_and_deliver};
 use crate::draw_files::draw_files;
 use crate::explain_files::{explain_check_files, explain_input};
-use crate::explain_logs::explain_logs;
 use crate::given::Inputs;
 use crate::guide::print_guide;
 use crate::judge_each::judge_each;
-use crate::judge_files::{check_files, judge_input, judge_logs};
+use crate::judge_files::{check_files, judge_input};
 use crate::mend_files::mend_files;
 use crate::program_fault::{ProgramFault, report_outcome};
 use crate::progress::Progress;
 use crate::show_command::show_files;
-use crate::source_names::several_folders;
 use crate::tell_unread::tell_unread;
 use crate::tell_why::why_unread;
 use crate::upgrade_files::upgrade_files;
@@ -31,7 +30,8 @@ use crate::version::print_version;
 use ira_commands::{LogsCommand, Reply, ask_pairs};
 use ira_event::{MAX_TEXT, Sink};
 use ira_main_cli::{
-    CaseSelection, EachRequest, ExplainRequest, ExplainedAnswer, FolderDetail, Request, read_words,
+    CaseSelection, EachRequest, ExplainRequest, ExplainedAnswer, FolderDetail, LogsRequest,
+    Request, read_words,
 };
 use ira_main_files::{CountingReader, Shelf};
 use ira_view::{Form, Status};
@@ -75,16 +75,16 @@ where
     };
     match request {
         Request::OneLog => Progress::Ended(deliver(judge_input(alloc, input), out)),
-        Request::Logs(logs) => {
-            if let Some(folders) = several_folders(&logs.logs, shelf) {
-                let form = Form::of_json(logs.is_json);
-                let expected = &logs.expected;
-                let detail = FolderDetail::Line;
-                return Progress::Ended(judge_each(
-                    rt, alloc, form, expected, detail, folders, shelf, out,
-                ));
-            }
-            Progress::Ended(deliver(judge_logs(rt, alloc, &logs, shelf), out))
+        Request::Logs(
+            LogsRequest {
+                is_json,
+                expected,
+                logs,
+            },
+        ) => {
+            let (detail, form) = (FolderDetail::Line, Form::of_json(is_json));
+            let asked = &expected;
+            Progress::Ended(answer_logs(rt, alloc, detail, form, asked, &logs, shelf, out))
         }
         Request::Each(
             EachRequest {
@@ -104,8 +104,9 @@ where
                 ExplainedAnswer::OneLog => {
                     Progress::Ended(deliver(explain_input(alloc, form, input), out))
                 }
-                ExplainedAnswer::Logs { leaders, logs } => {
-                    Progress::Ended(explain_logs(rt, alloc, form, leaders, &logs, shelf, out))
+                ExplainedAnswer::Logs { expected, logs } => {
+                    let (detail, asked) = (FolderDetail::Reasons, &expected);
+                    Progress::Ended(answer_logs(rt, alloc, detail, form, asked, &logs, shelf, out))
                 }
                 ExplainedAnswer::Findings { asked, logs } => {
                     let CaseSelection { question, case } = asked;
@@ -206,36 +207,13 @@ where
     }
 }
 
-/// The program: `words` are those after its name, `input` is its standard input, the files lie on `shelf`, and `out`
-/// and `err` are its standard streams. It gives the status, which a failed write to `err` doesn't change:
+/// The program: `words` are those after its name, `input` is its standard input, the files lie on `shelf`, and `out` and
+/// `err` are its standard streams. It gives the status, which a failed write to `err` doesn't change. What each command does,
+/// and which status is when, is in docs/COMMANDS.md.
 ///
-/// | Status | When |
-/// |---|---|
-/// | 0 | yes; every case is absent; a node leads, or those lead that are named; logs are upgraded or mended |
-/// | 1 | no; a case is present; the election isn't over, where that is asked; no node leads, or others than are named |
-/// | 2 | refused words, a refused ring or moment, a failed read or write, a certificate or a picture past its limits |
-/// | 3 | out of memory |
-///
-/// Without words it judges the log on `input`, of which it reads at most one byte more than `MAX_TEXT`, and so it does
-/// for `explain` without logs. With other words it reads nothing of `input`:
-///
-/// * `logs` judges the logs of a ring together, in the files that are named or in a folder, or those in each of some folders;
-///   `explain` does so too, and says why the answer is as it is, also with a question or a certificate;
-/// * `show` says what happened by the logs, and `draw` keeps a picture of it in a file;
-/// * `check` judges logs with the question and the certificate in the files of its options; `decide` decides the question of
-///   them, and keeps a certificate in a file if one is named and all cases are absent;
-/// * `pairs` and a number prints the question of all pairs of nodes, `ask` that of a sentence;
-/// * `run` and its options runs a ring and writes the logs of its nodes to files;
-/// * `upgrade` writes logs in version 2, and `mend` of each the longest beginning such that all are consistent, each to a file
-///   of a folder;
-/// * `guide` says what the commands are, or how questions or logs are written;
-/// * `version` prints the version; all other words are refused.
-///
-/// With `--json` answers, what is found for a question, what is shown, and a file that can't be read are printed as JSON
-/// Lines.
-///
-/// Logs are read on threads, those of several folders are judged on some, `check` judges a section on some, and a run without `--alone` has a thread for each node;
-/// all of them are waited for.
+/// Without words, and for `explain` without logs, it judges the log on `input`, of which it reads at most one byte more than
+/// `MAX_TEXT`; with other words it reads nothing of it. Logs are read on threads, those of several folders are judged on
+/// some, `check` judges a section on some, and a run without `--alone` has a thread for each node; all are waited for.
 pub fn serve<R, A, I, F, W, V>(
     rt: &R,
     alloc: A,

@@ -1,4 +1,4 @@
-ghost use Rattle.std.specs.Prelude.{◌≡◌, MatchResult, option_map};
+ghost use Rattle.std.specs.Prelude.{◌≡◌, MatchResult};
 ghost use Rattle.ira_main.specs.Moment.{IsMomentOf, question_of};
 ghost use Rattle.ira_main.specs.Show.{AreLeadersOf, AreLinesOf, AsksToShow, IsUnshown, ShowsFiles};
 
@@ -34,14 +34,18 @@ pub(crate) fn question_of<'a>(asked: &AskedMoment<'a>) -> Option<&'a str>
     }
 }
 
-/// Who is to lead by the words; these places are those of the file that is named, if one is.
-pub(crate) fn leaders_of<'t>(asked: &'t AskedLeaders<'_>, read: &'t [u64]) -> RingLeaders<'t>
+/// Who is to lead by the words, if that is asked; these places are those of the file that is named, if one is.
+pub(crate) fn leaders_of<'t>(
+    asked: &'t Option<AskedLeaders<'_>>,
+    read: &'t [u64],
+) -> RingLeaders<'t>
     ensures { AreLeadersOf asked.now read.now result }
 {
     match asked {
-        AskedLeaders::Places(places) => RingLeaders::Places(places.as_slice()),
-        AskedLeaders::File(_) => RingLeaders::Places(read),
-        AskedLeaders::Any => RingLeaders::Any,
+        None => RingLeaders::NotAsked,
+        Some(AskedLeaders::Any) => RingLeaders::Any,
+        Some(AskedLeaders::Places(places)) => RingLeaders::Places(places.as_slice()),
+        Some(AskedLeaders::File(_)) => RingLeaders::Places(read),
     }
 }
 
@@ -49,14 +53,10 @@ pub(crate) fn leaders_of<'t>(asked: &'t AskedLeaders<'_>, read: &'t [u64]) -> Ri
 fn lines_of<'t>(show: &'t ShowRequest<'_>, read: &'t [u64]) -> LinesForm<'t>
     ensures { AreLinesOf show.now read.now result }
 {
-    let leaders = match &show.leads {
-        Some(leaders) => leaders_of(leaders, read),
-        None => RingLeaders::NotAsked,
-    };
     LinesForm {
         form: Form::of_json(show.is_json),
         has_events: show.has_events,
-        leaders,
+        leaders: leaders_of(&show.leads, read),
     }
 }
 
@@ -68,16 +68,6 @@ fn show_command<'t>(show: &'t ShowRequest<'_>, read: &'t [u64]) -> LogsCommand<'
         RingForm::Lines(lines_of(show, read)),
         moment_of(&show.moment),
     )
-}
-
-/// Those who are to lead by the words, if it is asked.
-fn named_leaders<'t, 'a>(show: &'t ShowRequest<'a>) -> Option<&'t AskedLeaders<'a>>
-    ensures { option_map (λ asked. asked.now) result ≡ show.now.leads }
-{
-    match &show.leads {
-        Some(leaders) => Some(leaders),
-        None => None,
-    }
 }
 
 /// Shows logs, with those who are to lead, in the files that are named.
@@ -93,7 +83,7 @@ where
     F: TextSource + Sync,
     ensures { MatchResult result (ShowsFiles A F.reads show.now shelf.now) (IsUnshown F.reads show.now shelf.now) }
 {
-    let read = leaders_in(&alloc, named_leaders(show), &show.logs, shelf)?;
+    let read = leaders_in(&alloc, &show.leads, &show.logs, shelf)?;
     let inputs = Inputs::asked(question_of(&show.moment), &show.logs, None);
     answer_files(rt, alloc, show_command(show, &read), inputs, shelf)
 }

@@ -37,8 +37,7 @@ fn line_of_unread<A: Allocator + Clone>(
     unread_line(alloc, None, file.as_str(), Status::Refused.number())
 }
 
-/// Prints a file that can't be read as JSON, where the words ask for that. Where memory runs out, or the output fails, the
-/// outcome stays.
+/// Prints a file that can't be read as JSON, where the words ask for that. Failures of that change no outcome.
 pub(crate) fn tell_unread<A: Allocator + Clone, W: Sink>(
     alloc: A,
     words: &[&str],

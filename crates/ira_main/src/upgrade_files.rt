@@ -10,8 +10,7 @@ use ira_main_files::Shelf;
 use std::alloc::Allocator;
 use std::thread::Threads;
 
-/// The logs of a source in version 2. All are read before a file is made, so that they may lie in the folder that they are
-/// written to.
+/// The logs of a source in version 2, all read before a file is made: they may lie in the folder written to.
 pub(crate) fn upgrade_files<'a, R, A, F>(
     rt: &R,
     alloc: &A,

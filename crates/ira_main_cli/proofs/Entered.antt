@@ -7,8 +7,8 @@ use Rattle.std.specs.Str.{bytes_eq, chars}
 use Rattle.std.specs.Option.{option_map_or}
 use Rattle.std.proofs.lemmas.List.{append-nil}
 use Rattle.std.proofs.lemmas.Slice.Eq.{bytes_eq-Decides}
-use Rattle.clap.specs.Faults.{bundle_fault, bundle_step_fault, defaults_fault, entered_fault, fault_of, flag_word_fault}
-use Rattle.clap.specs.Faults.{flags_fault, level_fault, long_fault, other_fault, short_fault, step_fault, walk_fault}
+use Rattle.clap.specs.Faults.{bundle_fault, bundle_step_fault, defaults_fault, fault_of, flag_word_fault}
+use Rattle.clap.specs.Faults.{flags_fault, long_fault, other_fault, short_fault, step_fault, walk_fault}
 use Rattle.clap.specs.Kinds.{Kinds, or_else}
 use Rattle.clap.specs.Lexer.{long_of, short_of}
 use Rattle.clap.specs.Matches.{subcommand_name_of}
@@ -19,11 +19,16 @@ use Rattle.clap.specs.Walk.{bundle_step, has_long, has_short, idle, trailing, no
 use Rattle.clap.specs.Walk.{rows_after, subcommand_or_other, long_or_other, short_or_plain, after_flag, walk_from}
 use Rattle.clap.specs.Walk.{walked}
 use Rattle.clap.specs.declared.parser.matches.ArgMatches.{ArgMatches}
-use Rattle.ira_main_cli.specs.CommandLine.{commands, ira_app, rules_named}
-use Rattle.ira_main_cli.specs.FoundOptions.{AreFound, AreFoundAfter, AreTyped, IsOneOf}
+use Rattle.ira_main_cli.specs.CommandLine.{IsOneOf, commands, ira_app, rules_named}
 use Rattle.ira_main_cli.specs.Request.{AreAcceptedWords, AreMatchesOf}
-use Rattle.ira_main_cli.proofs.FoundRows.{rows_found, rows_typed}
-use Rattle.ira_main_cli.proofs.TypedUses.{AllFit, first_none, second_none}
+
+first_none : (a b : Kinds) → or_else a b ≡ [] → a ≡ []
+first_none [] b e = refl
+first_none (k ∷ ks) b e = e
+
+second_none : (a b : Kinds) → or_else a b ≡ [] → b ≡ []
+second_none [] b e = e
+second_none (k ∷ ks) b e = cc
 
 abbrev top : Shape
 top = (built ira_app).top
@@ -148,11 +153,6 @@ or_false false = refl
 pub record IsCommand (s : Shape) : Type 0 where
   pub one : IsOneOf s.name commands
   pub rules : s.rules ≡ rules_named s.name
-  pub fits : AllFit s.rules
-  pub once : s.args_override_self ≡ false
-  pub alone : s.subcommand_required ≡ false
-  pub helpless : s.arg_required_else_help ≡ false
-  pub strict : s.subcommand_negates_reqs ≡ false
 
 -- each of these is one, or `help`
 abbrev AreCommands : List Shape → Type 0
@@ -170,58 +170,49 @@ one_of name (a ∷ rest) is = go (bytes_eq name a.top.name) refl (one_of name re
     go false other later e = inr (later e)
 
 command : (s : Shape) → list_any (λ a. bytes_eq s.name a.top.name) commands ≡ true → s.rules ≡ rules_named s.name
-    → s.args_override_self ≡ false → s.subcommand_required ≡ false → s.arg_required_else_help ≡ false
-    → s.subcommand_negates_reqs ≡ false → AllFit s.rules → IsCommand s ⊎ (s.name ≡ codes "help")
-command s one rules once alone helpless strict fits = inl (record {
-  one = one_of s.name commands one;
-  rules = rules;
-  fits = fits;
-  once = once;
-  alone = alone;
-  helpless = helpless;
-  strict = strict;
-})
+    → IsCommand s ⊎ (s.name ≡ codes "help")
+command s one rules = inl (record { one = one_of s.name commands one; rules = rules })
 
 are_commands : AreCommands (built ira_app).subs
 are_commands = (
   refl,
-  command _ refl refl refl refl refl refl (search rules),
+  command _ refl refl,
   (
     refl,
-    command _ refl refl refl refl refl refl (search rules),
+    command _ refl refl,
     (
       refl,
-      command _ refl refl refl refl refl refl (search rules),
+      command _ refl refl,
       (
         refl,
-        command _ refl refl refl refl refl refl (search rules),
+        command _ refl refl,
         (
           refl,
-          command _ refl refl refl refl refl refl (search rules),
+          command _ refl refl,
           (
             refl,
-            command _ refl refl refl refl refl refl (search rules),
+            command _ refl refl,
             (
               refl,
-              command _ refl refl refl refl refl refl (search rules),
+              command _ refl refl,
               (
                 refl,
-                command _ refl refl refl refl refl refl (search rules),
+                command _ refl refl,
                 (
                   refl,
-                  command _ refl refl refl refl refl refl (search rules),
+                  command _ refl refl,
                   (
                     refl,
-                    command _ refl refl refl refl refl refl (search rules),
+                    command _ refl refl,
                     (
                       refl,
-                      command _ refl refl refl refl refl refl (search rules),
+                      command _ refl refl,
                       (
                         refl,
-                        command _ refl refl refl refl refl refl (search rules),
+                        command _ refl refl,
                         (
                           refl,
-                          command _ refl refl refl refl refl refl (search rules),
+                          command _ refl refl,
                           (refl, inr refl, tt),
                         ),
                       ),
@@ -307,15 +298,6 @@ module _ (w : Text) (s : Shape) (is : Enters w s) (rest : List Text) where
       ap (λ o. entered (built ira_app) o) stopped_at ∙ ap (option_map (λ x. rows_at x rest)) is.enters
       ∙ ap (λ n. Some (n, rows_after s.rules [] rest)) is.named
 
-  -- without a fault, where all of them have none
-  fine : fault_of ira_app (w ∷ rest) ≡ [] → level_fault s [] nothing_held rest false [] ≡ []
-  fine none =
-      let after = second_none (walk_fault top names (walk_from nothing_held) (w ∷ rest)) _ none in
-      let below : entered_fault (built ira_app) (Some (w, rest)) ≡ [] =
-      subst (λ o. entered_fault (built ira_app) o ≡ []) stopped_at (first_none _ _ after) in
-      subst (λ (o : Option Shape). option_map_or (λ x. level_fault x [] nothing_held rest false []) o [] ≡ [])
-      is.enters below
-
 -- ---- what a parse found
 
 fused : {X Y Z : Type 0} (f : X → Y) (g : Y → Z) (o : Option X)
@@ -339,7 +321,6 @@ pub record IsParsed (words : List Text) (name : Text) (rows : List Row) : Type 0
   pub first : words ≡ name ∷ others
   pub rows_are : rows ≡ rows_after (rules_named name) [] others
   pub one : IsOneOf name commands
-  pub found : AreFoundAfter name rows
 
 pub parsed : (m : ArgMatches) (words : List Text) (name : Text) (rows : List Row) → AreMatchesOf words m
     → Some name ≡ subcommand_name_of m → Some rows ≡ option_map (λ s. s.1) (subcommand_rows_of m)
@@ -356,7 +337,6 @@ parsed m (w ∷ rest) name rows parse is read =
     let all : Some rows ≡ Some (rows_after s.rules [] rest) = read ∙ ap (option_map (λ x. x.1)) met in
     let after : rows_after s.rules [] rest ≡ rows = cc in
     let its : s.name ≡ name = it.1.named ∙ same in
-    let none = fine w s it.1 rest parse.accepted in
     let rules : s.rules ≡ rules_named name = command.rules ∙ ap rules_named its in
     record {
       accepted = parse.accepted;
@@ -364,11 +344,4 @@ parsed m (w ∷ rest) name rows parse is read =
       first = ap (λ x. x ∷ rest) same;
       rows_are = sym after ∙ ap (λ rs. rows_after rs [] rest) rules;
       one = subst (λ n. IsOneOf n commands) its command.one;
-      found = record {
-        typed = subst AreTyped after (rows_typed s command.once command.fits rest none);
-        found =
-            subst (λ rs. AreFound rs rows) rules
-            (subst (AreFound s.rules) after
-            (rows_found s command.once command.fits command.alone command.helpless command.strict rest none));
-      };
     }

@@ -1,18 +1,18 @@
 -- What words ask for, by what a parse found of them.
-use Rattle.std.proofs.Common.{◌≡◌, ◌∙◌, inl, inr, Option, Some, List, [], ◌++◌, sym, ap, subst, true}
+use Rattle.std.proofs.Common.{◌≡◌, ◌≢◌, ◌∙◌, ◌⊎◌, inl, inr, Option, None, Some, List, [], ◌++◌, codes, refl, sym, ap, subst, true}
 use Rattle.std.specs.Borrow.{Bor}
-use Rattle.std.specs.Prelude.{option_map}
+use Rattle.std.specs.Prelude.{is_some, option_map}
 use Rattle.clap.specs.Faults.{fault_of, is_simple_and_free}
 use Rattle.clap.specs.Kinds.{HasKind}
 use Rattle.clap.specs.Matches.{found_of, subcommand_name_of}
 use Rattle.clap.specs.Simple.{App, HasMatchesOf, built_leaf, subcommand_rows_of}
 use Rattle.clap.specs.Values.{kind_of}
-use Rattle.clap.specs.Walk.{Row, Text, rows_after, rows_of}
+use Rattle.clap.specs.Walk.{Row, Text, all_of, first_of, rows_after, rows_of}
 use Rattle.clap.specs.declared.error.Error.{Error}
 use Rattle.clap.specs.declared.error.kind.ErrorKind.TheVariants as kind
 use Rattle.clap.specs.declared.parser.matches.ArgMatches.{ArgMatches}
 use Rattle.ira_main_cli.specs.CommandLine.{ira_app, logs_app}
-use Rattle.ira_main_cli.specs.Asked.{HasLogs}
+use Rattle.ira_main_cli.specs.Asked.{HasLogs, MayNameLogs, NamesLogs}
 use Rattle.ira_main_cli.specs.Request.{AreMatchesOf, Asks, GoTogether, GoTogetherAfter, IsCommandLine}
 use Rattle.ira_main_cli.specs.Request.{IsLogsLine, IsMadeOf, found_after}
 use Rattle.ira_main_cli.specs.declared.logs_request.LogsRequest.{LogsRequest}
@@ -85,3 +85,13 @@ made words name rows it request asks =
     go (Logs logs) line = logs_line words logs line
     go Version line = inr line
     go other line = line
+
+-- logs that are named are not named twice
+pub named_once : (rows : List Row) → NamesLogs rows → MayNameLogs rows
+named_once rows names = (one (first_of (codes "dir") rows) (all_of (codes "LOG") rows) names.0, names.1)
+  where
+    one : (folder : Option Text) (files : Option (List Text)) → is_some folder ≢ is_some files
+        → (folder ≡ None) ⊎ (files ≡ None)
+    one None files differ = inl refl
+    one (Some folder) None differ = inr refl
+    one (Some folder) (Some files) differ = absurd (differ refl)

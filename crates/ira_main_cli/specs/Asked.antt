@@ -2,9 +2,9 @@
 use Rattle.std.specs.Prelude.{ℕ, All, Bool, List, None, Option, Some, [], codes, false, is_some, map, option_map, true}
 use Rattle.std.specs.Prelude.{◌≡◌, ◌≢◌, ◌≤◌, ◌⊎◌}
 use Rattle.std.specs.Borrow.{Bor}
-use Rattle.clap.specs.Takes.{is_given}
 use Rattle.clap.specs.Walk.{Row, Text, all_of, first_of}
-use Rattle.ira_main_cli.specs.Options.{HasNumber, HasNumbers, IsLeftOut, ListsNumbers, MayHaveNumber, WritesNumbers}
+use Rattle.ira_main_cli.specs.Options.{HasNumber, HasNumberTo, HasNumbers, IsLeftOut, ListsNumber, ListsNumbers}
+use Rattle.ira_main_cli.specs.Options.{MayHaveNumber, WritesNumbers, is_set}
 use Rattle.ira_main_cli.specs.declared.asked_leaders.AskedLeaders.{AskedLeaders}
 use Rattle.ira_main_cli.specs.declared.asked_leaders.AskedLeaders.TheVariants.{Any, File, Places}
 use Rattle.ira_main_cli.specs.declared.asked_moment.AskedMoment.{AskedMoment}
@@ -17,7 +17,6 @@ use Rattle.ira_main_cli.specs.declared.decide_request.DecideRequest.{DecideReque
 use Rattle.ira_main_cli.specs.declared.draw_request.DrawRequest.{DrawRequest}
 use Rattle.ira_main_cli.specs.declared.each_request.EachRequest.{EachRequest}
 use Rattle.ira_main_cli.specs.declared.expectation.Expectation.{Expectation}
-use Rattle.ira_main_cli.specs.declared.expectation.Expectation.TheVariants.{Leaders, Over}
 use Rattle.ira_main_cli.specs.declared.ask_request.AskRequest.{AskRequest}
 use Rattle.ira_main_cli.specs.declared.explain_request.ExplainRequest.{ExplainRequest}
 use Rattle.ira_main_cli.specs.declared.explained_answer.ExplainedAnswer.{ExplainedAnswer}
@@ -52,16 +51,22 @@ MayHaveLogs rows None = (first_of (codes "dir") rows ≡ None) × (all_of (codes
 
 -- names or a folder are given, and not both
 abbrev pub NamesLogs : List Row → Type 0
-NamesLogs rows = is_some (first_of (codes "dir") rows) ≢ is_some (all_of (codes "LOG") rows)
+NamesLogs rows = (is_some (first_of (codes "dir") rows) ≢ is_some (all_of (codes "LOG") rows))
+    × (all_of (codes "LOG") rows ≢ Some [])
 
 -- both aren't given
 abbrev pub MayNameLogs : List Row → Type 0
-MayNameLogs rows = (first_of (codes "dir") rows ≡ None) ⊎ (all_of (codes "LOG") rows ≡ None)
+MayNameLogs rows = ((first_of (codes "dir") rows ≡ None) ⊎ (all_of (codes "LOG") rows ≡ None))
+    × (all_of (codes "LOG") rows ≢ Some [])
 
 -- the files of these names
 abbrev pub IsOfFiles : LogSource → List (List ℕ) → Type 0
 IsOfFiles (Files names) files = map (λ name. name.now) names.items ≡ files
 IsOfFiles (Folder folder) files = ⊥
+
+-- an option or name has a value
+abbrev pub HasText : List Row → Text → Type 0
+HasText rows name = first_of name rows ≢ None
 
 -- ---- a question, and perhaps a case of it
 
@@ -86,6 +91,7 @@ pub record NamesMoment (rows : List Row) : Type 0 where
   pub cut : ListsNumbers (codes "at") rows
   pub one : IsLeftOut (codes "at") rows ⊎ IsLeftOut (codes "question") rows
   pub question : IsLeftOut (codes "question") rows → IsLeftOut (codes "case") rows
+  pub case : ListsNumber (codes "case") rows
 
 -- ---- leaders
 
@@ -97,6 +103,15 @@ HasLeaders rows (Some Any) = first_of (codes "leads") rows ≡ Some (codes "any"
 HasLeaders rows (Some (Places places)) = HasNumbers rows (codes "leads") places.items
 HasLeaders rows (Some (File name)) =
     (first_of (codes "leads") rows ≡ Some name.now) × (name.now ≢ codes "any") × ¬ WritesNumbers name.now
+
+-- what is expected of an election: that it is over exactly where `--over` is given, and who is to lead
+abbrev pub HasExpectation : List Row → Expectation → Type 0
+HasExpectation rows expected =
+    (expected.is_over ≡ is_set (codes "over") rows) × HasLeaders rows expected.leaders
+
+-- nothing is
+abbrev pub ExpectsNothing : List Row → Type 0
+ExpectsNothing rows = (is_set (codes "over") rows ≡ false) × IsLeftOut (codes "leads") rows
 
 -- ---- an answer to explain
 
@@ -110,7 +125,7 @@ pub record AsksNothing (rows : List Row) : Type 0 where
 pub record HasFindings (rows : List Row) (asked : CaseSelection) (logs : LogSource) : Type 0 where
   pub asked_is : HasQuestion rows asked
   pub certificate : IsLeftOut (codes "cert") rows
-  pub leads : IsLeftOut (codes "leads") rows
+  pub expected : ExpectsNothing rows
   pub logs_are : HasLogs rows logs
 
 -- what is named is the question, the certificate and the logs
@@ -118,50 +133,41 @@ pub record HasCertificate (rows : List Row) (question certificate : List ℕ) (l
   pub question_is : first_of (codes "question") rows ≡ Some question
   pub case : IsLeftOut (codes "case") rows
   pub certificate_is : first_of (codes "cert") rows ≡ Some certificate
-  pub leads : IsLeftOut (codes "leads") rows
+  pub expected : ExpectsNothing rows
   pub logs_are : HasLogs rows logs
 
 -- the answer is that of what is named
 abbrev pub HasAnswer : List Row → ExplainedAnswer → Type 0
 HasAnswer rows explained.OneLog =
-    AsksNothing rows × HasLeaders rows None × IsLeftOut (codes "dir") rows × (all_of (codes "LOG") rows ≡ None)
-HasAnswer rows (explained.Logs leaders source) = AsksNothing rows × HasLeaders rows leaders × HasLogs rows source
+    AsksNothing rows × ExpectsNothing rows × IsLeftOut (codes "dir") rows × (all_of (codes "LOG") rows ≡ None)
+HasAnswer rows (explained.Logs expected source) = AsksNothing rows × HasExpectation rows expected × HasLogs rows source
 HasAnswer rows (explained.Findings asked logs) = HasFindings rows asked logs
 HasAnswer rows (explained.Certificate question certificate logs) = HasCertificate rows question.now certificate.now logs
 
 -- options and names that go together: the logs aren't named by both, a case or a certificate, and not both, is named
--- with a question alone, a question with logs alone, and leaders with logs and no question
+-- with a question alone, a question with logs alone, and something is expected of an election with logs and no question
 pub record NamesAnswer (rows : List Row) : Type 0 where
   pub logs : MayNameLogs rows
   pub question : IsLeftOut (codes "question") rows → IsLeftOut (codes "case") rows × IsLeftOut (codes "cert") rows
   pub asked_of_logs : IsLeftOut (codes "question") rows ⊎ NamesLogs rows
   pub one : IsLeftOut (codes "case") rows ⊎ IsLeftOut (codes "cert") rows
-  pub leads : IsLeftOut (codes "leads") rows ⊎ (IsLeftOut (codes "question") rows × NamesLogs rows)
+  pub expected : ExpectsNothing rows ⊎ (IsLeftOut (codes "question") rows × NamesLogs rows)
+  pub case : ListsNumber (codes "case") rows
 
 -- the answer is that of what is named together, and JSON is wanted exactly where `--json` is given
 pub record HasAnswerToExplain (rows : List Row) (explain : ExplainRequest) : Type 0 where
   pub answer : HasAnswer rows explain.answer
-  pub together : is_given (codes "each") rows ≡ false
-  pub json : explain.is_json ≡ is_given (codes "json") rows
+  pub together : is_set (codes "each") rows ≡ false
+  pub json : explain.is_json ≡ is_set (codes "json") rows
 
 -- ---- the other requests
-
--- what is expected of an election: that it is over, where `--over` is given, or who is to lead; both aren't given
-abbrev pub HasExpectation : List Row → Option Expectation → Type 0
-HasExpectation rows None = (is_given (codes "over") rows ≡ false) × IsLeftOut (codes "leads") rows
-HasExpectation rows (Some Over) = (is_given (codes "over") rows ≡ true) × IsLeftOut (codes "leads") rows
-HasExpectation rows (Some (Leaders leaders)) = (is_given (codes "over") rows ≡ false) × HasLeaders rows (Some leaders)
-
--- leaders aren't named with `--over`
-abbrev pub NamesExpectation : List Row → Type 0
-NamesExpectation rows = is_given (codes "over") rows ≡ true → IsLeftOut (codes "leads") rows
 
 -- the logs come from what is named, with what is expected of their election, and JSON is wanted exactly where `--json` is
 -- given
 pub record HasLogsToJudge (rows : List Row) (request : LogsRequest) : Type 0 where
-  pub json : request.is_json ≡ is_given (codes "json") rows
+  pub json : request.is_json ≡ is_set (codes "json") rows
   pub expected : HasExpectation rows request.expected
-  pub together : is_given (codes "each") rows ≡ false
+  pub together : is_set (codes "each") rows ≡ false
   pub logs : HasLogs rows request.logs
 
 -- the names are those of the folders, of which there is at least one, and none is empty
@@ -174,21 +180,18 @@ pub record HasFolders (rows : List Row) (folders : List (Bor Text)) : Type 0 whe
 -- the same where `--each` is given, with what is expected of each election
 pub record HasFoldersToJudge (rows : List Row) (request : EachRequest) : Type 0 where
   pub detail : request.detail ≡ Line
-  pub json : request.is_json ≡ is_given (codes "json") rows
+  pub json : request.is_json ≡ is_set (codes "json") rows
   pub expected : HasExpectation rows request.expected
-  pub each : is_given (codes "each") rows ≡ true
+  pub each : is_set (codes "each") rows ≡ true
   pub folders : HasFolders rows request.folders.items
 
--- the same where reasons are asked for as well, and these leaders are expected, if any; neither a question nor anything
--- of one is named
+-- the same where reasons are asked for as well; neither a question nor anything of one is named
 pub record HasFoldersToExplain (rows : List Row) (request : EachRequest) : Type 0 where
   pub detail : request.detail ≡ Reasons
-  pub json : request.is_json ≡ is_given (codes "json") rows
-  pub leads : Option AskedLeaders
-  pub leads_are : HasLeaders rows leads
-  pub expected : request.expected ≡ option_map Leaders leads
+  pub json : request.is_json ≡ is_set (codes "json") rows
+  pub expected : HasExpectation rows request.expected
   pub nothing : AsksNothing rows
-  pub each : is_given (codes "each") rows ≡ true
+  pub each : is_set (codes "each") rows ≡ true
   pub folders : HasFolders rows request.folders.items
 
 -- names are given, none of which is empty, and no folder of one ring's logs
@@ -196,27 +199,27 @@ pub record NamesFolders (rows : List Row) : Type 0 where
   pub folder : IsLeftOut (codes "dir") rows
   pub names : List Text
   pub given : all_of (codes "LOG") rows ≡ Some names
+  pub some : names ≢ []
   pub named : All (λ name. name ≢ []) names
 
 -- where each folder is to be judged folders are named, and else logs are
 pub record NamesLogsToJudge (rows : List Row) : Type 0 where
   pub logs : NamesLogs rows
-  pub expected : NamesExpectation rows
-  pub folders : is_given (codes "each") rows ≡ true → NamesFolders rows
+  pub folders : is_set (codes "each") rows ≡ true → NamesFolders rows
 
 -- where each folder is to be explained folders are named, and neither a question nor anything of one; else an answer is
 pub record NamesAnswers (rows : List Row) : Type 0 where
-  pub answer : is_given (codes "each") rows ≡ false → NamesAnswer rows
-  pub question : is_given (codes "each") rows ≡ true → AsksNothing rows
-  pub folders : is_given (codes "each") rows ≡ true → NamesFolders rows
+  pub answer : is_set (codes "each") rows ≡ false → NamesAnswer rows
+  pub question : is_set (codes "each") rows ≡ true → AsksNothing rows
+  pub folders : is_set (codes "each") rows ≡ true → NamesFolders rows
 
 -- the request has the values of these options, and the logs that are named beside them; events and JSON are wanted
 -- exactly where `--events` and `--json` are given
 pub record HasLogsToShow (rows : List Row) (show : ShowRequest) : Type 0 where
   pub leads : HasLeaders rows show.leads
   pub moment : HasMoment rows show.moment
-  pub events : show.has_events ≡ is_given (codes "events") rows
-  pub json : show.is_json ≡ is_given (codes "json") rows
+  pub events : show.has_events ≡ is_set (codes "events") rows
+  pub json : show.is_json ≡ is_set (codes "json") rows
   pub logs : HasLogs rows show.logs
 
 -- options and names that go together: a moment and logs are named in one way
@@ -235,6 +238,9 @@ pub record HasLogsToDraw (rows : List Row) (draw : DrawRequest) : Type 0 where
 
 -- options and names that go together: a moment and logs are named in one way
 pub record NamesLogsToDraw (rows : List Row) : Type 0 where
+  pub picture : HasText rows (codes "out")
+  pub from : ListsNumber (codes "from") rows
+  pub to : ListsNumber (codes "to") rows
   pub moment : NamesMoment rows
   pub logs : NamesLogs rows
 
@@ -245,21 +251,38 @@ pub record HasFiles (rows : List Row) (check : CheckRequest) : Type 0 where
   pub certificate : first_of (codes "cert") rows ≡ Some check.certificate.now
   pub depth : HasNumber rows (codes "depth") check.depth
   pub shallow : check.depth ≤ 4
-  pub json : check.is_json ≡ is_given (codes "json") rows
+  pub json : check.is_json ≡ is_set (codes "json") rows
   pub logs : HasLogs rows check.logs
+
+-- what is needed is given
+pub record NamesFiles (rows : List Row) : Type 0 where
+  pub question : HasText rows (codes "question")
+  pub certificate : HasText rows (codes "cert")
+  pub depth : HasNumberTo 4 rows (codes "depth")
+  pub logs : NamesLogs rows
 
 -- the files are the values of these options, of which that of the certificate may be left out, and the logs come from
 -- what is named beside them; JSON is wanted exactly where `--json` is given
 pub record HasFilesToDecide (rows : List Row) (decide : DecideRequest) : Type 0 where
   pub question : first_of (codes "question") rows ≡ Some decide.question.now
   pub certificate : first_of (codes "out") rows ≡ option_map (λ name. name.now) decide.certificate
-  pub json : decide.is_json ≡ is_given (codes "json") rows
+  pub json : decide.is_json ≡ is_set (codes "json") rows
   pub logs : HasLogs rows decide.logs
+
+-- what is needed is given
+pub record NamesFilesToDecide (rows : List Row) : Type 0 where
+  pub question : HasText rows (codes "question")
+  pub logs : NamesLogs rows
 
 -- the folder is the value of this option, and the logs come from what is named beside it
 pub record HasFilesToRewrite (rows : List Row) (rewrite : RewriteRequest) : Type 0 where
   pub folder : first_of (codes "out") rows ≡ Some rewrite.folder.now
   pub logs : HasLogs rows rewrite.logs
+
+-- what is needed is given
+pub record NamesFilesToRewrite (rows : List Row) : Type 0 where
+  pub folder : HasText rows (codes "out")
+  pub logs : NamesLogs rows
 
 -- a node is taken for an initiator: the option says so or is left out; or for a passive one, where it says so
 abbrev pub SaysStart : List Row → Bool → Type 0
@@ -284,6 +307,7 @@ pub record HasLogsToMend (rows : List Row) (mend : MendRequest) : Type 0 where
 
 -- options and names that go together: the start is one of two, places of lost logs are numbers, and logs are named in one way
 pub record NamesLogsToMend (rows : List Row) : Type 0 where
+  pub folder : HasText rows (codes "out")
   pub start : NamesStart rows
   pub lost : ListsNumbers (codes "lost") rows
   pub logs : NamesLogs rows
@@ -308,11 +332,17 @@ HasSize rows (ring.Folder folder) =
 pub record NamesSize (rows : List Row) : Type 0 where
   pub one : IsLeftOut (codes "nodes") rows ⊎ IsLeftOut (codes "dir") rows
   pub some : IsLeftOut (codes "nodes") rows → IsLeftOut (codes "dir") rows → ⊥
+  pub number : ListsNumber (codes "nodes") rows
 
 -- the sentence is the value of this, and how many nodes the ring has is said
 pub record HasSentence (rows : List Row) (ask : AskRequest) : Type 0 where
   pub size : HasSize rows ask.size
   pub sentence : first_of (codes "SENTENCE") rows ≡ Some ask.sentence.now
+
+-- what is needed is given
+pub record NamesSentence (rows : List Row) : Type 0 where
+  pub size : NamesSize rows
+  pub sentence : HasText rows (codes "SENTENCE")
 
 -- the ring has the values of these options, at most 100,000 draws, and one thread exactly where `--alone` is given
 pub record HasOptions (rows : List Row) (ring : RunRequest) : Type 0 where
@@ -324,7 +354,17 @@ pub record HasOptions (rows : List Row) (ring : RunRequest) : Type 0 where
   pub few : ring.draws ≤ 100000
   pub cap : HasNumber rows (codes "cap") ring.cap
   pub terms : HasNumber rows (codes "terms") ring.terms
-  pub alone : ring.is_alone ≡ is_given (codes "alone") rows
+  pub alone : ring.is_alone ≡ is_set (codes "alone") rows
+
+-- what is needed is given
+pub record NamesOptions (rows : List Row) : Type 0 where
+  pub nodes : HasNumberTo 18446744073709551615 rows (codes "nodes")
+  pub seed : HasNumberTo 18446744073709551615 rows (codes "seed")
+  pub cap : HasNumberTo 18446744073709551615 rows (codes "cap")
+  pub terms : HasNumberTo 18446744073709551615 rows (codes "terms")
+  pub draws : HasNumberTo 100000 rows (codes "draws")
+  pub initiators : ListsNumber (codes "initiators") rows
+  pub folder : HasText rows (codes "out")
 
 -- logs are to be judged together, or those of each folder
 abbrev pub AsksLogs : List Row → Request → Type 0

@@ -1,5 +1,5 @@
 -- The program's command line, as the parser of words reads it.
-use Rattle.std.specs.Prelude.{List, [], ◌∷◌, ◌++◌, Some, codes, find, fold, true}
+use Rattle.std.specs.Prelude.{◌≡◌, ◌⊎◌, List, [], ◌∷◌, ◌++◌, Some, codes, find, fold, true}
 use Rattle.std.specs.Option.{option_map_or}
 use Rattle.std.specs.Str.{bytes_eq}
 use Rattle.clap.specs.Lexer.{usize_max}
@@ -70,13 +70,14 @@ command_app name rules = on_top (λ s. record s { rules = rules }) (new_app name
 
 abbrev pub logs_app : App
 logs_app =
-    command_app (codes "logs") (flag_rule (codes "each") ∷ flag_rule (codes "over") ∷ text_rule (codes "leads") ∷ json_rule ∷ source_rules)
+    command_app (codes "logs")
+    (flag_rule (codes "each") ∷ flag_rule (codes "over") ∷ text_rule (codes "leads") ∷ json_rule ∷ source_rules)
 
 abbrev pub explain_app : App
 explain_app =
     command_app (codes "explain")
-    (flag_rule (codes "each") ∷ text_rule (codes "leads") ∷ text_rule (codes "question") ∷ number_rule (codes "case")
-    ∷ text_rule (codes "cert") ∷ json_rule ∷ source_rules)
+    (flag_rule (codes "each") ∷ flag_rule (codes "over") ∷ text_rule (codes "leads") ∷ text_rule (codes "question")
+    ∷ number_rule (codes "case") ∷ text_rule (codes "cert") ∷ json_rule ∷ source_rules)
 
 abbrev pub show_app : App
 show_app =
@@ -139,6 +140,11 @@ commands =
 -- what the parser reads of the command of this name
 abbrev pub rules_named : Text → List Rule
 rules_named name = option_map_or (λ a. (built_leaf a.top).rules) (find (λ a. bytes_eq a.top.name name) commands) []
+
+-- one of these commands has this name
+abbrev pub IsOneOf : Text → List App → Type 0
+IsOneOf name [] = ⊥
+IsOneOf name (command ∷ rest) = (name ≡ command.top.name) ⊎ IsOneOf name rest
 
 -- ---- the program
 

@@ -2,6 +2,5 @@ pub mod Argument
 pub mod Asked
 pub mod CommandEntry
 pub mod CommandLine
-pub mod FoundOptions
 pub mod Options
 pub mod Request

@@ -1,9 +1,10 @@
 -- What options say, by the values that are found of them.
-use Rattle.std.specs.Prelude.{◌≡◌, ◌<◌, ◌==◌, ◌^◌, ℕ, false, All, List, [], ◌∷◌, Option, Some, None, IfSome, IsSomeAnd}
+use Rattle.std.specs.Prelude.{◌≡◌, ◌<◌, ◌≤◌, Bool, codes, ◌==◌, ◌^◌, ℕ, false, All, List, [], ◌∷◌, Option, Some, None, IfSome, IsSomeAnd}
 use Rattle.std.specs.List.{slice_split}
 use Rattle.std.specs.Str.Parse.{IsNumeral, digits_value, without_leading_plus}
-use Rattle.clap.specs.Takes.{is_given}
-use Rattle.clap.specs.Walk.{Row, Text, first_of, one_of}
+use Rattle.std.specs.Option.{option_map_or}
+use Rattle.std.specs.Str.{bytes_eq}
+use Rattle.clap.specs.Walk.{Row, Text, first_of}
 
 -- the option has no value: it isn't given
 abbrev pub IsLeftOut : Text → List Row → Type 0
@@ -13,14 +14,30 @@ IsLeftOut name rows = first_of name rows ≡ None
 abbrev pub IsNumber : ℕ → Text → Type 0
 IsNumber n text = IsNumeral 10 (without_leading_plus text) × (digits_value 10 (without_leading_plus text) ≡ n)
 
+-- the text writes a number below 2^64
+abbrev pub WritesNumber : Text → Type 0
+WritesNumber text = (n : ℕ) × IsNumber n text × (n < 2 ^ 64)
+
 -- the value of this option is this number
 abbrev pub HasNumber : List Row → Text → ℕ → Type 0
-HasNumber rows name n = IsSomeAnd (one_of name rows) (IsNumber n)
+HasNumber rows name n = IsSomeAnd (first_of name rows) (IsNumber n)
+
+-- one up to this
+abbrev pub HasNumberTo : ℕ → List Row → Text → Type 0
+HasNumberTo most rows name = (n : ℕ) × HasNumber rows name n × (n ≤ most)
 
 -- the same, or there is no number, where the option isn't given
 abbrev pub MayHaveNumber : List Row → Text → Option ℕ → Type 0
 MayHaveNumber rows name (Some n) = HasNumber rows name n
-MayHaveNumber rows name None = IsLeftOut name rows × (is_given name rows ≡ false)
+MayHaveNumber rows name None = IsLeftOut name rows
+
+-- the option is left out, or its value is a number
+abbrev pub ListsNumber : Text → List Row → Type 0
+ListsNumber name rows = IfSome (first_of name rows) WritesNumber
+
+-- the flag is given
+abbrev pub is_set : Text → List Row → Bool
+is_set name rows = option_map_or (bytes_eq (codes "true")) (first_of name rows) false
 
 -- ---- lists of numbers
 
@@ -35,11 +52,7 @@ AreNumbers (n ∷ ns) (t ∷ ts) = IsNumber n t × AreNumbers ns ts
 AreNumbers [] (t ∷ ts) = ⊥
 AreNumbers (n ∷ ns) [] = ⊥
 
--- the text writes a number below 2^64
-abbrev pub WritesNumber : Text → Type 0
-WritesNumber text = (n : ℕ) × IsNumber n text × (n < 2 ^ 64)
-
--- and so does each part of it
+-- each part of the text writes a number
 abbrev pub WritesNumbers : Text → Type 0
 WritesNumbers text = All WritesNumber (parts_of text)
 

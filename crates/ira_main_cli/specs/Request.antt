@@ -6,10 +6,11 @@ use Rattle.clap.specs.Walk.{Row, Text, rows_after}
 use Rattle.clap.specs.declared.parser.matches.ArgMatches.{ArgMatches}
 use Rattle.ira_main_cli.specs.Asked.{HasAnswerToExplain, HasFiles, HasFilesToDecide, HasFilesToRewrite}
 use Rattle.ira_main_cli.specs.Asked.{HasFoldersToExplain, HasFoldersToJudge, HasLogsToDraw, HasLogsToJudge, HasLogsToMend}
-use Rattle.ira_main_cli.specs.Asked.{HasLogsToShow, HasOptions, HasSentence, HasTopic, IsOfFiles, NamesAnswers, NamesLogs}
-use Rattle.ira_main_cli.specs.Asked.{NamesLogsToDraw, NamesLogsToJudge, NamesLogsToMend, NamesLogsToShow, NamesSize, NamesTopic}
+use Rattle.ira_main_cli.specs.Asked.{HasLogsToShow, HasOptions, HasSentence, HasTopic, IsOfFiles, NamesAnswers, NamesFiles}
+use Rattle.ira_main_cli.specs.Asked.{NamesFilesToDecide, NamesFilesToRewrite, NamesOptions, NamesSentence}
+use Rattle.ira_main_cli.specs.Asked.{NamesLogsToDraw, NamesLogsToJudge, NamesLogsToMend, NamesLogsToShow, NamesTopic}
 use Rattle.ira_main_cli.specs.CommandLine.{ira_app, rules_named}
-use Rattle.ira_main_cli.specs.Options.{HasNumber}
+use Rattle.ira_main_cli.specs.Options.{HasNumber, HasNumberTo}
 use Rattle.ira_main_cli.specs.declared.ask_request.AskRequest.{AskRequest}
 use Rattle.ira_main_cli.specs.declared.check_request.CheckRequest.{CheckRequest}
 use Rattle.ira_main_cli.specs.declared.decide_request.DecideRequest.{DecideRequest}
@@ -43,11 +44,13 @@ pub record GoTogetherAfter (name : Text) (rows : List Row) : Type 0 where
   pub explain : name ≡ codes "explain" → NamesAnswers rows
   pub show : name ≡ codes "show" → NamesLogsToShow rows
   pub draw : name ≡ codes "draw" → NamesLogsToDraw rows
-  pub check : name ≡ codes "check" → NamesLogs rows
-  pub decide : name ≡ codes "decide" → NamesLogs rows
-  pub upgrade : name ≡ codes "upgrade" → NamesLogs rows
+  pub check : name ≡ codes "check" → NamesFiles rows
+  pub decide : name ≡ codes "decide" → NamesFilesToDecide rows
+  pub pairs : name ≡ codes "pairs" → HasNumberTo 18446744073709551615 rows (codes "N")
+  pub run : name ≡ codes "run" → NamesOptions rows
+  pub upgrade : name ≡ codes "upgrade" → NamesFilesToRewrite rows
   pub mend : name ≡ codes "mend" → NamesLogsToMend rows
-  pub ask : name ≡ codes "ask" → NamesSize rows
+  pub ask : name ≡ codes "ask" → NamesSentence rows
   pub guide : name ≡ codes "guide" → NamesTopic rows
 
 -- so do those of the words, of which the first names the command

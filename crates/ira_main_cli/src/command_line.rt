@@ -5,12 +5,13 @@ ghost use Rattle.ira_main_cli.specs.Asked.{AsksLogs, AsksNothing, AsksReasons, H
 ghost use Rattle.ira_main_cli.specs.Asked.{HasFilesToDecide, HasFilesToRewrite, HasFolders, HasLeaders, HasLogs};
 ghost use Rattle.ira_main_cli.specs.Asked.{HasLogsToDraw, HasLogsToMend, HasLogsToShow, HasLost, HasMoment, HasOptions};
 ghost use Rattle.ira_main_cli.specs.Asked.{HasSentence, HasSize, HasTopic, MayHaveLogs, MayNameLogs, NamesAnswer};
-ghost use Rattle.ira_main_cli.specs.Asked.{NamesAnswers, NamesExpectation, NamesFolders, NamesLogs, NamesLogsToDraw};
+ghost use Rattle.ira_main_cli.specs.Asked.{NamesAnswers, NamesFolders, NamesLogs, NamesLogsToDraw};
 ghost use Rattle.ira_main_cli.specs.Asked.{NamesLogsToJudge, NamesLogsToMend, NamesLogsToShow, NamesMoment, NamesSize};
-ghost use Rattle.ira_main_cli.specs.Asked.{NamesStart, NamesTopic, SaysStart};
+ghost use Rattle.ira_main_cli.specs.Asked.{NamesFiles, NamesFilesToDecide, NamesFilesToRewrite, NamesOptions};
+ghost use Rattle.ira_main_cli.specs.Asked.{NamesSentence, NamesStart, NamesTopic, SaysStart};
 ghost use Rattle.ira_main_cli.specs.CommandEntry.{with_entry};
 ghost use Rattle.ira_main_cli.specs.CommandLine.{commands, ira_app, ira_top};
-ghost use Rattle.ira_main_cli.specs.FoundOptions.{AreFoundAfter, AreTyped, IsOneOf};
+ghost use Rattle.ira_main_cli.specs.CommandLine.{IsOneOf};
 ghost use Rattle.ira_main_cli.specs.Options.{AreNumbers, ListsNumbers, WritesNumbers, parts_of};
 ghost use Rattle.ira_main_cli.specs.Request.{AreAcceptedWords, Asks, GoTogether, GoTogetherAfter, IsMadeOf};
 ghost use Rattle.ira_main_cli.specs.Request.{IsVersionOption, MayBeRefused};
@@ -52,11 +53,11 @@ use clap::{ArgMatches, Command, Error};
 use std::alloc::{AllocError, Global};
 
 const USAGE: &str =
-    "ira < LOG\n       ira logs [--over | --leads <P,..|any|FILE>] [--json] <LOGS>\n       \
-    ira logs --each [--over | --leads <P,..|any|FILE>] [--json] <DIR>...\n       \
+    "ira < LOG\n       ira logs [--over] [--leads <P,..|any|FILE>] [--json] <LOGS>\n       \
+    ira logs --each [--over] [--leads <P,..|any|FILE>] [--json] <DIR>...\n       \
     ira explain [--json] [<LOGS>]\n       \
-    ira explain --leads <P,..|any|FILE> [--json] <LOGS>\n       \
-    ira explain --each [--leads <P,..|any|FILE>] [--json] <DIR>...\n       \
+    ira explain [--over] [--leads <P,..|any|FILE>] [--json] <LOGS>\n       \
+    ira explain --each [--over] [--leads <P,..|any|FILE>] [--json] <DIR>...\n       \
     ira explain --question <Q> [--case <K> | --cert <C>] [--json] <LOGS>\n       \
     ira show [OPTIONS] <LOGS>\n       \
     ira draw --out <FILE> [OPTIONS] <LOGS>\n       \
@@ -170,6 +171,8 @@ const LOG: Argument = Argument("LOG", Files, Optional, LOG_HELP);
 
 const OUT: Argument = Argument("out", Value("DIR", FOLDER), Required, OUT_HELP);
 
+const OVER: Argument = Argument("over", Flag, Optional, OVER_HELP);
+
 const LEADS: Argument = Argument("leads", Value("P,..|any|FILE", TEXT), Optional, LEADS_HELP);
 
 const AT: Argument = Argument("at", Value("N0,N1,..", TEXT), Optional, AT_HELP);
@@ -184,7 +187,7 @@ const COMMANDS: &[CommandEntry] = &[
         about: "Judges the logs of all nodes of a ring together",
         arguments: &[
             Argument("each", Flag, Optional, EACH_HELP),
-            Argument("over", Flag, Optional, OVER_HELP),
+            OVER,
             LEADS,
             JSON,
             DIR,
@@ -196,6 +199,7 @@ const COMMANDS: &[CommandEntry] = &[
         about: "Judges logs, or one log on standard input, and says why the answer is so",
         arguments: &[
             Argument("each", Flag, Optional, EACH_HELP),
+            OVER,
             LEADS,
             Argument("question", Value("Q", TEXT), Optional, WHY_QUESTION_HELP),
             Argument("case", Value("K", NUMBER), Optional, WHY_CASE_HELP),
@@ -354,13 +358,13 @@ fn found_logs<'a>(
     alloc: Global,
     matches: &ArgMatches<'a>,
 ) -> Result<Option<LogSource<'a>>, OptionsFault>
-    requires { AreTyped (rows_of (found_of matches.now)) }
     ensures found { IfOk result (MayHaveLogs (rows_of (found_of matches.now))) }
     ensures refused { IfErr result (λ why. MayNameLogs (rows_of (found_of matches.now)) → why ≡ options.OutOfMemory) }
 {
     match text(matches, "dir") {
         None => match names(matches, "LOG") {
             None => Ok(None),
+            Some([]) => Err(OptionsFault::Missing),
             Some(names) => Ok(Some(LogSource::Files(names.to_vec(alloc)?))),
         },
         Some(folder) => match names(matches, "LOG") {
@@ -372,7 +376,6 @@ fn found_logs<'a>(
 
 /// Where the logs come from, which are named.
 fn log_source<'a>(alloc: Global, matches: &ArgMatches<'a>) -> Result<LogSource<'a>, OptionsFault>
-    requires { AreTyped (rows_of (found_of matches.now)) }
     ensures found { IfOk result (HasLogs (rows_of (found_of matches.now))) }
     ensures refused { IfErr result (λ why. NamesLogs (rows_of (found_of matches.now)) → why ≡ options.OutOfMemory) }
 {
@@ -384,13 +387,13 @@ fn log_source<'a>(alloc: Global, matches: &ArgMatches<'a>) -> Result<LogSource<'
 
 /// The folders with the logs to judge, which are named.
 fn folders<'a>(alloc: Global, matches: &ArgMatches<'a>) -> Result<Vec<&'a str>, OptionsFault>
-    requires { AreTyped (rows_of (found_of matches.now)) }
     ensures found { IfOk result (λ folders. HasFolders (rows_of (found_of matches.now)) folders.items) }
     ensures refused { IfErr result (λ why. NamesFolders (rows_of (found_of matches.now)) → why ≡ options.OutOfMemory) }
 {
     match text(matches, "dir") {
         None => match names(matches, "LOG") {
             None => Err(OptionsFault::Folders),
+            Some([]) => Err(OptionsFault::Missing),
             Some(names) if names.contains(&"") => Err(OptionsFault::EmptyFolder),
             Some(names) => Ok(names.to_vec(alloc)?),
         },
@@ -398,28 +401,19 @@ fn folders<'a>(alloc: Global, matches: &ArgMatches<'a>) -> Result<Vec<&'a str>, 
     }
 }
 
-/// What is expected of the election, if anything.
-fn expectation<'a>(
-    alloc: Global,
-    matches: &ArgMatches<'a>,
-) -> Result<Option<Expectation<'a>>, OptionsFault>
-    requires { AreTyped (rows_of (found_of matches.now)) }
+/// What is expected of the election.
+fn expectation<'a>(alloc: Global, matches: &ArgMatches<'a>) -> Result<Expectation<'a>, OptionsFault>
     ensures found { IfOk result (HasExpectation (rows_of (found_of matches.now))) }
-    ensures refused { IfErr result
-        (λ why. NamesExpectation (rows_of (found_of matches.now)) → why ≡ options.OutOfMemory) }
+    ensures refused { IfErr result (λ why. why ≡ options.OutOfMemory) }
 {
-    let is_over = flag(matches, "over");
-    match asked_leaders(alloc, matches)? {
-        None if is_over => Ok(Some(Expectation::Over)),
-        None => Ok(None),
-        Some(_) if is_over => Err(OptionsFault::OverAndLeads),
-        Some(leaders) => Ok(Some(Expectation::Leaders(leaders))),
-    }
+    Ok(Expectation {
+        is_over: flag(matches, "over"),
+        leaders: asked_leaders(alloc, matches)?,
+    })
 }
 
 /// The logs to judge, together or those of each folder.
 fn logs<'a>(alloc: Global, matches: &ArgMatches<'a>) -> Result<Request<'a>, OptionsFault>
-    requires { AreTyped (rows_of (found_of matches.now)) }
     ensures asked { IfOk result (AsksLogs (rows_of (found_of matches.now))) }
     ensures refused { IfErr result
         (λ why. NamesLogsToJudge (rows_of (found_of matches.now)) → why ≡ options.OutOfMemory) }
@@ -443,7 +437,6 @@ fn logs<'a>(alloc: Global, matches: &ArgMatches<'a>) -> Result<Request<'a>, Opti
 
 /// The answers to explain: that of logs, or those of each folder.
 fn explain<'a>(alloc: Global, matches: &ArgMatches<'a>) -> Result<Request<'a>, OptionsFault>
-    requires { AreTyped (rows_of (found_of matches.now)) }
     ensures asked { IfOk result (AsksReasons (rows_of (found_of matches.now))) }
     ensures refused { IfErr result
         (λ why. NamesAnswers (rows_of (found_of matches.now)) → why ≡ options.OutOfMemory) }
@@ -456,14 +449,14 @@ fn explain<'a>(alloc: Global, matches: &ArgMatches<'a>) -> Result<Request<'a>, O
         }));
     }
     if text(matches, "question").is_some()
-        || number(matches, "case").is_some()
+        || number(matches, "case")?.is_some()
         || text(matches, "cert").is_some()
     {
         return Err(OptionsFault::EachAndQuestion);
     }
     Ok(Request::Each(EachRequest {
         is_json,
-        expected: asked_leaders(alloc, matches)?.map(Expectation::Leaders),
+        expected: expectation(alloc, matches)?,
         detail: FolderDetail::Reasons,
         folders: folders(alloc, matches)?,
     }))
@@ -474,28 +467,29 @@ fn explained_answer<'a>(
     alloc: Global,
     matches: &ArgMatches<'a>,
 ) -> Result<ExplainedAnswer<'a>, OptionsFault>
-    requires { AreTyped (rows_of (found_of matches.now)) }
     ensures asked { IfOk result (HasAnswer (rows_of (found_of matches.now))) }
     ensures refused { IfErr result (λ why. NamesAnswer (rows_of (found_of matches.now)) → why ≡ options.OutOfMemory) }
 {
     match text(matches, "question") {
-        None => match number(matches, "case") {
+        None => match number(matches, "case")? {
             Some(_) => Err(OptionsFault::CaseWithoutQuestion),
             None => match text(matches, "cert") {
                 Some(_) => Err(OptionsFault::CertificateWithoutQuestion),
                 None => explained_logs(alloc, matches),
             },
         },
-        Some(_) if text(matches, "leads").is_some() => Err(OptionsFault::LeadsAndQuestion),
+        Some(_) if flag(matches, "over") || text(matches, "leads").is_some() => {
+            Err(OptionsFault::ExpectationAndQuestion)
+        }
         Some(question) => match text(matches, "cert") {
             None => Ok(ExplainedAnswer::Findings {
                 asked: CaseSelection {
                     question,
-                    case: number(matches, "case"),
+                    case: number(matches, "case")?,
                 },
                 logs: log_source(alloc, matches)?,
             }),
-            Some(certificate) => match number(matches, "case") {
+            Some(certificate) => match number(matches, "case")? {
                 Some(_) => Err(OptionsFault::CaseAndCertificate),
                 None => Ok(ExplainedAnswer::Certificate {
                     question,
@@ -512,16 +506,15 @@ fn explained_logs<'a>(
     alloc: Global,
     matches: &ArgMatches<'a>,
 ) -> Result<ExplainedAnswer<'a>, OptionsFault>
-    requires typed { AreTyped (rows_of (found_of matches.now)) }
-    requires nothing { AsksNothing (rows_of (found_of matches.now)) }
+    requires { AsksNothing (rows_of (found_of matches.now)) }
     ensures asked { IfOk result (HasAnswer (rows_of (found_of matches.now))) }
     ensures refused { IfErr result (λ why. NamesAnswer (rows_of (found_of matches.now)) → why ≡ options.OutOfMemory) }
 {
-    let leaders = asked_leaders(alloc, matches)?;
+    let expected = expectation(alloc, matches)?;
     match found_logs(alloc, matches)? {
-        Some(logs) => Ok(ExplainedAnswer::Logs { leaders, logs }),
-        None if leaders.is_none() => Ok(ExplainedAnswer::OneLog),
-        None => Err(OptionsFault::Sources),
+        Some(logs) => Ok(ExplainedAnswer::Logs { expected, logs }),
+        None if expected.is_over || expected.leaders.is_some() => Err(OptionsFault::Sources),
+        None => Ok(ExplainedAnswer::OneLog),
     }
 }
 
@@ -568,12 +561,11 @@ fn asked_moment<'a>(
     alloc: Global,
     matches: &ArgMatches<'a>,
 ) -> Result<AskedMoment<'a>, OptionsFault>
-    requires { AreTyped (rows_of (found_of matches.now)) }
     ensures asked { IfOk result (HasMoment (rows_of (found_of matches.now))) }
     ensures refused { IfErr result (λ why. NamesMoment (rows_of (found_of matches.now)) → why ≡ options.OutOfMemory) }
 {
     match text(matches, "question") {
-        None => match number(matches, "case") {
+        None => match number(matches, "case")? {
             Some(_) => Err(OptionsFault::CaseWithoutQuestion),
             None => match text(matches, "at") {
                 None => Ok(AskedMoment::AtEnd),
@@ -583,7 +575,7 @@ fn asked_moment<'a>(
         Some(question) => match text(matches, "at") {
             None => Ok(AskedMoment::OfQuestion(CaseSelection {
                 question,
-                case: number(matches, "case"),
+                case: number(matches, "case")?,
             })),
             Some(_) => Err(OptionsFault::CutAndQuestion),
         },
@@ -592,7 +584,6 @@ fn asked_moment<'a>(
 
 /// The logs to show, and how.
 fn show<'a>(alloc: Global, matches: &ArgMatches<'a>) -> Result<ShowRequest<'a>, OptionsFault>
-    requires { AreTyped (rows_of (found_of matches.now)) }
     ensures asked { IfOk result (HasLogsToShow (rows_of (found_of matches.now))) }
     ensures refused { IfErr result
         (λ why. NamesLogsToShow (rows_of (found_of matches.now)) → why ≡ options.OutOfMemory) }
@@ -611,7 +602,6 @@ fn show<'a>(alloc: Global, matches: &ArgMatches<'a>) -> Result<ShowRequest<'a>, 
 
 /// The logs to draw, and how.
 fn draw<'a>(alloc: Global, matches: &ArgMatches<'a>) -> Result<DrawRequest<'a>, OptionsFault>
-    requires { AreFoundAfter (codes "draw") (rows_of (found_of matches.now)) }
     ensures asked { IfOk result (HasLogsToDraw (rows_of (found_of matches.now))) }
     ensures refused { IfErr result
         (λ why. NamesLogsToDraw (rows_of (found_of matches.now)) → why ≡ options.OutOfMemory) }
@@ -619,25 +609,24 @@ fn draw<'a>(alloc: Global, matches: &ArgMatches<'a>) -> Result<DrawRequest<'a>, 
     let moment = asked_moment(alloc, matches)?;
     let logs = log_source(alloc, matches)?;
     Ok(DrawRequest {
-        picture: given_text(matches, "out"),
+        picture: given_text(matches, "out")?,
         moment,
-        from: number(matches, "from"),
-        to: number(matches, "to"),
+        from: number(matches, "from")?,
+        to: number(matches, "to")?,
         logs,
     })
 }
 
 /// The files to judge.
 fn check<'a>(alloc: Global, matches: &ArgMatches<'a>) -> Result<CheckRequest<'a>, OptionsFault>
-    requires { AreFoundAfter (codes "check") (rows_of (found_of matches.now)) }
     ensures asked { IfOk result (HasFiles (rows_of (found_of matches.now))) }
-    ensures refused { IfErr result (λ why. NamesLogs (rows_of (found_of matches.now)) → why ≡ options.OutOfMemory) }
+    ensures refused { IfErr result (λ why. NamesFiles (rows_of (found_of matches.now)) → why ≡ options.OutOfMemory) }
 {
     let logs = log_source(alloc, matches)?;
     Ok(CheckRequest {
-        question: given_text(matches, "question"),
-        certificate: given_text(matches, "cert"),
-        depth: given_number(matches, "depth") as u8,
+        question: given_text(matches, "question")?,
+        certificate: given_text(matches, "cert")?,
+        depth: given_number(matches, "depth", 4)? as u8,
         is_json: flag(matches, "json"),
         logs,
     })
@@ -645,13 +634,12 @@ fn check<'a>(alloc: Global, matches: &ArgMatches<'a>) -> Result<CheckRequest<'a>
 
 /// The files to decide of.
 fn decide<'a>(alloc: Global, matches: &ArgMatches<'a>) -> Result<DecideRequest<'a>, OptionsFault>
-    requires { AreFoundAfter (codes "decide") (rows_of (found_of matches.now)) }
     ensures asked { IfOk result (HasFilesToDecide (rows_of (found_of matches.now))) }
-    ensures refused { IfErr result (λ why. NamesLogs (rows_of (found_of matches.now)) → why ≡ options.OutOfMemory) }
+    ensures refused { IfErr result (λ why. NamesFilesToDecide (rows_of (found_of matches.now)) → why ≡ options.OutOfMemory) }
 {
     let logs = log_source(alloc, matches)?;
     Ok(DecideRequest {
-        question: given_text(matches, "question"),
+        question: given_text(matches, "question")?,
         certificate: text(matches, "out"),
         is_json: flag(matches, "json"),
         logs,
@@ -660,11 +648,10 @@ fn decide<'a>(alloc: Global, matches: &ArgMatches<'a>) -> Result<DecideRequest<'
 
 /// How many nodes the ring has that is asked about.
 fn asked_size<'a>(matches: &ArgMatches<'a>) -> Result<AskedSize<'a>, OptionsFault>
-    requires { AreTyped (rows_of (found_of matches.now)) }
     ensures found { IfOk result (HasSize (rows_of (found_of matches.now))) }
     ensures refused { IfErr result (λ why. NamesSize (rows_of (found_of matches.now)) → ⊥) }
 {
-    match number(matches, "nodes") {
+    match number(matches, "nodes")? {
         None => match text(matches, "dir") {
             None => Err(OptionsFault::Size),
             Some(folder) => Ok(AskedSize::Folder(folder)),
@@ -678,42 +665,40 @@ fn asked_size<'a>(matches: &ArgMatches<'a>) -> Result<AskedSize<'a>, OptionsFaul
 
 /// The sentence whose question is asked for.
 fn ask<'a>(matches: &ArgMatches<'a>) -> Result<AskRequest<'a>, OptionsFault>
-    requires { AreFoundAfter (codes "ask") (rows_of (found_of matches.now)) }
     ensures asked { IfOk result (HasSentence (rows_of (found_of matches.now))) }
-    ensures refused { IfErr result (λ why. NamesSize (rows_of (found_of matches.now)) → ⊥) }
+    ensures refused { IfErr result (λ why. NamesSentence (rows_of (found_of matches.now)) → ⊥) }
 {
     Ok(AskRequest {
         size: asked_size(matches)?,
-        sentence: given_text(matches, "SENTENCE"),
+        sentence: given_text(matches, "SENTENCE")?,
     })
 }
 
 /// The ring to run.
-fn run<'a>(matches: &ArgMatches<'a>) -> RunRequest<'a>
-    requires { AreFoundAfter (codes "run") (rows_of (found_of matches.now)) }
-    ensures { HasOptions (rows_of (found_of matches.now)) result }
+fn run<'a>(matches: &ArgMatches<'a>) -> Result<RunRequest<'a>, OptionsFault>
+    ensures asked { IfOk result (HasOptions (rows_of (found_of matches.now))) }
+    ensures refused { IfErr result (λ why. NamesOptions (rows_of (found_of matches.now)) → ⊥) }
 {
-    RunRequest {
-        nodes: given_number(matches, "nodes"),
-        seed: given_number(matches, "seed"),
-        folder: given_text(matches, "out"),
-        initiators: number(matches, "initiators"),
-        draws: given_number(matches, "draws") as u32,
-        cap: given_number(matches, "cap"),
-        terms: given_number(matches, "terms"),
+    Ok(RunRequest {
+        nodes: given_number(matches, "nodes", u64::MAX)?,
+        seed: given_number(matches, "seed", u64::MAX)?,
+        folder: given_text(matches, "out")?,
+        initiators: number(matches, "initiators")?,
+        draws: given_number(matches, "draws", 100_000)? as u32,
+        cap: given_number(matches, "cap", u64::MAX)?,
+        terms: given_number(matches, "terms", u64::MAX)?,
         is_alone: flag(matches, "alone"),
-    }
+    })
 }
 
 /// The files to write anew.
 fn rewrite<'a>(alloc: Global, matches: &ArgMatches<'a>) -> Result<RewriteRequest<'a>, OptionsFault>
-    requires { AreFoundAfter (codes "upgrade") (rows_of (found_of matches.now)) }
     ensures asked { IfOk result (HasFilesToRewrite (rows_of (found_of matches.now))) }
-    ensures refused { IfErr result (λ why. NamesLogs (rows_of (found_of matches.now)) → why ≡ options.OutOfMemory) }
+    ensures refused { IfErr result (λ why. NamesFilesToRewrite (rows_of (found_of matches.now)) → why ≡ options.OutOfMemory) }
 {
     let logs = log_source(alloc, matches)?;
     Ok(RewriteRequest {
-        folder: given_text(matches, "out"),
+        folder: given_text(matches, "out")?,
         logs,
     })
 }
@@ -748,7 +733,6 @@ fn lost_places<'a>(
 
 /// The logs to mend.
 fn mend<'a>(alloc: Global, matches: &ArgMatches<'a>) -> Result<MendRequest<'a>, OptionsFault>
-    requires { AreFoundAfter (codes "mend") (rows_of (found_of matches.now)) }
     ensures asked { IfOk result (HasLogsToMend (rows_of (found_of matches.now))) }
     ensures refused { IfErr result
         (λ why. NamesLogsToMend (rows_of (found_of matches.now)) → why ≡ options.OutOfMemory) }
@@ -757,7 +741,7 @@ fn mend<'a>(alloc: Global, matches: &ArgMatches<'a>) -> Result<MendRequest<'a>, 
     let lost = lost_places(alloc, matches)?;
     let logs = log_source(alloc, matches)?;
     Ok(MendRequest {
-        folder: given_text(matches, "out"),
+        folder: given_text(matches, "out")?,
         is_initiator,
         lost,
         logs,
@@ -784,7 +768,6 @@ fn found_request<'a>(
     matches: &ArgMatches<'a>,
 ) -> Result<Request<'a>, OptionsFault>
     requires named { IsOneOf name.now commands }
-    requires found { AreFoundAfter name.now (rows_of (found_of matches.now)) }
     ensures asked { IfOk result (Asks name.now (rows_of (found_of matches.now))) }
     ensures refused { IfErr result
         (λ why. GoTogetherAfter name.now (rows_of (found_of matches.now)) → why ≡ options.OutOfMemory) }
@@ -796,9 +779,9 @@ fn found_request<'a>(
         "draw" => Ok(Request::Draw(draw(alloc, matches)?)),
         "check" => Ok(Request::Check(check(alloc, matches)?)),
         "decide" => Ok(Request::Decide(decide(alloc, matches)?)),
-        "pairs" => Ok(Request::Pairs(given_number(matches, "N"))),
+        "pairs" => Ok(Request::Pairs(given_number(matches, "N", u64::MAX)?)),
         "ask" => Ok(Request::Ask(ask(matches)?)),
-        "run" => Ok(Request::Run(run(matches))),
+        "run" => Ok(Request::Run(run(matches)?)),
         "upgrade" => Ok(Request::Upgrade(rewrite(alloc, matches)?)),
         "mend" => Ok(Request::Mend(mend(alloc, matches)?)),
         "guide" => Ok(Request::Guide(guide_topic(matches)?)),

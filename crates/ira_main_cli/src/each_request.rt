@@ -6,8 +6,8 @@ use crate::folder_detail::FolderDetail;
 pub struct EachRequest<'a> {
     /// Whether the answers are wanted as JSON.
     pub is_json: bool,
-    /// What is expected of each election, if anything.
-    pub expected: Option<Expectation<'a>>,
+    /// What is expected of each election.
+    pub expected: Expectation<'a>,
     pub detail: FolderDetail,
     /// The folders, in the order of the answers. Each has the logs of a ring, named by their places.
     pub folders: Vec<&'a str>,

@@ -1,5 +1,5 @@
-use crate::asked_leaders::AskedLeaders;
 use crate::case_selection::CaseSelection;
+use crate::expectation::Expectation;
 use crate::log_source::LogSource;
 
 /// An answer to explain, as the words name it.
@@ -7,9 +7,9 @@ use crate::log_source::LogSource;
 pub enum ExplainedAnswer<'a> {
     /// That of one log, on standard input.
     OneLog,
-    /// That of the logs of a ring together, and after a yes, where leaders are named, whether they lead.
+    /// That of the logs of a ring together, and after a yes whether their election is as expected.
     Logs {
-        leaders: Option<AskedLeaders<'a>>,
+        expected: Expectation<'a>,
         logs: LogSource<'a>,
     },
     /// What is found for a question, or for one case of it.

@@ -6,7 +6,6 @@ use crate::log_source::LogSource;
 pub struct LogsRequest<'a> {
     /// Whether the answer is wanted as JSON.
     pub is_json: bool,
-    /// What is expected of the election, if anything.
-    pub expected: Option<Expectation<'a>>,
+    pub expected: Expectation<'a>,
     pub logs: LogSource<'a>,
 }

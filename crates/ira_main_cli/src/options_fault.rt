@@ -15,10 +15,8 @@ pub enum OptionsFault {
     EachAndQuestion,
     /// One of the folders to be judged each has an empty name.
     EmptyFolder,
-    /// It is asked whether an election is over, and who leads then.
-    OverAndLeads,
-    /// A question is named, and who is to lead.
-    LeadsAndQuestion,
+    /// A question is named, and something is expected of the election.
+    ExpectationAndQuestion,
     /// A case is named, and no question.
     CaseWithoutQuestion,
     /// A certificate is named, and no question.
@@ -35,6 +33,10 @@ pub enum OptionsFault {
     Start,
     /// There is no guide on what is named.
     Topic,
+    /// An option or a name that a command needs has no value. The command line takes no such words.
+    Missing,
+    /// A value isn't a number below 2^64, or past the most that it may be. Nor does it take such.
+    NoNumber,
     /// A growth was refused.
     OutOfMemory,
 }
@@ -49,8 +51,7 @@ impl OptionsFault {
             OptionsFault::Sources
             | OptionsFault::Folders
             | OptionsFault::EachAndQuestion
-            | OptionsFault::OverAndLeads
-            | OptionsFault::LeadsAndQuestion
+            | OptionsFault::ExpectationAndQuestion
             | OptionsFault::CaseAndCertificate
             | OptionsFault::CutAndQuestion
             | OptionsFault::Size => ErrorKind::ArgumentConflict,
@@ -58,6 +59,8 @@ impl OptionsFault {
                 ErrorKind::MissingRequiredArgument
             }
             OptionsFault::EmptyFolder
+            | OptionsFault::Missing
+            | OptionsFault::NoNumber
             | OptionsFault::NoNumbers
             | OptionsFault::Start
             | OptionsFault::Topic => ErrorKind::ValueValidation,
@@ -72,9 +75,8 @@ impl OptionsFault {
             OptionsFault::EachAndQuestion =>
                 "--each goes with none of --question, --case and --cert",
             OptionsFault::EmptyFolder => "--each takes names of folders, and none is empty",
-            OptionsFault::OverAndLeads => "--over and --leads exclude one another",
-            OptionsFault::LeadsAndQuestion => {
-                "--leads <P,..|any|FILE> and --question <Q> exclude one another"
+            OptionsFault::ExpectationAndQuestion => {
+                "--question <Q> goes with neither --over nor --leads <P,..|any|FILE>"
             }
             OptionsFault::CaseWithoutQuestion => "--case <K> needs --question <Q>",
             OptionsFault::CertificateWithoutQuestion => "--cert <C> needs --question <Q>",
@@ -87,6 +89,8 @@ impl OptionsFault {
             OptionsFault::Size => "the ring's size is said either by --nodes <N> or by --dir <DIR>",
             OptionsFault::Start => "--start <S> is initiator or passive",
             OptionsFault::Topic => "guide [TOPIC] is questions or logs",
+            OptionsFault::Missing => "a value is missing",
+            OptionsFault::NoNumber => "a value is no number, or past its limit",
             OptionsFault::OutOfMemory => "out of memory",
         }
     }

@@ -30,7 +30,7 @@ pub struct FileShelf<'a, R: Files, A: Allocator> {
 }
 
 /// How often a draft's name may be that of another file.
-const TRIES: u64 = 1000;
+const TRIES: u64 = 1_000_000;
 
 /// Where a new file is written.
 enum Place<A: Allocator> {

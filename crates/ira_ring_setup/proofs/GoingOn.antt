@@ -109,7 +109,7 @@ module _ (s : Setup) (logs : List Log) (keeps : KeepsRules s) (runs : AreRunsOf 
 
 -- ---- full runs
 
-lone_runs : (s : Setup) (lone : Run) → IsLoneRun s lone → AreRunsOf s lone.logs
+pub lone_runs : (s : Setup) (lone : Run) → IsLoneRun s lone → AreRunsOf s lone.logs
 lone_runs s lone full =
     let a = full.logs in
     let h = run_is_order lone.logs a.run a.of_setup.ring (full_run_is_run s lone.logs a.run a.end a.of_setup a.full)

@@ -7,6 +7,7 @@ pub mod Beginnings
 pub mod Choosing
 pub mod Collecting
 pub mod Drawing
+pub mod Elected
 pub mod EndLines
 pub mod FullRuns
 pub mod GoingOn

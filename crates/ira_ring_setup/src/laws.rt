@@ -1,5 +1,5 @@
 ghost use Rattle.ira_ring_setup.specs.Agreement.{FullRunsHaveTheSameLogs, FullRunsShowEnds, LogsShowOneEnd, RecordingsAgree};
-ghost use Rattle.ira_ring_setup.specs.FullRunLaws.{FullRunsAreRuns, FullRunsAreBusy, NoFullRunLacksAStep, FullRunsElectOrStop, FullRunLeadersAreAlone};
+ghost use Rattle.ira_ring_setup.specs.FullRunLaws.{FullRunsAreRuns, FullRunsAreBusy, NoFullRunLacksAStep, FullRunsElectOrStop, FullRunLeadersAreAlone, FullRunsElectByDraws};
 
 /// A law: a full run of a setup is a run of its ring.
 #[tactic(auto, using(crate::proofs::FullRuns::full_run_is_run))]
@@ -36,4 +36,9 @@ pub fn full_runs_are_busy()
 /// setup, where that keeps the rules. It speaks of logs and ends alone.
 pub fn recordings_agree()
     ensures { RecordingsAgree }
+{}
+
+/// A law: who leads in the first term of a full run is whom the IDs that nodes are given elect.
+pub fn full_runs_elect_by_draws()
+    ensures { FullRunsElectByDraws }
 {}

@@ -17,8 +17,8 @@ pub use collector::Collector;
 pub use draws::draw_lists;
 pub use ends_writer::write_ends;
 pub use laws::{
-    full_runs_are_busy, full_runs_are_runs, full_runs_have_the_same_logs, full_runs_show_ends,
-    logs_show_one_end, recordings_agree,
+    full_runs_are_busy, full_runs_are_runs, full_runs_elect_by_draws, full_runs_have_the_same_logs,
+    full_runs_show_ends, logs_show_one_end, recordings_agree,
 };
 pub use node_end::NodeEnd;
 pub use node_part::NodePart;

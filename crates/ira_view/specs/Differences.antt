@@ -13,8 +13,9 @@ use Rattle.ira_view_page.specs.declared.named_text.NamedText.{NamedText}
 abbrev pub ArePlaces : List Log → List ℕ → Type 0
 ArePlaces logs named = (place : ℕ) → Contains named place → place < length logs
 
--- the lines on the differences when the logs end: none exactly where these nodes lead then, and no other
+-- the lines on the differences when the logs end, of nodes of the ring: none exactly where these lead then, and no other
 pub record AreDifferences (logs : List Log) (named differences : List ℕ) : Type 0 where
+  pub places : ArePlaces logs named
   pub moment : Moment
   pub is_end : IsMoment logs (whole_cut logs) moment
   pub text : differences ≡ differences_text named moment.nodes

@@ -8,7 +8,7 @@ use Rattle.ira_audit.specs.declared.findings.Findings.{Findings}
 use Rattle.ira_view_page.specs.Printable.{IsPrintable}
 use Rattle.ira_view_page.specs.declared.explanation.Explanation.{Explanation}
 use Rattle.ira_view_page.specs.declared.show_fault.ShowFault.{ShowFault}
-use Rattle.ira_view_page.specs.declared.show_fault.ShowFault.TheVariants.{OutOfMemory, Write}
+use Rattle.ira_view_page.specs.declared.show_fault.ShowFault.TheVariants.{OutOfMemory, WrongColumns, Write}
 use Rattle.ira_view_election.specs.Election.{Standing}
 use Rattle.ira_view_json.specs.AnswerValue.{answer_value, findings_values}
 use Rattle.ira_view_json.specs.ExplainedFindings.{explained_findings}
@@ -53,3 +53,4 @@ abbrev pub WroteText : {T : Type 0} → (List ℕ → Type 0) → Result T ShowF
 WroteText IsText (Ok v) old new = (text : List ℕ) × IsText text × Takes text old new
 WroteText IsText (Err Write) old new = (text : List ℕ) × IsText text × StopsIn text old new
 WroteText IsText (Err OutOfMemory) old new = new ≡ old
+WroteText IsText (Err WrongColumns) old new = ⊥

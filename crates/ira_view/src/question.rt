@@ -27,8 +27,7 @@ use std::time::Clock;
 /// How often the steps of a section are halved among threads. The answer is the same at every depth.
 const DEPTH: u8 = 2;
 
-/// Decides a question of logs that were judged, and says why what is found is so: of the case of a number, counted from
-/// 0, or of the first ones.
+/// Decides a question of judged logs, of one case or of the first ones, and says why what is found is so.
 pub fn explain_findings<A: Allocator + Clone>(
     alloc: A,
     files: AskedFiles<'_>,

@@ -23,8 +23,7 @@ pub fn take_texts<A: Allocator + Clone>(
     Ok(audit)
 }
 
-/// Judges texts as those of the logs of a ring. The links are matched by a thread of their own where one can be
-/// started.
+/// Judges texts as those of a ring's logs, the links by a thread of their own where one can be started.
 pub fn judge_texts<R: Threads, A: Allocator + Clone + Sync>(
     rt: &R,
     alloc: A,

@@ -1,21 +1,15 @@
 -- Pictures of logs.
-use Rattle.std.proofs.Common.{◌≡◌, ◌∙◌, ℕ, List, [], ◌∷◌, ◌++◌, Option, None, ap, append-nil, length, subst, sym}
+use Rattle.std.proofs.Common.{◌≡◌, ◌∙◌, ℕ, List, ◌++◌, Option, None, ap, length, subst}
 use Rattle.std.specs.Prelude.{codes}
-use Rattle.std.specs.List.{flat_map}
-use Rattle.std.proofs.lemmas.Grind.{flat_map-append}
 use Rattle.ira_event.specs.Log.{Log}
 use Rattle.ira_view_moment.specs.ChosenMoment.{cut_of, numbers_of}
 use Rattle.ira_view_moment.specs.declared.chosen_moment.ChosenMoment.{ChosenMoment}
-use Rattle.ira_view_page.proofs.Adding.{◌&◌, added_as}
-use Rattle.ira_view_page.specs.Page.{Added}
 use Rattle.ira_view_page.specs.Printable.{IsPrintable}
 use Rattle.ira_view_picture.specs.declared.arrow.Arrow.{Arrow}
 use Rattle.ira_view_picture.specs.declared.window.Window.{Window}
 use Rattle.ira_view_picture.specs.Picture.{Drawn, IsShown}
 use Rattle.ira_view_picture.specs.Window.{asked_window}
 use Rattle.ira_view_draw.specs.Drawing.{IsDrawing, IsRefusedDrawing}
-use Rattle.ira_view_draw.specs.declared.highlight.Highlight.{Highlight}
-use Rattle.ira_view_draw.specs.Highlight.{highlight_text}
 use Rattle.ira_view_draw.specs.Marks.{marks_text}
 use Rattle.ira_view_draw.specs.MomentLine.{asked_of, cut_with_line, line_of_moment, words_of_moment}
 use Rattle.ira_view_moment.specs.Told.{told_of}
@@ -65,20 +59,14 @@ drawing_of logs moment from to found window last line lanes arrows nodes below m
 
 -- the same of logs of no run
 pub refused_drawing_of : (logs : List Log) (from to : Option ℕ) (window : Window) (last : ℕ) (line : Option ℕ)
-    (lanes : List Drawn) (arrows : List Arrow) (nodes : ℕ) (below middle before text : List ℕ)
-    (rings : List (Highlight × ℕ)) → IsShown logs None window last line lanes arrows
-    → window ≡ asked_window from to last → nodes ≡ length logs → IsPrintable text → text ≡ before ++ codes "</svg>\n"
-    → before ≡ middle ++ flat_map (highlight_text nodes window) rings → middle ≡ below ++ marks_text nodes window lanes
-    → IsRefusedDrawing logs from to text
-refused_drawing_of logs from to window last line lanes arrows nodes below middle before text rings shown is n printable
+    (lanes : List Drawn) (arrows : List Arrow) (nodes : ℕ) (below middle before more text : List ℕ)
+    → IsShown logs None window last line lanes arrows → window ≡ asked_window from to last → nodes ≡ length logs
+    → IsPrintable text → text ≡ before ++ codes "</svg>\n" → before ≡ middle ++ more
+    → middle ≡ below ++ marks_text nodes window lanes → IsRefusedDrawing logs from to text
+refused_drawing_of logs from to window last line lanes arrows nodes below middle before more text shown is n printable
     ends over marked =
-    let w = asked_window from to last in
     let marks : marks_text nodes window lanes ≡ marks_text (length logs) (asked_window from to last) lanes =
     ap (λ (k : ℕ). marks_text k window lanes) n ∙ ap (λ (x : Window). marks_text (length logs) x lanes) is in
-    let round : flat_map (highlight_text nodes window) rings
-    ≡ flat_map (highlight_text (length logs) (asked_window from to last)) rings =
-    ap (λ (k : ℕ). flat_map (highlight_text k window) rings) n
-    ∙ ap (λ (x : Window). flat_map (highlight_text (length logs) x) rings) is in
     let none : IsShown logs None window last None lanes arrows =
     subst (λ (x : Option ℕ). IsShown logs None window last x lanes arrows) shown.line_is shown in
     record {
@@ -87,24 +75,10 @@ refused_drawing_of logs from to window last line lanes arrows nodes below middle
       arrows = arrows;
       shown = subst (λ (x : Window). IsShown logs None x last None lanes arrows) is none;
       below = below;
-      rings = rings;
+      above = more;
       printable = printable;
       is =
           ends
           ∙ ap (λ (x : List ℕ). x ++ codes "</svg>\n")
-          (over
-          ∙ ap (λ (x : List ℕ). x ++ flat_map (highlight_text nodes window) rings)
-          (marked ∙ ap (λ (x : List ℕ). below ++ x) marks)
-          ∙ ap (λ (x : List ℕ). below ++ marks_text (length logs) w lanes ++ x) round);
+          (over ∙ ap (λ (x : List ℕ). x ++ more) (marked ∙ ap (λ (x : List ℕ). below ++ x) marks));
     }
-
--- a ring more
-pub ring_more : {a b c : Option (List ℕ)} (nodes : ℕ) (w : Window) (rings : List (Highlight × ℕ)) (ring : Highlight × ℕ)
-    → Added a (flat_map (highlight_text nodes w) rings) b → Added b (highlight_text nodes w ring) c
-    → (rings : List (Highlight × ℕ)) × Added a (flat_map (highlight_text nodes w) rings) c
-ring_more {a} {b} {c} nodes w rings ring before more =
-    let text : flat_map (highlight_text nodes w) (rings ++ ring ∷ [])
-    ≡ flat_map (highlight_text nodes w) rings ++ highlight_text nodes w ring =
-    flat_map-append (highlight_text nodes w) rings (ring ∷ [])
-    ∙ ap (λ (t : List ℕ). flat_map (highlight_text nodes w) rings ++ t) (append-nil (highlight_text nodes w ring)) in
-    (rings ++ ring ∷ [], added_as (sym text) (before & more))

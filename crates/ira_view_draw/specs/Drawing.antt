@@ -1,14 +1,10 @@
 -- Pictures of logs.
 use Rattle.std.specs.Prelude.{◌≡◌, ℕ, List, ◌++◌, Option, None, codes, length}
-use Rattle.std.specs.List.{flat_map}
 use Rattle.ira_event.specs.Log.{Log}
 use Rattle.ira_view_page.specs.Printable.{IsPrintable}
 use Rattle.ira_view_picture.specs.declared.arrow.Arrow.{Arrow}
-use Rattle.ira_view_picture.specs.declared.window.Window.{Window}
 use Rattle.ira_view_picture.specs.Picture.{Drawn, IsShown}
 use Rattle.ira_view_picture.specs.Window.{asked_window}
-use Rattle.ira_view_draw.specs.declared.highlight.Highlight.{Highlight}
-use Rattle.ira_view_draw.specs.Highlight.{highlight_text}
 use Rattle.ira_view_draw.specs.Marks.{marks_text}
 use Rattle.ira_view_draw.specs.MomentLine.{asked_of, cut_with_line, line_of_moment, words_of_moment}
 use Rattle.ira_view_moment.specs.Told.{Told}
@@ -30,15 +26,14 @@ pub record IsDrawing (logs : List Log) (cut : Option (List ℕ)) (told : Told) (
       ++ codes "</svg>\n"
 
 -- the text is a picture of the logs of no run at the columns that are asked for: above what is below them, and is
--- printable, it has the marks of the events at these columns, and rings round events
+-- printable, it has the marks of the events at these columns
 pub record IsRefusedDrawing (logs : List Log) (from to : Option ℕ) (text : List ℕ) : Type 0 where
   pub last : ℕ
   pub lanes : List Drawn
   pub arrows : List Arrow
   pub shown : IsShown logs None (asked_window from to last) last None lanes arrows
   pub below : List ℕ
-  pub rings : List (Highlight × ℕ)
+  pub above : List ℕ
   pub printable : IsPrintable text
-  pub is : text ≡ below ++ marks_text (length logs) (asked_window from to last) lanes
-      ++ flat_map (highlight_text (length logs) (asked_window from to last)) rings
+  pub is : text ≡ below ++ marks_text (length logs) (asked_window from to last) lanes ++ above
       ++ codes "</svg>\n"

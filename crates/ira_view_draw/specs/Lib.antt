@@ -1,7 +1,6 @@
 pub mod Drawing
 pub mod Escaped
 pub mod Grid
-pub mod Highlight
 pub mod Marks
 pub mod MomentLine
 pub mod Svg

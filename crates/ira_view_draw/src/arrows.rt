@@ -82,21 +82,10 @@ fn write_paths<A: Allocator>(out: &mut Svg<A>, picture: &Picture<A>, grid: &Grid
     for arrow in &picture.arrows {
         if Stroke::of(arrow, grid.window.last) == stroke {
             let (begin, end) = ends_of(arrow, grid);
+            let (writer, reader) = (usize::from(arrow.link), reader_of(picture, grid, arrow));
             out.open("path", "");
-            write_event(
-                out,
-                picture,
-                "data-from",
-                usize::from(arrow.link),
-                arrow.sent,
-            );
-            write_event(
-                out,
-                picture,
-                "data-to",
-                reader_of(picture, grid, arrow),
-                arrow.received,
-            );
+            write_event(out, picture, "data-from", writer, arrow.sent);
+            write_event(out, picture, "data-to", reader, arrow.received);
             out.page.words(" d=\"");
             out.move_to(begin.x, begin.y);
             out.page.words("L");
@@ -137,12 +126,20 @@ fn write_stroke<A: Allocator>(out: &mut Svg<A>, picture: &Picture<A>, grid: &Gri
     write_group(out, picture, grid, stroke, class, stroke.marker());
 }
 
-/// A quarter of the way between two places.
+/// A quarter of the way from one number to another.
 fn quarter(from: u64, to: u64) -> u64 {
     if from <= to {
         from + (to - from) / 4
     } else {
         from - (from - to) / 4
+    }
+}
+
+/// A quarter of the way from one place to another.
+fn near(from: Point, to: Point) -> Point {
+    Point {
+        x: quarter(from.x, to.x),
+        y: quarter(from.y, to.y),
     }
 }
 
@@ -156,10 +153,8 @@ fn place_of_words(arrow: &Arrow, grid: &Grid) -> Option<(u64, u64)> {
             beyond(begin.y, leads_up(grid, arrow.link), 34),
         )),
         _ if grid.contains(arrow.sent?) && grid.contains(arrow.received?) => {
-            Some((
-                quarter(begin.x, end.x),
-                quarter(begin.y, end.y).saturating_add(4),
-            ))
+            let Point { x, y } = near(begin, end);
+            Some((x, y.saturating_add(4)))
         }
         _ => None,
     }
@@ -192,15 +187,10 @@ fn write_load<A: Allocator>(page: &mut Page<A>, load: Load) {
     match load {
         Load::Msg(message) => {
             page.number(message.round as u64);
-            page.words(" ");
-            page.number(message.id as u64);
-            page.words(" ");
-            page.number(message.hop as u64);
+            page.numbered(" ", message.id);
+            page.numbered(" ", message.hop);
         }
-        Load::Reset(hop) => {
-            page.words("reset ");
-            page.number(hop as u64);
-        }
+        Load::Reset(hop) => page.numbered("reset ", hop),
     }
 }
 
@@ -259,25 +249,10 @@ fn write_both<A: Allocator>(
     is_left: bool,
 ) {
     let (begin, end) = ends_of(arrow, grid);
-    let (near, far) = (
-        Point {
-            x: quarter(begin.x, end.x),
-            y: quarter(begin.y, end.y),
-        },
-        Point {
-            x: quarter(end.x, begin.x),
-            y: quarter(end.y, begin.y),
-        },
-    );
-    write_whole(out, arrow.load, near, is_left);
-    if let Some(
-        Mark {
-            event: Event::Got(load),
-            ..
-        },
-    ) = mark_at(picture, reader_of(picture, grid, arrow), arrow.received)
-    {
-        write_whole(out, load, far, is_left);
+    write_whole(out, arrow.load, near(begin, end), is_left);
+    let received = mark_at(picture, reader_of(picture, grid, arrow), arrow.received);
+    if let Some(Event::Got(load)) = received.map(|mark| mark.event) {
+        write_whole(out, load, near(end, begin), is_left);
     }
 }
 

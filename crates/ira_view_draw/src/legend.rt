@@ -1,6 +1,6 @@
 use crate::class;
 use crate::grid::{Grid, LEFT};
-use crate::lanes::Shown;
+use crate::lanes::Shown::{self, Band, Debt, Doubted};
 use crate::stroke::{LineStyle, Stroke, Tip};
 use crate::svg::Svg;
 use ira_event::Event;
@@ -19,7 +19,7 @@ enum Sample {
     /// An arrow of a message that isn't dirty and is received.
     Message,
     /// An arrow of this line, however it ends.
-    LineStyle(LineStyle),
+    Line(LineStyle),
     /// An arrow that ends so, of any line.
     Tip(Tip),
     /// The lane of node 0 below the last one.
@@ -36,40 +36,24 @@ fn entries(has_terms: bool) -> [(Sample, &'static str, u64); 17] {
     [
         (Sample::Dot, "event", 92),
         (Sample::Square, "draw", 88),
-        (
-            Sample::Lane(Shown::Band(BandKind::Choosing)),
-            "choosing",
-            108,
-        ),
-        (Sample::Lane(Shown::Band(BandKind::Active)), active, width),
-        (Sample::Lane(Shown::Band(BandKind::Passive)), "passive", 98),
-        (Sample::Lane(Shown::Band(BandKind::Leader)), "leader", 94),
-        (
-            Sample::Lane(Shown::Doubted),
-            "leader by its own log alone",
-            230,
-        ),
-        (
-            Sample::Lane(Shown::Band(BandKind::Yielding)),
-            "yielding",
-            102,
-        ),
-        (Sample::Lane(Shown::Debt), "owes a message", 158),
+        (Sample::Lane(Band(BandKind::Choosing)), "choosing", 108),
+        (Sample::Lane(Band(BandKind::Active)), active, width),
+        (Sample::Lane(Band(BandKind::Passive)), "passive", 98),
+        (Sample::Lane(Band(BandKind::Leader)), "leader", 94),
+        (Sample::Lane(Doubted), "leader by its own log alone", 230),
+        (Sample::Lane(Band(BandKind::Yielding)), "yielding", 102),
+        (Sample::Lane(Debt), "owes a message", 158),
         (Sample::Message, "message", 106),
-        (Sample::LineStyle(LineStyle::Dirty), "dirty", 84),
-        (Sample::LineStyle(LineStyle::Reset), "reset", 88),
+        (Sample::Line(LineStyle::Dirty), "dirty", 84),
+        (Sample::Line(LineStyle::Reset), "reset", 88),
         (Sample::Tip(Tip::Cross), "dropped", 104),
         (Sample::Tip(Tip::Circle), "not received", 124),
         (
-            Sample::LineStyle(LineStyle::Lap),
+            Sample::Line(LineStyle::Lap),
             "the lap that elected the leader",
             264,
         ),
-        (
-            Sample::Lane(Shown::Band(BandKind::Unknown)),
-            "no state",
-            108,
-        ),
+        (Sample::Lane(Band(BandKind::Unknown)), "no state", 108),
         (Sample::SecondLane, "node 0 once more", 176),
     ]
 }
@@ -126,7 +110,7 @@ impl Sample {
     fn is_drawn(self, stroke: Stroke) -> bool {
         match self {
             Sample::Message => stroke.line == LineStyle::Clean && stroke.tip == Tip::Head,
-            Sample::LineStyle(line) => stroke.line == line,
+            Sample::Line(line) => stroke.line == line,
             Sample::Tip(tip) => stroke.tip == tip,
             _ => false,
         }
@@ -177,13 +161,6 @@ fn write_dot<A: Allocator>(out: &mut Svg<A>, x: u64, y: u64) {
     out.page.words("\"/>");
 }
 
-/// A mark of a draw.
-fn write_square<A: Allocator>(out: &mut Svg<A>, x: u64, y: u64) {
-    out.begin_lines(class::SAMPLE_DRAW);
-    out.square(x.saturating_add(15), y);
-    out.page.words("\"/>");
-}
-
 /// An arrow of such a line with such an end.
 fn write_arrow<A: Allocator>(out: &mut Svg<A>, line: LineStyle, tip: Tip, x: u64, y: u64) {
     write_bar(out, line.class(), Stroke { line, tip }.marker(), x, y);
@@ -195,10 +172,14 @@ fn write_arrow<A: Allocator>(out: &mut Svg<A>, line: LineStyle, tip: Tip, x: u64
 fn write_sample<A: Allocator>(out: &mut Svg<A>, sample: Sample, x: u64, y: u64) {
     match sample {
         Sample::Dot => write_dot(out, x, y),
-        Sample::Square => write_square(out, x, y),
+        Sample::Square => {
+            out.begin_lines(class::SAMPLE_DRAW);
+            out.square(x.saturating_add(15), y);
+            out.page.words("\"/>");
+        }
         Sample::Lane(shown) => write_bar(out, shown.class(), None, x, y),
         Sample::Message => write_arrow(out, LineStyle::Clean, Tip::Head, x, y),
-        Sample::LineStyle(line) => write_arrow(out, line, Tip::Head, x, y),
+        Sample::Line(line) => write_arrow(out, line, Tip::Head, x, y),
         Sample::Tip(tip) => write_arrow(out, LineStyle::Clean, tip, x, y),
         Sample::SecondLane => {
             out.page.words("<g opacity=\".4\">");

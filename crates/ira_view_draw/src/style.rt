@@ -62,33 +62,15 @@ macro_rules! colours {
 }
 
 const LIGHT: (&str, &str) = colours! {
-    background: "#fff",
-    ink: "#1f2328",
-    mute: "#6e7781",
-    grid: "#eaeef2",
-    message: "#57606a",
-    choosing: "#e69f00",
-    active: "#56b4e9",
-    passive: "#c4cad1",
-    leader: "#009e73",
-    yielding: "#cc79a7",
-    named: "#d1410c",
-    moment: "#a8326e",
+    background: "#fff", ink: "#1f2328", mute: "#6e7781", grid: "#eaeef2",
+    message: "#57606a", choosing: "#e69f00", active: "#56b4e9", passive: "#c4cad1",
+    leader: "#009e73", yielding: "#cc79a7", named: "#d1410c", moment: "#a8326e",
 };
 
 const DARK: (&str, &str) = colours! {
-    background: "#0d1117",
-    ink: "#f0f3f6",
-    mute: "#9198a1",
-    grid: "#21262d",
-    message: "#a3acb6",
-    choosing: "#c98a00",
-    active: "#2b7bb0",
-    passive: "#4c545d",
-    leader: "#00b083",
-    yielding: "#a85f88",
-    named: "#ff8350",
-    moment: "#f093c6",
+    background: "#0d1117", ink: "#f0f3f6", mute: "#9198a1", grid: "#21262d",
+    message: "#a3acb6", choosing: "#c98a00", active: "#2b7bb0", passive: "#4c545d",
+    leader: "#00b083", yielding: "#a85f88", named: "#ff8350", moment: "#f093c6",
 };
 
 /// Writes the style sheet.

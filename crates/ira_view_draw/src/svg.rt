@@ -8,8 +8,7 @@ ghost use Rattle.ira_view_draw.specs.Svg.{number_text, once_more_text, square_te
 use ira_view_page::Page;
 use std::alloc::Allocator;
 
-/// The text of a picture: elements with their attributes, and words between them. It keeps whether a growth was
-/// refused.
+/// The text of a picture: elements, and words between them. It keeps whether a growth was refused.
 #[derive(Drop)]
 pub(crate) struct Svg<A: Allocator> {
     /// Takes what XML spells as it is.

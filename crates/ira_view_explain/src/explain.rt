@@ -1,5 +1,6 @@
 ghost use Rattle.std.specs.Prelude.{◌≡◌, [], IfOk, None, Some, map};
 ghost use Rattle.ira_event.specs.LogTextFault.{LogTextFault};
+ghost use Rattle.ira_audit.specs.GoodLogs.{AreGood};
 ghost use Rattle.ira_audit.specs.Judged.{IsJudged};
 ghost use Rattle.ira_audit.specs.LogTextAnswer.{IsLogTextAnswer};
 ghost use Rattle.ira_audit.specs.Refusal.{IsRingReason};
@@ -24,7 +25,8 @@ use ira_event::{HeadFault, LogFault, Logs, NodeLog, OutOfMemory, read_log};
 use ira_node::NodeState;
 use ira_order::EventAt;
 use ira_replay::{ReplayFault, replay};
-use ira_view_page::{Evidence, Explanation, NamedText, Page, RecordAt, RingCounts, print_run};
+use ira_view_page::{Evidence, Explanation, NamedText, Page, RecordAt, RingCounts};
+use ira_view_show::print_run;
 use std::alloc::Allocator;
 
 /// How the run of logs stands against which there is no reason.
@@ -32,12 +34,13 @@ fn explain_good<A: Allocator + Clone>(
     alloc: &A,
     logs: &Logs<A>,
 ) -> Result<Explanation<A>, OutOfMemory>
+    requires { AreGood logs.now }
     ensures ring { IfOk result (λ explanation. explanation.ring ≡ Some (counts logs.now)) }
     ensures state { IfOk result (λ explanation. explanation.state_before ≡ None) }
     ensures evidence { IfOk result (λ explanation. explanation.evidence.items ≡ []) }
 {
     let mut page = Page::after_answer(alloc.clone()?);
-    print_run(alloc, logs, &mut page);
+    print_run(alloc, logs, &mut page)?;
     let (evidence, hints) = (Vec::new(alloc.clone()?), Vec::new(alloc.clone()?));
     Explanation::of_page(alloc, Some(RingCounts::of(logs)), page, evidence, hints)
 }

@@ -390,9 +390,12 @@ impl Stopped {
             (None, Phase::Choosing { .. }, Load::Msg(begun)) if begun.hop == 1 => {
                 Some(StopHint::NotDrawn { id: begun.id })
             }
-            (None, Phase::Choosing { .. }, Load::Reset(_)) => Some(StopHint::Words(
-                "its own reset is back: the node that yielded takes it off the ring.",
-            )),
+            (None, Phase::Choosing { .. }, Load::Reset(_)) => match self.last {
+                Some((_, Event::Got(Load::Reset(_)))) => Some(StopHint::Words(
+                    "its own reset is back: the node that yielded takes it off the ring.",
+                )),
+                _ => None,
+            },
             _ => None,
         }
     }

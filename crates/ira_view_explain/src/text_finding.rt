@@ -115,21 +115,21 @@ fn head_hint(due: HeadLine, line: &[u8]) -> Option<&'static str> {
 
 /// A usual cause why the first line of a file is no log's.
 fn file_hint(line: &[u8]) -> Option<&'static str> {
-    match line {
-        [0xff, 0xfe, ..] | [0xfe, 0xff, ..] | [_, 0, ..] => Some(
+    Some(match line {
+        [0xff, 0xfe, ..] | [0xfe, 0xff, ..] | [b'i', 0, b'r', 0, ..] | [0, b'i', 0, b'r', ..] => {
             "the file is UTF-16, as `>` of a Windows shell writes. Write ASCII; to mend a file: iconv -f UTF-16 \
-             -t ASCII FILE",
-        ),
-        [0x1f, 0x8b, ..] => Some("the file is compressed: gunzip -c FILE"),
-        _
-            if line.windows(6).any(|part| part == b"irlog ".as_slice())
-                && !line.starts_with(b"irlog ") => {
-            Some(
-                "something stands in front of the line, such as a time: a log has its lines alone.",
-            )
+             -t ASCII FILE"
         }
-        _ => None,
-    }
+        [0x1f, 0x8b, ..] => "the file is compressed: gunzip -c FILE",
+        [0, ..] if line.iter().all(|byte| *byte == 0) => {
+            "the file has nothing but NUL bytes, as a power cut leaves: remove it, and the log counts as lost."
+        }
+        [b'i', b'r', b'l', b'o', b'g', b' ', ..] => return None,
+        _ if line.windows(6).any(|part| part == b"irlog ".as_slice()) => {
+            "something stands in front of the line, such as a time: a log has its lines alone."
+        }
+        _ => return None,
+    })
 }
 
 impl TextFinding {

@@ -73,8 +73,7 @@ impl<'a, A: Allocator + Clone> AskedRing<'a, A> {
         }
     }
 
-    /// Adds what follows the explained cases, of so many chosen ones: that there is none of the number that was named,
-    /// or how many more there are.
+    /// Adds what follows the explained cases: that none has the number that was named, or how many more there are.
     pub(crate) fn print_rest(&self, page: &mut Page<A>, named: Option<u64>, chosen: usize)
         ensures { Added page.old (rest_text named chosen (length self.now.asked.now.question.cases)) page.new }
     {

@@ -25,7 +25,8 @@ use ira_cert::{Section, SectionFault};
 use ira_elim::Found;
 use ira_event::{Logs, OutOfMemory};
 use ira_pred::AskFault;
-use ira_view_page::{Emphasis, Evidence, Explanation, NamedText, Page, RingCounts, print_run};
+use ira_view_page::{Emphasis, Evidence, Explanation, NamedText, Page, RingCounts};
+use ira_view_show::print_run;
 use std::alloc::Allocator;
 
 /// Why what was found for a question about the logs of a ring is as it is, of one case or of the first ones: an empty
@@ -83,8 +84,7 @@ fn explain_cases<A: Allocator + Clone>(
     })
 }
 
-/// Why a text with this fault is no question's, beside how many nodes and events these logs have: in which line of its
-/// file.
+/// Why a text with this fault is no question's: in which line of its file. Logs give numbers of nodes and events.
 pub fn explain_no_question<A: Allocator + Clone>(
     alloc: A,
     question: &NamedText<'_>,
@@ -168,7 +168,7 @@ pub fn explain_sound<A: Allocator + Clone>(
     text.number_of(steps, "step");
     text.words(": no moment of any order of these events met any case.");
     let mut page = Page::after_answer(alloc.clone()?);
-    print_run(&alloc, asked.logs(), &mut page);
+    print_run(&alloc, asked.logs(), &mut page)?;
     page.paragraph_of(&text);
     let (evidence, hints) = (Vec::new(alloc.clone()?), Vec::new(alloc.clone()?));
     Explanation::of_page(

@@ -7,7 +7,7 @@ use Rattle.ira_event.specs.Log.{Log}
 use Rattle.ira_event.specs.Sink.{SinkState, StopsIn, Takes}
 use Rattle.ira_event.proofs.Writing.{Appends-nothing, Takes-append, Takes-StopsIn}
 use Rattle.ira_view_page.specs.declared.show_fault.ShowFault.{ShowFault}
-use Rattle.ira_view_page.specs.declared.show_fault.ShowFault.TheVariants.{OutOfMemory, Write}
+use Rattle.ira_view_page.specs.declared.show_fault.ShowFault.TheVariants.{OutOfMemory, WrongColumns, Write}
 use Rattle.ira_view_json.specs.Line.{AreLines, AreLinesOf, IsLineOf, OfLines, TookLines, WroteLine, WroteLines}
 use Rattle.ira_view_moment.specs.declared.chosen_moment.ChosenMoment.{ChosenMoment}
 use Rattle.ira_view_moment.specs.declared.chosen_moment.ChosenMoment.TheVariants.{AtEnd, AtCut, OfCase, Unmet}
@@ -54,6 +54,7 @@ pub wrote_then : {T : Type 0} (r : Result T ShowFault) (s t u : SinkState) → O
     → WroteLines r t u → WroteLines r s u
 wrote_then (Ok v) s t u so_far more = more_taken s t u so_far more
 wrote_then (Err OutOfMemory) s t u so_far more = more_taken s t u so_far more
+wrote_then (Err WrongColumns) s t u so_far more = more_taken s t u so_far more
 wrote_then (Err Write) s t u so_far more = part_taken s t u so_far more
 
 pub failed_then : {T : Type 0} (r : Result T ShowFault) (f : ShowFault) (s t u : SinkState) → r ≡ Err f
@@ -84,6 +85,7 @@ module _ (logs : List Log) (named : Option (List ℕ)) (status : ℕ) (told : To
   answered (Ok v) value s t says is =
       (is.0, answer_text (λ others. others ≡ []) value is.0 refl says is.1, is.2)
   answered (Err OutOfMemory) value s t says is = inl is
+  answered (Err WrongColumns) value s t says is = absurd is
   answered (Err Write) value s t says is = (is.0, answer_text AreAny value is.0 tt says is.1, is.2)
 
   -- a fault is handed on
@@ -92,6 +94,7 @@ module _ (logs : List Log) (named : Option (List ℕ)) (status : ℕ) (told : To
       → r ≡ Err f → WroteRing {T = T} logs named status told cut Are (Err f) s t
       → WroteRing logs named status told cut Are' r s t
   ring_failed Are Are' r OutOfMemory s t is wrote = rw is wrote
+  ring_failed Are Are' r WrongColumns s t is wrote = rw is wrote
   ring_failed Are Are' r Write s t is wrote = rw is wrote
 
   -- the answer, and lines after it
@@ -122,6 +125,11 @@ module _ (logs : List Log) (named : Option (List ℕ)) (status : ℕ) (told : To
         ring_text AreAny so_far.0 more.0 more.1.0 tt so_far.1 more.1.1,
         Takes-append s t u so_far.0 more.0 so_far.2 more.2,
       )
+  ring_then Are (Err WrongColumns) s t u so_far more all = (
+    so_far.0 ++ more.0,
+    ring_text AreAny so_far.0 more.0 more.1.0 tt so_far.1 more.1.1,
+    Takes-append s t u so_far.0 more.0 so_far.2 more.2,
+  )
   ring_then Are (Err Write) s t u so_far more all = (
     so_far.0 ++ more.0,
     ring_text AreAny so_far.0 more.0 more.1.0 tt so_far.1 more.1.1,

@@ -4,7 +4,6 @@ use Rattle.std.specs.List.{enumerate_from}
 use Rattle.json.specs.Json.{Json, Members, boolean, no_members, object}
 use Rattle.ira_event.specs.Log.{Log}
 use Rattle.ira_view_page.specs.Words.{event_text}
-use Rattle.ira_view_trail.specs.Columns.{column_at_time}
 use Rattle.ira_view_trail.specs.StateTrail.{TellsStates}
 use Rattle.ira_view_trail.specs.Trail.{IsTrail}
 use Rattle.ira_view_trail.specs.declared.state_step.StateStep.{StateStep}
@@ -21,7 +20,7 @@ with_sender None members = members
 abbrev pub with_trail_step : ℕ → StateStep → Members → Members
 with_trail_step number walked members =
     put (codes "in_cut") (boolean walked.step.in_cut)
-    (with_number (codes "column") (column_at_time walked.step.time walked.step.in_cut)
+    (with_number (codes "column") walked.step.column
     (with_words (codes "record") (event_text walked.event)
     (with_number (codes "line") (walked.step.event + 4)
     (with_number (codes "event") walked.step.event

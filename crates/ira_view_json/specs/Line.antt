@@ -6,7 +6,7 @@ use Rattle.json.specs.Print.{print}
 use Rattle.json.specs.Tree.{depth, json_tokens}
 use Rattle.ira_event.specs.Sink.{SinkState, StopsIn, Takes}
 use Rattle.ira_view_page.specs.declared.show_fault.ShowFault.{ShowFault}
-use Rattle.ira_view_page.specs.declared.show_fault.ShowFault.TheVariants.{OutOfMemory, Write}
+use Rattle.ira_view_page.specs.declared.show_fault.ShowFault.TheVariants.{OutOfMemory, WrongColumns, Write}
 
 -- the text ends in a line feed, and what stands in front of it reads as the value, where that nests no deeper than
 -- readers take it; it is the value's text without spaces
@@ -27,6 +27,7 @@ abbrev pub WroteLine : {T : Type 0} → Result T ShowFault → Json → SinkStat
 WroteLine (Ok v) value old new = (text : List ℕ) × IsLineOf value text × Takes text old new
 WroteLine (Err Write) value old new = (text : List ℕ) × IsLineOf value text × StopsIn text old new
 WroteLine (Err OutOfMemory) value old new = new ≡ old
+WroteLine (Err WrongColumns) value old new = ⊥
 
 -- the text is the lines of some values
 abbrev pub AreLines : List ℕ → Type 0
@@ -52,8 +53,9 @@ pub record TookLines (Are : List Json → Type 0) (old new : SinkState) : Type 0
 abbrev pub OfLines : (List ℕ → Type 0) → Type 0
 OfLines P = (text : List ℕ) × AreLines text × P text
 
--- the sink took lines, also where memory ran out; or, where it failed, a first part of some
+-- the sink took lines, also where there are no more, for want of memory or of columns; or, where it failed, a first part of some
 abbrev pub WroteLines : {T : Type 0} → Result T ShowFault → SinkState → SinkState → Type 0
 WroteLines (Ok v) old new = OfLines (λ text. Takes text old new)
 WroteLines (Err OutOfMemory) old new = OfLines (λ text. Takes text old new)
+WroteLines (Err WrongColumns) old new = OfLines (λ text. Takes text old new)
 WroteLines (Err Write) old new = OfLines (λ text. StopsIn text old new)

@@ -6,7 +6,7 @@ use Rattle.ira_event.specs.Log.{Log}
 use Rattle.ira_event.specs.Sink.{SinkState, StopsIn, Takes}
 use Rattle.ira_order.specs.FaultyEvent.{Rises}
 use Rattle.ira_view_page.specs.declared.show_fault.ShowFault.{ShowFault}
-use Rattle.ira_view_page.specs.declared.show_fault.ShowFault.TheVariants.{OutOfMemory, Write}
+use Rattle.ira_view_page.specs.declared.show_fault.ShowFault.TheVariants.{OutOfMemory, WrongColumns, Write}
 use Rattle.ira_view_moment.specs.Moment.{AreLeaders, IsMoment, Moment, whole_cut}
 use Rattle.ira_view_moment.specs.Told.{Told, at_cut, at_end, of_case, unmet}
 use Rattle.ira_view_moment.specs.Totals.{totals_of}
@@ -86,13 +86,15 @@ abbrev pub OfRingText : List Log → Option (List ℕ) → ℕ → Told → Opti
     → (List ℕ → Type 0) → Type 0
 OfRingText logs named status told cut Are P = (text : List ℕ) × IsRingText logs named status told cut Are text × P text
 
--- the sink took such a text; where memory ran out, and not before its first line, that line and any others; where the
--- sink failed, a first part of them
+-- the sink took such a text; where memory ran out, and not before its first line, or columns are wrong, that line and any
+-- others; where the sink failed, a first part of them
 abbrev pub WroteRing : {T : Type 0} → List Log → Option (List ℕ) → ℕ → Told → Option (List ℕ) → (List Json → Type 0)
     → Result T ShowFault → SinkState → SinkState → Type 0
 WroteRing logs named status told cut Are (Ok v) old new =
     OfRingText logs named status told cut Are (λ text. Takes text old new)
 WroteRing logs named status told cut Are (Err OutOfMemory) old new =
     (new ≡ old) ⊎ OfRingText logs named status told cut AreAny (λ text. Takes text old new)
+WroteRing logs named status told cut Are (Err WrongColumns) old new =
+    OfRingText logs named status told cut AreAny (λ text. Takes text old new)
 WroteRing logs named status told cut Are (Err Write) old new =
     OfRingText logs named status told cut AreAny (λ text. StopsIn text old new)

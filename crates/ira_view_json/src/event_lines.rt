@@ -1,4 +1,4 @@
-ghost use Rattle.std.specs.Prelude.{◌≡◌, ◌<◌, ◌-◌, ◌^◌, IfOk, OnOk};
+ghost use Rattle.std.specs.Prelude.{◌≡◌, IfOk, OnOk};
 ghost use Rattle.ira_order.specs.Cut.{IsConsistentCut};
 ghost use Rattle.ira_view_json.specs.EventValue.{AreEventValues, event_value, with_sender, with_trail_step};
 ghost use Rattle.ira_view_json.specs.Line.{TookLines, WroteLines};
@@ -10,13 +10,12 @@ use crate::object::Object;
 use crate::value::Value;
 use ira_event::{Logs, OutOfMemory, Sink};
 use ira_view_page::{ShowFault, line_of};
-use ira_view_trail::{StateStep, StateTrail};
+use ira_view_trail::{ColumnsFault, StateStep, StateTrail};
 use std::alloc::Allocator;
 
 impl<A: Allocator + Clone> Object<A> {
     /// Puts a step, of this number.
     fn trail_step(&mut self, number: usize, walked: StateStep)
-        requires { walked.step.time < 2 ^ 32 - 1 }
         ensures { Puts (with_trail_step number walked) self.old self.new }
     {
         let step = walked.step;
@@ -25,7 +24,7 @@ impl<A: Allocator + Clone> Object<A> {
         self.number("event", step.event as u64);
         self.number("line", line_of(step.event) as u64);
         self.event(walked.event);
-        self.number("column", step.column() as u64);
+        self.number("column", step.column as u64);
         self.flag("in_cut", step.in_cut);
     }
 
@@ -45,7 +44,6 @@ fn event_value<A: Allocator + Clone>(
     number: usize,
     walked: StateStep,
 ) -> Result<Value<A>, OutOfMemory>
-    requires { walked.step.time < 2 ^ 32 - 1 }
     ensures { IfOk result (λ value. view value ≡ event_value number walked) }
 {
     let mut object = Object::of(alloc.clone()?, "event");
@@ -66,7 +64,11 @@ pub(crate) fn write_events<A: Allocator + Clone, W: Sink>(
     ensures wrote { WroteLines result (W.state sink.old) (W.state sink.new) }
     ensures told { OnOk result (TookLines (AreEventValues logs.now cut.now) (W.state sink.old) (W.state sink.new)) }
 {
-    let mut trail = StateTrail::new(alloc.clone()?, logs, cut)?;
+    let mut trail = match StateTrail::new(alloc.clone()?, logs, cut) {
+        Ok(trail) => trail,
+        Err(ColumnsFault::Wrong) => return Err(ShowFault::WrongColumns),
+        Err(ColumnsFault::OutOfMemory) => return Err(ShowFault::OutOfMemory),
+    };
     let mut lines = LineBlock::new(alloc.clone()?);
     let mut number = 0;
     'steps: while let Some(walked) = trail.next()? {

@@ -1,4 +1,3 @@
-pub mod Configurations
 pub mod Lacking
 pub mod OnTheWay
 pub mod Progress

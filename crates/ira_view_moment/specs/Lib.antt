@@ -1,6 +1,5 @@
 pub mod ChosenMoment
 pub mod CutFault
-pub mod Laws
 pub mod Moment
 pub mod NodeProgress
 pub mod Rounds

@@ -4,7 +4,6 @@
 mod chosen_moment;
 mod cut_fault;
 mod cuts;
-mod laws;
 mod moment;
 mod node_progress;
 mod rounds;
@@ -13,7 +12,6 @@ mod totals;
 pub use chosen_moment::ChosenMoment;
 pub use cut_fault::CutFault;
 pub use cuts::{check_cut, cut_at_end};
-pub use laws::moments_are_configurations;
 pub use moment::Moment;
 pub use node_progress::NodeProgress;
 pub use rounds::{Round, Rounds};

@@ -11,6 +11,9 @@ pub enum ShowFault {
     /// The sink failed.
     #[error("the sink failed")]
     Write,
+    /// The columns that were found for the events aren't right.
+    #[error("wrong columns")]
+    WrongColumns,
 }
 
 impl From<OutOfMemory> for ShowFault {

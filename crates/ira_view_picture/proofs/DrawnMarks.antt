@@ -5,13 +5,11 @@ use Rattle.std.specs.Prelude.{slice_index}
 use Rattle.std.proofs.lemmas.Bool.{cases_eq}
 use Rattle.std.proofs.lemmas.Option.{slice_get_within}
 use Rattle.ira_event.specs.Log.{Log}
-use Rattle.ira_order.specs.FaultyEvent.{Rises}
 use Rattle.ira_order.proofs.Pushed.{pushed_cases, pushed_last, pushed_old}
 use Rattle.ira_view_picture.specs.declared.mark.Mark.{Mark}
 use Rattle.ira_view_picture.specs.declared.window.Window.{Window}
 use Rattle.ira_view_picture.specs.Lane.{AreMarks, IsMark}
 use Rattle.ira_view_picture.specs.Window.{IsIn}
-use Rattle.ira_view_picture.proofs.Rising.{rises_at}
 
 pub no_marks : (log : Log) (columns : List ℕ) (w : Window) → AreMarks log columns w 0 []
 no_marks log columns w = record {
@@ -63,18 +61,3 @@ module _ (log : Log) (columns : List ℕ) (w : Window) (n : ℕ) (marks : List M
       ]
     ];
   }
-
--- the columns of marks rise with those of the events
-pub marks_rise : (log : Log) (columns : List ℕ) (w : Window) (n : ℕ) (marks : List Mark)
-    → AreMarks log columns w n marks → Rises (λ c. c) columns → n ≤ length columns → Rises (λ m. m.column) marks
-marks_rise log columns w n marks are rise many k h x y less at there =
-    let first = are.each k x at in
-    let second = are.each h y there in
-    let further : x.position < y.position = are.rise k h x y less at there in
-    omega (
-      arith,
-      first.0.column,
-      second.0.column,
-      rises_at columns rise (x.position - 1) (y.position - 1) (omega (arith, further, first.0.first))
-          (omega (arith, second.0.first, second.2, many)),
-    )

@@ -1,11 +1,8 @@
-mod Bands
 mod Counts
-mod Debts
 mod DrawnArrows
 mod DrawnMarks
 mod Effects
 mod EventNumbers
-mod Known
 mod NodeLanes
 mod NodeTraffic
 mod OnePlace

@@ -4,7 +4,6 @@ use Rattle.std.specs.Prelude.{slice_index, slice_index_or}
 use Rattle.std.proofs.lemmas.Option.{get_or_from_slice_get, slice_get_within}
 use Rattle.ira_event.specs.Log.{Log}
 use Rattle.ira_view_trail.specs.Columns.{AreColumnsOf, Columns, column_of}
-use Rattle.ira_view_trail.proofs.OneColumn.{column_rises}
 use Rattle.ira_view_picture.specs.Rows.{AreRows}
 
 back : (k : ℕ) → suc k - 1 ≡ k
@@ -31,7 +30,7 @@ rows_of logs cut columns are = record {
               arith,
               x_is,
               y_is,
-              column_rises logs cut (column_of columns) columns.line i (suc k) (suc h) are.each record {
+              are.each.own i (suc k) (suc h) record {
                 place = here;
                 first = omega arith;
                 within = omega (arith, slice_get_within row h y at_h, many, are.events i here);

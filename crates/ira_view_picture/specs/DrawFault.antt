@@ -2,14 +2,22 @@
 use Rattle.std.specs.Prelude.{◌≡◌, ℕ, ◌<◌, ⊤, List, Option}
 use Rattle.ira_event.specs.Log.{Log}
 use Rattle.ira_view_picture.specs.declared.draw_fault.DrawFault.{DrawFault}
-use Rattle.ira_view_picture.specs.declared.draw_fault.DrawFault.TheVariants.{OutOfMemory, TooManyEvents}
+use Rattle.ira_view_picture.specs.declared.draw_fault.DrawFault.TheVariants.{OutOfMemory, TooManyEvents, WrongColumns}
+use Rattle.ira_view_trail.specs.declared.columns_fault.ColumnsFault.{ColumnsFault}
+use Rattle.ira_view_trail.specs.declared.columns_fault.ColumnsFault.TheVariants as columns
 use Rattle.ira_view_trail.specs.Columns.{AreColumnsOf, Columns, IsLastColumn, cut_or_all}
 use Rattle.ira_view_picture.specs.Window.{asked_window, events_drawn}
 
--- there are so many events, and these are too many for a picture; or memory ran out
+-- there are so many events, and these are too many for a picture; or their columns aren't right, or memory ran out
 abbrev pub IsDrawFault : DrawFault → Type 0
 IsDrawFault (TooManyEvents events) = 20000 < events
+IsDrawFault WrongColumns = ⊤
 IsDrawFault OutOfMemory = ⊤
+
+-- the fault where there are no columns
+abbrev pub no_columns : ColumnsFault → DrawFault
+no_columns columns.Wrong = WrongColumns
+no_columns columns.OutOfMemory = OutOfMemory
 
 -- at the columns that are asked for the logs have so many events, too many for a picture; the columns are those in which
 -- the events of the cut, if there is one, come before all others

@@ -1,5 +1,5 @@
 -- What is drawn of the logs of a ring.
-use Rattle.std.specs.Prelude.{◌≡◌, ◌⊎◌, ℕ, ◌<◌, ◌≤◌, Any, List, [], Option, Some, length, slice_get, slice_index_or}
+use Rattle.std.specs.Prelude.{◌≡◌, ℕ, ◌≤◌, List, [], Option, Some, length, slice_get, slice_index_or}
 use Rattle.std.specs.Option.{option_map}
 use Rattle.ira_event.specs.Log.{Log}
 use Rattle.ira_node.specs.declared.node_state.NodeState.{NodeState}
@@ -7,13 +7,11 @@ use Rattle.ira_replay.specs.declared.replay_fault.ReplayFault.{ReplayFault}
 use Rattle.ira_view_picture.specs.declared.after.After.{After}
 use Rattle.ira_view_picture.specs.declared.arrow.Arrow.{Arrow}
 use Rattle.ira_view_picture.specs.declared.band.Band.{Band}
-use Rattle.ira_view_picture.specs.declared.band.BandKind.TheVariants.{Yielding}
 use Rattle.ira_view_picture.specs.declared.band.Span.{Span}
 use Rattle.ira_view_picture.specs.declared.lane.Lane.{Lane}
 use Rattle.ira_view_picture.specs.declared.mark.Mark.{Mark}
 use Rattle.ira_view_picture.specs.declared.window.Window.{Window}
 use Rattle.ira_view_picture.specs.Arrow.{AreArrows}
-use Rattle.ira_view_picture.specs.Band.{AreBands, AreDebts}
 use Rattle.ira_view_trail.specs.Columns.{AreColumnsOf, Columns, IsLastColumn, cut_or_all}
 use Rattle.ira_view_picture.specs.Lane.{AreMarks, IsReplayed, IsStart}
 use Rattle.ira_view_picture.specs.Window.{events_drawn}
@@ -42,17 +40,11 @@ drawn_of lane =
       first_fault = lane.first_fault;
     }
 
--- a leader yields at the columns that are drawn, or the node has left its first term in the end
-abbrev pub HasTerms : {Z : Type 0} → Lane Z → Type 0
-HasTerms lane = Any (λ band. band.kind ≡ Yielding) lane.bands.items ⊎ (1 < lane.end.term)
-
 -- it is what is drawn of the node of this log
 pub record IsDrawnOf (log : Log) (columns : List ℕ) (w : Window) (d : Drawn) : Type 0 where
   pub events : d.events ≡ length log.events
   pub start : IsStart log columns w (length log.events) d.start
   pub marks : AreMarks log columns w (length log.events) d.marks
-  pub bands : AreBands d.start w.first d.marks d.bands
-  pub debts : AreDebts d.start w.first d.marks d.debts
   pub replayed : IsReplayed log (length log.events) d.end d.first_fault
 
 -- that of each node

@@ -1,4 +1,5 @@
 use ira_event::OutOfMemory;
+use ira_view_trail::ColumnsFault;
 use std::alloc::AllocError;
 use thiserror::Error;
 
@@ -7,6 +8,9 @@ use thiserror::Error;
 pub enum DrawFault {
     #[error("{events} events are too many for one picture, which holds 20000: give --from and --to")]
     TooManyEvents { events: u32 },
+    /// Those that were found aren't right.
+    #[error("wrong columns")]
+    WrongColumns,
     #[error("out of memory")]
     OutOfMemory,
 }
@@ -30,5 +34,19 @@ impl From<AllocError> for DrawFault {
 
     fn from(_refused: AllocError) -> DrawFault {
         DrawFault::OutOfMemory
+    }
+}
+
+impl From<ColumnsFault> for DrawFault {
+    ghost use Rattle.std.specs.Prelude.{◌≡◌};
+    ghost use Rattle.ira_view_picture.specs.DrawFault.{no_columns};
+
+    ghost from_gives = { λ f d. d ≡ no_columns f };
+
+    fn from(fault: ColumnsFault) -> DrawFault {
+        match fault {
+            ColumnsFault::Wrong => DrawFault::WrongColumns,
+            ColumnsFault::OutOfMemory => DrawFault::OutOfMemory,
+        }
     }
 }

@@ -1,10 +1,6 @@
-ghost use Rattle.std.specs.Prelude.{◌≡◌, ◌↔◌, ◌+◌, ◌<◌, ◌≤◌, ◌^◌, ℕ, Some, Any, IfOk, IsTrue, OnOk, length, slice_get};
-ghost use Rattle.ira_order.specs.FaultyEvent.{Rises};
-ghost use Rattle.ira_view_picture.specs.Band.{AreBands, AreDebts, Owes};
+ghost use Rattle.std.specs.Prelude.{◌≡◌, ◌+◌, ◌<◌, ◌^◌, Some, IfOk, length, slice_get};
 ghost use Rattle.ira_view_picture.specs.Rows.{IsRow};
 ghost use Rattle.ira_view_picture.specs.Lane.{AreMarks, IsKnown, IsReplayed, IsStart};
-ghost use Rattle.ira_view_picture.specs.Picture.{HasTerms};
-ghost use Rattle.ira_view_picture.specs.declared.mark.Mark.{Mark};
 
 use crate::after::After;
 use crate::band::{Band, BandKind, Span};
@@ -86,16 +82,12 @@ impl Replay {
 
 impl<A: Allocator> Lane<A> {
     /// Whether it has bands of a kind.
-    pub fn has(&self, kind: BandKind) -> bool
-        ensures { IsTrue result ↔ Any (λ band. band.kind ≡ kind) self.now.bands.items }
-    {
+    pub fn has(&self, kind: BandKind) -> bool {
         self.bands.iter().any(|band| band.kind == kind)
     }
 
     /// Whether a leader yields at the columns that are drawn, or the node has left its first term in the end.
-    pub(crate) fn has_terms(&self) -> bool
-        ensures { IsTrue result ↔ HasTerms self.now }
-    {
+    pub(crate) fn has_terms(&self) -> bool {
         self.has(BandKind::Yielding) || self.end.term > 1
     }
 
@@ -114,10 +106,6 @@ impl<A: Allocator> Lane<A> {
             (λ lane. AreMarks log.now columns.now window (length log.now.events) lane.marks.items) }
         ensures start { IfOk result
             (λ lane. IsStart log.now columns.now window (length log.now.events) lane.start) }
-        ensures bands { IfOk result
-            (λ lane. AreBands lane.start window.first lane.marks.items lane.bands.items) }
-        ensures debts { IfOk result
-            (λ lane. AreDebts lane.start window.first lane.marks.items lane.debts.items) }
         ensures end { IfOk result (λ lane. IsReplayed log.now (length log.now.events) lane.end lane.first_fault) }
     {
         let mut replay = Replay::start(log);
@@ -152,9 +140,7 @@ impl<A: Allocator> Lane<A> {
 }
 
 /// Whether the node owes something then.
-fn owes(after: After) -> bool
-    ensures { IsTrue result ↔ Owes after }
-{
+fn owes(after: After) -> bool {
     matches!(after, After::State(NodeState { owed: Some(_), .. }))
 }
 
@@ -164,11 +150,7 @@ fn debts_of<A: Allocator>(
     start: After,
     first: u32,
     marks: &[Mark],
-) -> Result<Vec<Span, A>, OutOfMemory>
-    requires from { (k : ℕ) (m : Mark) → slice_get marks.now k ≡ Some m → first ≤ m.column }
-    requires rise { Rises (λ m. m.column) marks.now }
-    ensures { IfOk result (λ debts. AreDebts start first marks.now debts.items) }
-{
+) -> Result<Vec<Span, A>, OutOfMemory> {
     let mut debts = Vec::new(alloc);
     let mut known = start;
     let mut from = first;
@@ -195,11 +177,7 @@ fn bands_of<A: Allocator>(
     start: After,
     first: u32,
     marks: &[Mark],
-) -> Result<Vec<Band, A>, OutOfMemory>
-    requires from { (k : ℕ) (m : Mark) → slice_get marks.now k ≡ Some m → first ≤ m.column }
-    requires rise { Rises (λ m. m.column) marks.now }
-    ensures { IfOk result (λ bands. AreBands start first marks.now bands.items) }
-{
+) -> Result<Vec<Band, A>, OutOfMemory> {
     let mut bands = Vec::new(alloc);
     let mut kind = BandKind::of(start);
     let mut from = first;

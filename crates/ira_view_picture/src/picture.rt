@@ -1,9 +1,9 @@
-ghost use Rattle.std.specs.Prelude.{◌≡◌, ◌↔◌, ◌<◌, ◌^◌, ℕ, Any, Err, IfErr, IfOk, IsTrue, length, map, sum_by};
+ghost use Rattle.std.specs.Prelude.{◌≡◌, ◌<◌, ◌^◌, ℕ, Err, IfErr, IfOk, length, map, sum_by};
 ghost use Rattle.std.specs.Option.{ForSome, option_map};
 ghost use Rattle.ira_view_trail.specs.Columns.{AreColumnsOf};
 ghost use Rattle.ira_view_picture.specs.Arrow.{AreArrows};
 ghost use Rattle.ira_view_picture.specs.DrawFault.{HasTooManyEvents, IsDrawFault};
-ghost use Rattle.ira_view_picture.specs.Picture.{AreLanes, HasTerms, IsShown, drawn_of};
+ghost use Rattle.ira_view_picture.specs.Picture.{AreLanes, IsShown, drawn_of};
 ghost use Rattle.ira_view_picture.specs.Rows.{AreRows};
 ghost use Rattle.ira_view_picture.specs.Traffic.{AreTraffic};
 ghost use Rattle.ira_view_picture.specs.Window.{asked_window, events_drawn, number_drawn};
@@ -113,24 +113,17 @@ fn line_of<A: Allocator>(columns: &Columns<A>, cut: Option<&[u32]>) -> Option<u3
 
 impl<A: Allocator> Picture<A> {
     /// Whether a leader yields, drawn or not.
-    pub fn has_terms(&self) -> bool
-        ensures { IsTrue result ↔ Any HasTerms self.now.lanes.items }
-    {
-        for lane in &self.lanes {
-            if lane.has_terms() {
-                return true;
-            }
-        }
-        false
+    pub fn has_terms(&self) -> bool {
+        self.lanes.iter().any(|lane| lane.has_terms())
     }
 }
 
 impl<A: Allocator + Clone> Picture<A> {
     /// Of logs of a ring, with a consistent cut of them where one is given; the columns `from` to `to`, all where
     /// these aren't given.
-    pub fn of<L: Allocator>(
+    pub fn of(
         alloc: A,
-        logs: &Logs<L>,
+        logs: &Logs<A>,
         cut: Option<&[u32]>,
         from: Option<u64>,
         to: Option<u64>,

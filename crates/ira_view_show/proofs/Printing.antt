@@ -6,7 +6,7 @@ use Rattle.ira_event.specs.Sink.{SinkState, StopsIn, Takes}
 use Rattle.ira_event.proofs.Writing.{Appends-nothing, Takes-append, Takes-StopsIn}
 use Rattle.ira_view_page.specs.Printable.{IsPrintable, is_graphic}
 use Rattle.ira_view_page.specs.declared.show_fault.ShowFault.{ShowFault}
-use Rattle.ira_view_page.specs.declared.show_fault.ShowFault.TheVariants.{OutOfMemory, Write}
+use Rattle.ira_view_page.specs.declared.show_fault.ShowFault.TheVariants.{OutOfMemory, WrongColumns, Write}
 use Rattle.ira_view_show.specs.Showed.{OfPrintable, Showed}
 
 pub printable_append : (a b : List ℕ) → IsPrintable a → IsPrintable b → IsPrintable (a ++ b)
@@ -33,6 +33,7 @@ pub showed_then : {T : Type 0} (r : Result T ShowFault) (s t u : SinkState) → 
     → Showed r t u → Showed r s u
 showed_then (Ok v) s t u so_far more = more_taken s t u more.0 so_far more.1 more.2
 showed_then (Err OutOfMemory) s t u so_far more = more_taken s t u more.0 so_far more.1 more.2
+showed_then (Err WrongColumns) s t u so_far more = more_taken s t u more.0 so_far more.1 more.2
 showed_then (Err Write) s t u so_far more = part_taken s t u more.0 so_far more.1 more.2
 
 pub failed_then : {T : Type 0} (r : Result T ShowFault) (f : ShowFault) (s t u : SinkState) → r ≡ Err f

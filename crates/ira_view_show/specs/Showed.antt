@@ -3,7 +3,7 @@ use Rattle.std.specs.Prelude.{◌≡◌, ◌⊎◌, ℕ, List, [], Option, Some,
 use Rattle.ira_event.specs.Sink.{SinkState, StopsIn, Takes}
 use Rattle.ira_view_page.specs.Printable.{IsPrintable}
 use Rattle.ira_view_page.specs.declared.show_fault.ShowFault.{ShowFault}
-use Rattle.ira_view_page.specs.declared.show_fault.ShowFault.TheVariants.{OutOfMemory, Write}
+use Rattle.ira_view_page.specs.declared.show_fault.ShowFault.TheVariants.{OutOfMemory, WrongColumns, Write}
 
 -- this holds of some printable text
 abbrev pub OfPrintable : (List ℕ → Type 0) → Type 0
@@ -13,6 +13,7 @@ OfPrintable P = (text : List ℕ) × IsPrintable text × P text
 abbrev pub Showed : {T : Type 0} → Result T ShowFault → SinkState → SinkState → Type 0
 Showed (Ok v) old new = OfPrintable (λ text. Takes text old new)
 Showed (Err OutOfMemory) old new = OfPrintable (λ text. Takes text old new)
+Showed (Err WrongColumns) old new = OfPrintable (λ text. Takes text old new)
 Showed (Err Write) old new = OfPrintable (λ text. StopsIn text old new)
 
 -- the sink took what is on the page, which is printable

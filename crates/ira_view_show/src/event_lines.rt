@@ -17,7 +17,7 @@ use crate::summary::show_summary;
 use ira_event::{Logs, Sink};
 use ira_view_moment::{ChosenMoment, Moment, cut_at_end};
 use ira_view_page::{Emphasis, Page, ShowFault};
-use ira_view_trail::StateTrail;
+use ira_view_trail::{ColumnsFault, StateTrail};
 use std::alloc::Allocator;
 
 /// When so many bytes of lines are put together they are written.
@@ -102,7 +102,11 @@ fn write_lines<A: Allocator + Clone, W: Sink>(
         × Takes (front ++ events) (W.state sink.old) (W.state sink.new)) }
 {
     let columns = EventColumns::of(logs, logs.number_of_events());
-    let mut trail = StateTrail::new(alloc.clone()?, logs, cut)?;
+    let mut trail = match StateTrail::new(alloc.clone()?, logs, cut) {
+        Ok(trail) => trail,
+        Err(ColumnsFault::Wrong) => return Err(ShowFault::WrongColumns),
+        Err(ColumnsFault::OutOfMemory) => return Err(ShowFault::OutOfMemory),
+    };
     let mut page = heading;
     let mut number = 0;
     let mut is_inside = true;

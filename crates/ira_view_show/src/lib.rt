@@ -21,3 +21,4 @@ pub use event_lines::show_events;
 pub use leaders::{leader_missing, leads_differ};
 pub use moment_page::show_moment;
 pub use reasons::explain_leads;
+pub use summary::print_run;

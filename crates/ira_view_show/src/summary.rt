@@ -1,8 +1,11 @@
 ghost use Rattle.std.specs.Prelude.{◌≡◌};
 ghost use Rattle.ira_view_show.specs.Summary.{leader_from, leads_in, summary_text};
-ghost use Rattle.ira_view_page.specs.Page.{Added};
+ghost use Rattle.ira_order.specs.Matching.{Matches};
+ghost use Rattle.ira_order.specs.Run.{AreLocalRuns};
+ghost use Rattle.ira_view_page.specs.Page.{Added, AddedSome};
 
 use crate::totals::totals_of;
+use ira_event::{Logs, OutOfMemory};
 use ira_node::{NodeState, Phase};
 use ira_view_moment::Moment;
 use ira_view_page::{Leads, Page};
@@ -42,4 +45,21 @@ pub(crate) fn show_summary<A: Allocator, M: Allocator>(page: &mut Page<A>, momen
 {
     page.summary(first_leader(moment), totals_of(moment));
     page.end();
+}
+
+/// Adds the same of when the logs end, as a paragraph.
+pub fn print_run<A: Allocator + Clone>(
+    alloc: &A,
+    logs: &Logs<A>,
+    page: &mut Page<A>,
+) -> Result<(), OutOfMemory>
+    requires matches { Matches logs.now }
+    requires local { AreLocalRuns logs.now }
+    ensures { AddedSome page.old page.new }
+{
+    let moment = Moment::at_end(alloc.clone()?, logs)?;
+    let mut text = Page::new(alloc);
+    text.summary(first_leader(&moment), totals_of(&moment));
+    page.paragraph_of(&text);
+    Ok(())
 }

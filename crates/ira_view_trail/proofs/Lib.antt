@@ -1,11 +1,7 @@
+pub mod Few
 pub mod Lines
-pub mod OneColumn
-pub mod OneTrail
-pub mod Orders
-pub mod Pushes
+pub mod Picked
+pub mod Played
 pub mod Reached
-pub mod Ready
-pub mod Steps
-pub mod Tables
-pub mod Turns
-pub mod Walks
+pub mod RightRows
+pub mod Walked

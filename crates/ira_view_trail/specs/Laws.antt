@@ -1,69 +1,29 @@
--- Laws of times, columns and trails.
-use Rattle.std.specs.Prelude.{◌≡◌, ◌↔◌, ℕ, ◌<◌, ◌≤◌, List, Some, length, min, slice_get, slice_index}
+-- Laws of columns and of the order by them.
+use Rattle.std.specs.Prelude.{◌↔◌, ℕ, ◌<◌, ◌≤◌, List, slice_index}
 use Rattle.ira_event.specs.Log.{Log}
-use Rattle.ira_event.specs.Logs.{AreLogs}
 use Rattle.ira_order.specs.Before.{Before}
 use Rattle.ira_order.specs.Circle.{HasOrder}
 use Rattle.ira_order.specs.Cut.{IsConsistentCut}
 use Rattle.ira_order.specs.Order.{IsOrder}
-use Rattle.ira_order.specs.Ring.{log_of}
-use Rattle.ira_view_trail.specs.declared.trail_step.TrailStep.{TrailStep}
-use Rattle.ira_view_trail.specs.Columns.{AreColumns, AreTimes, IsEvent, IsLast, column_at_time}
-use Rattle.ira_view_trail.specs.Trail.{BeginsWith, IsTrail, places_of}
+use Rattle.ira_view_trail.specs.Columns.{AreColumns, IsEvent}
+use Rattle.ira_view_trail.specs.Trail.{CutIsFirst, IsPlayed}
 
--- what happened before an event that comes, comes at a lesser time
-abbrev pub TimesRise : Type 0
-TimesRise =
-    (logs : List Log) (cut : List ℕ) (come : ℕ → ℕ) (time : ℕ → ℕ → ℕ) (i a j b : ℕ) → AreTimes logs cut come time
-    → Before logs i a j b → b ≤ come j → (a ≤ come i) × (1 ≤ time i a) × (time i a < time j b)
+-- of logs that have an order, what happened before an event is left of it
+abbrev pub ColumnsRise : Type 0
+ColumnsRise =
+    (logs : List Log) (cut : List ℕ) (column : ℕ → ℕ → ℕ) (line i a j b : ℕ) → AreColumns logs cut column line
+    → HasOrder logs → Before logs i a j b → column i a < column j b
 
--- of the events that come, those of the cut are those whose times are at most its last one
-abbrev pub CutsAreFirst : Type 0
-CutsAreFirst =
-    (logs : List Log) (cut : List ℕ) (come : ℕ → ℕ) (time : ℕ → ℕ → ℕ) (last i a : ℕ) → AreTimes logs cut come time
-    → IsLast logs time (λ k. min (slice_index cut k) (come k)) last → IsEvent logs i a → a ≤ come i
-    → (a ≤ slice_index cut i) ↔ (time i a ≤ last)
-
--- the events that come up to a time are those of a consistent cut
+-- and the events up to a column are those of a consistent cut
 abbrev pub LinesAreCuts : Type 0
 LinesAreCuts =
-    (logs : List Log) (cut : List ℕ) (come : ℕ → ℕ) (time : ℕ → ℕ → ℕ) (k : ℕ) → AreTimes logs cut come time
-    → (left : List ℕ) × IsConsistentCut logs left
-    × ((i a : ℕ) → IsEvent logs i a → (a ≤ slice_index left i) ↔ ((a ≤ come i) × (time i a ≤ k)))
+    (logs : List Log) (cut : List ℕ) (column : ℕ → ℕ → ℕ) (line k : ℕ) → AreColumns logs cut column line
+    → HasOrder logs → (left : List ℕ) × IsConsistentCut logs left
+    × ((i a : ℕ) → IsEvent logs i a → (a ≤ slice_index left i) ↔ (column i a ≤ k))
 
--- the same events come by any times, and each at one
-abbrev pub TimesAreOne : Type 0
-TimesAreOne =
-    (logs : List Log) (cut : List ℕ) (come others_come : ℕ → ℕ) (one other : ℕ → ℕ → ℕ) (i a : ℕ)
-    → AreTimes logs cut come one → AreTimes logs cut others_come other → IsEvent logs i a
-    → (come i ≡ others_come i) × (a ≤ come i → one i a ≡ other i a)
-
--- of logs that have an order, and a consistent cut, all events come
-abbrev pub AllCome : Type 0
-AllCome =
-    (logs : List Log) (cut : List ℕ) (come : ℕ → ℕ) (time : ℕ → ℕ → ℕ) (i : ℕ) → AreLogs logs → HasOrder logs
-    → IsConsistentCut logs cut → AreTimes logs cut come time → i < length logs → come i ≡ length (log_of logs i)
-
--- each event has one column, and the line
-abbrev pub ColumnsAreOne : Type 0
-ColumnsAreOne =
-    (logs : List Log) (cut : List ℕ) (one other : ℕ → ℕ → ℕ) (line others_line i a : ℕ) → AreColumns logs cut one line
-    → AreColumns logs cut other others_line → (line ≡ others_line) × (IsEvent logs i a → one i a ≡ other i a)
-
--- logs have one trail through a cut
-abbrev pub TrailsAreOne : Type 0
-TrailsAreOne = (logs : List Log) (cut : List ℕ) (one other : List TrailStep) → IsTrail logs cut one
-    → IsTrail logs cut other → one ≡ other
-
--- of logs that have an order a trail through a consistent cut is one, and begins with the cut
-abbrev pub TrailsAreOrders : Type 0
-TrailsAreOrders =
-    (logs : List Log) (cut : List ℕ) (steps : List TrailStep) → AreLogs logs → HasOrder logs → IsConsistentCut logs cut
-    → IsTrail logs cut steps → IsOrder logs (places_of steps) × BeginsWith logs (places_of steps) cut
-
--- the column of a step is that of its event
-abbrev pub TrailsHaveColumns : Type 0
-TrailsHaveColumns =
-    (logs : List Log) (cut : List ℕ) (steps : List TrailStep) (column : ℕ → ℕ → ℕ) (line t : ℕ) (step : TrailStep)
-    → IsTrail logs cut steps → AreColumns logs cut column line → slice_get steps t ≡ Some step
-    → column_at_time step.time step.in_cut ≡ column step.place step.event
+-- and the order by columns is one of all events, which begins with the cut
+abbrev pub PlayedAreOrders : Type 0
+PlayedAreOrders =
+    (logs : List Log) (cut : List ℕ) (column : ℕ → ℕ → ℕ) (line : ℕ) (order : List ℕ)
+    → AreColumns logs cut column line → IsPlayed logs column order → HasOrder logs
+    → IsOrder logs order × CutIsFirst cut order

@@ -2,7 +2,7 @@
 use Rattle.std.specs.Prelude.{◌≡◌, ℕ, Bool, List, [], ◌++◌, ◌∷◌, Some, false, true}
 use Rattle.ira_commands.specs.declared.logs_command.LogsCommand.{LogsCommand}
 use Rattle.ira_commands.specs.declared.logs_command.LogsCommand.TheVariants.{Answer, Check, Decide, Explain, ExplainCheck}
-use Rattle.ira_commands.specs.declared.logs_command.LogsCommand.TheVariants.{Expect, ExplainLeaders, ExplainQuestion, Show}
+use Rattle.ira_commands.specs.declared.logs_command.LogsCommand.TheVariants.{Expect, ExplainExpected, ExplainQuestion, Show}
 use Rattle.ira_commands.specs.declared.overview.OverviewQuestion.{OverviewQuestion}
 use Rattle.ira_commands.specs.declared.overview.OverviewQuestion.TheVariants.{Certified, Decided, NotAsked}
 use Rattle.ira_commands.specs.declared.ring_form.RingForm.{RingForm}
@@ -48,7 +48,7 @@ abbrev pub HasCommandValues : LogsCommand → List ℕ → Type 0
 HasCommandValues (Answer form) values = values ≡ json_values form ++ 1 ∷ []
 HasCommandValues (Expect form expected) values = ⊥
 HasCommandValues (Explain form) values = values ≡ json_values form ++ 3 ∷ []
-HasCommandValues (ExplainLeaders form leaders) values = ⊥
+HasCommandValues (ExplainExpected form expected) values = ⊥
 HasCommandValues (ExplainQuestion form case) values = values ≡ json_values form ++ 4 ∷ case_values case
 HasCommandValues (ExplainCheck form) values = values ≡ json_values form ++ 5 ∷ []
 HasCommandValues (Show form moment) values =

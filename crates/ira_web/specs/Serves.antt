@@ -17,7 +17,7 @@ use Rattle.ira_commands.specs.Run.{RunsRing}
 use Rattle.ira_commands.specs.Upgrade.{UpgradesTexts}
 use Rattle.ira_commands.specs.declared.logs_command.LogsCommand.{LogsCommand}
 use Rattle.ira_commands.specs.declared.logs_command.LogsCommand.TheVariants.{Answer, Check, Decide, Explain, ExplainCheck}
-use Rattle.ira_commands.specs.declared.logs_command.LogsCommand.TheVariants.{Expect, ExplainLeaders, ExplainQuestion, Show}
+use Rattle.ira_commands.specs.declared.logs_command.LogsCommand.TheVariants.{Expect, ExplainExpected, ExplainQuestion, Show}
 use Rattle.ira_commands.specs.declared.overview.Overview.{Overview}
 use Rattle.ira_commands.specs.declared.overview.OverviewQuestion.{OverviewQuestion}
 use Rattle.ira_commands.specs.declared.overview.OverviewQuestion.TheVariants.{Certified, Decided, NotAsked}
@@ -40,7 +40,7 @@ abbrev pub AreCommandFiles : LogsCommand → List NamedText → NamedText → Na
 AreCommandFiles (Answer form) files question certificate logs = files ≡ logs
 AreCommandFiles (Expect form expected) files question certificate logs = files ≡ logs
 AreCommandFiles (Explain form) files question certificate logs = files ≡ logs
-AreCommandFiles (ExplainLeaders form leaders) files question certificate logs = files ≡ logs
+AreCommandFiles (ExplainExpected form expected) files question certificate logs = files ≡ logs
 AreCommandFiles (Decide form certify) files question certificate logs = files ≡ question ∷ logs
 AreCommandFiles (ExplainQuestion form case) files question certificate logs = files ≡ question ∷ logs
 AreCommandFiles (Check form) files question certificate logs = files ≡ question ∷ certificate ∷ logs

@@ -17,10 +17,10 @@ moment_values AtEnd = []
 moment_values (AtCut events) = 1 ∷ events.now
 moment_values (OfQuestion case) = 2 ∷ case_values case
 
--- who is to lead: a number that says so, and how many places are named, and these
+-- who is to lead: a number that says so, and how many places are named, and these; for any node the greatest number
 abbrev pub leaders_values : RingLeaders → List ℕ
 leaders_values NotAsked = []
-leaders_values Any = 17 ∷ 0 ∷ []
+leaders_values Any = 17 ∷ 18446744073709551615 ∷ []
 leaders_values (Places places) = 17 ∷ length places.now ∷ places.now
 
 -- a run

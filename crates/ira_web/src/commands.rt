@@ -79,7 +79,7 @@ fn split_files<'f>(
         LogsCommand::Answer { .. }
         | LogsCommand::Expect { .. }
         | LogsCommand::Explain { .. }
-        | LogsCommand::ExplainLeaders(..)
+        | LogsCommand::ExplainExpected { .. }
         | LogsCommand::Show(_, RingMoment::AtEnd | RingMoment::AtCut(_)) => {
             Some((none, none, files))
         }

@@ -1,4 +1,4 @@
-ghost use Rattle.std.specs.Prelude.{◌≡◌, ◌++◌, ◌∷◌, IfSome, length};
+ghost use Rattle.std.specs.Prelude.{◌≡◌, ◌++◌, ◌∷◌, IfSome};
 ghost use Rattle.ira_web.specs.Request.{AreColumns, HasValues, json_values, lines_values, question_value};
 ghost use Rattle.ira_web.specs.Spelling.{leaders_values, moment_values, run_values};
 
@@ -47,6 +47,9 @@ const LEADERS: u64 = 17;
 
 const OVERVIEW: u64 = 18;
 
+// In place of how many nodes are to lead: any node.
+const ANY: u64 = u64::MAX;
+
 // What begins a moment that isn't the end of the logs.
 const AT_CUT: u64 = 1;
 
@@ -62,17 +65,6 @@ fn moment_of(values: &[u64]) -> Option<RingMoment<'_>>
         [OF_QUESTION] => Some(RingMoment::OfQuestion(None)),
         [OF_QUESTION, case] => Some(RingMoment::OfQuestion(Some(*case))),
         _ => None,
-    }
-}
-
-/// The nodes at these places are to lead; any, where they are none.
-fn leaders_of(places: &[u64]) -> RingLeaders<'_>
-    ensures { leaders_values result ≡ LEADERS ∷ length places.now ∷ places.now }
-{
-    if places.is_empty() {
-        RingLeaders::Any
-    } else {
-        RingLeaders::Places(places)
     }
 }
 
@@ -190,12 +182,16 @@ impl<'v> Request<'v> {
         Some(Request::OfLogs(command))
     }
 
-    /// A ring as lines, where so many nodes are to lead, or any where they are none.
+    /// A ring as lines, where so many nodes are to lead, or any.
     fn led(form: Form, count: u64, values: &'v [u64]) -> Option<Request<'v>>
         ensures { IfSome result (λ request. HasValues request (json_values form ++ LEADERS ∷ count ∷ values.now)) }
     {
-        let (places, lines) = values.split_at_checked(usize::try_from(count).ok()?)?;
-        let leaders = leaders_of(places);
+        let (leaders, lines) = if count == ANY {
+            (RingLeaders::Any, values)
+        } else {
+            let (places, lines) = values.split_at_checked(usize::try_from(count).ok()?)?;
+            (RingLeaders::Places(places), lines)
+        };
         match lines {
             [SHOW, moment @ ..] => Request::lines(form, leaders, false, moment),
             [EVENTS, moment @ ..] => Request::lines(form, leaders, true, moment),

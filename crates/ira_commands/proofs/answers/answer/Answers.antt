@@ -15,12 +15,12 @@ pub returns-in-Explain : goal.returns-in-Explain
 returns-in-Explain g c = λ names texts judged are. rw c.in-Explain.is (if_ok c.explain_all.result
     (λ reply told. (c.args.given.logs.now, are (rw c.in-Explain.is refl), told)) c.explain_all.ensures)
 
-pub explain_leaders-requires : goal.explain_leaders-requires
-explain_leaders-requires g c = c.requires.kept (rw c.in-ExplainLeaders.is refl)
+pub explain_expected-requires : goal.explain_expected-requires
+explain_expected-requires g c = c.requires.kept (rw c.in-ExplainExpected.is refl)
 
-pub returns-in-ExplainLeaders : goal.returns-in-ExplainLeaders
-returns-in-ExplainLeaders g c = λ names texts judged are. rw c.in-ExplainLeaders.is (if_ok c.explain_leaders.result
-    (λ reply told. (c.args.given.logs.now, are (rw c.in-ExplainLeaders.is refl), told)) c.explain_leaders.ensures)
+pub returns-in-ExplainExpected : goal.returns-in-ExplainExpected
+returns-in-ExplainExpected g c = λ names texts judged are. rw c.in-ExplainExpected.is (if_ok c.explain_expected.result
+    (λ reply told. (c.args.given.logs.now, are (rw c.in-ExplainExpected.is refl), told)) c.explain_expected.ensures)
 
 pub returns-in-Decide : goal.returns-in-Decide
 returns-in-Decide g c = λ names texts judged are. rw c.in-Decide.is (c.decide_asked.ensures texts judged)

@@ -7,7 +7,7 @@ use Rattle.ira_view_json.specs.PageLine.{IsYesLine}
 use Rattle.ira_view_moment.specs.Told.{at_end}
 use Rattle.ira_view.specs.Status.{status_number}
 use Rattle.ira_commands.proofs.Outputs.{front}
-use Rattle.ira_commands.specs.Expected.{named_by}
+use Rattle.ira_commands.specs.RingLeaders.{named_places}
 use Rattle.ira_commands.proofs.expected.expected_text.Goals.{in-Json+in_ok-line-in-Json, in-Words}
 use Rattle.ira_commands.proofs.expected.expected_text.Goals as goal
 
@@ -15,7 +15,7 @@ pub returns-in-Ok : goal.returns-in-Ok
 returns-in-Ok g c = elim c.match-form.branch [
   | in-Json+in_ok-line-in-Json w ↦
       let line = string_bytes w.in_ok-line-in-Json.line in
-      let named = named_by c.args.expected in
+      let named = named_places c.args.expected.leaders in
       let took = rw (sym w.written-is ∙ c.in-Ok.is) at w.write_bytes-written.ensures in
       let bytes = took.took ∙ ap (λ (m : Memory). m.bytes ++ w.as_bytes.result.now) c.new-text.ensures
       ∙ w.as_bytes.ensures.value in

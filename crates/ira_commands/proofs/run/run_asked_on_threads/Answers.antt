@@ -1,9 +1,12 @@
-use Rattle.std.proofs.Common.{false, rules}
+use Rattle.std.proofs.Common.{IfOk, false, rules}
 use Rattle.ira_ring.specs.SeededRing.{setup_of}
+use Rattle.ira_ring_setup.specs.Agreement.{Agrees}
+use Rattle.ira_ring_setup.specs.Recording.{HasOwnEnd, IsRecording}
 use Rattle.ira_ring_setup.specs.declared.run_fault.RunFault.TheVariants as fault
 use Rattle.ira_commands.proofs.Runs.{many_terms, ring_run, threads_fault}
-use Rattle.ira_commands.proofs.Served.{if_both}
+use Rattle.ira_commands.proofs.Served.{if_both, if_ok}
 use Rattle.ira_commands.specs.AskedRun.{ring_of}
+use Rattle.ira_commands.specs.Run.{IsRunOf}
 use Rattle.ira_commands.specs.Run.RunsRing.{failed}
 use Rattle.ira_commands.proofs.run.run_asked_on_threads.Goals as goal
 
@@ -15,7 +18,11 @@ returns-in_default-try_from g c =
 pub returns : goal.returns
 returns g c =
     let asked = c.args.asked.now in
+    let setup = setup_of (ring_of asked) in
+    let run = c.run_ring-run.result in
     let ran = rw c.in_ok-setup.ensures at c.run_ring-run.ensures in
-    let recorded = if_both _ _ c.run_ring-run.result ran.recording ran.ended in
-    ring_run false asked c.run_ring-run.result c.tell_run.result (search rules) ran.kept recorded
-    (threads_fault (setup_of (ring_of asked)) c.run_ring-run.result ran.rules.0 ran.faults) c.tell_run.ensures
+    let ended = if_both (Agrees setup) HasOwnEnd run ran.agrees ran.ended in
+    let all = if_both (IsRecording setup) (λ r. Agrees setup r × HasOwnEnd r) run ran.recording ended in
+    let recorded : IfOk run (IsRunOf false setup) = if_ok run (λ r is. (is.0, is.1.0, is.1.1)) all in
+    ring_run false asked run c.tell_run.result (search rules) ran.kept recorded
+    (threads_fault setup run ran.rules ran.faults ran.no_end) c.tell_run.ensures

@@ -5,7 +5,7 @@ use Rattle.ira_main.proofs.folder_answer.audit_folder.Goals as goal
 pub returns-in_err-leaders : goal.returns-in_err-leaders
 returns-in_err-leaders g c =
     let p = err_from_is_err_and c.from_residual.result c.from_residual.ensures.1 in
-    rw (p.1, p.2) (inl (rw c.expected_leaders.ensures at c.in_err-leaders.ensures))
+    rw (p.1, p.2) (inl c.in_err-leaders.ensures)
 
 pub returns-in_err-names : goal.returns-in_err-names
 returns-in_err-names g c =
@@ -19,7 +19,7 @@ returns-in_err-audit g c =
 
 pub returns : goal.returns
 returns g c = (
-  rw c.expected_leaders.ensures at c.in_ok-leaders.ensures,
+  c.in_ok-leaders.ensures,
   _,
   c.in_ok-names.ensures,
   rw c.deref.ensures.value at c.in_ok-audit.ensures,

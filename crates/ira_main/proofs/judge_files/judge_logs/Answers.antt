@@ -5,11 +5,11 @@ use Rattle.ira_main.proofs.judge_files.judge_logs.Goals as goal
 pub returns-in_err-read : goal.returns-in_err-read
 returns-in_err-read g c =
     let p = err_from_is_err_and c.from_residual.result c.from_residual.ensures.1 in
-    rw (p.1, p.2) (inl (rw c.expected_leaders.ensures at c.in_err-read.ensures))
+    rw (p.1, p.2) (inl c.in_err-read.ensures)
 
 pub returns : goal.returns
 returns g c =
-    let asked = rw c.deref.ensures.value at c.judge_command.ensures in
-    let read = rw c.expected_leaders.ensures at c.in_ok-read.ensures in
-    MatchResult-weaker c.answer_files.result (rw c.asked-inputs.ensures at c.answer_files.ensures)
-    (λ reply is. (_, read, _, asked, is)) (λ fault is. inr is)
+    let expected = rw c.deref.ensures.value at c.expected_by.ensures in
+    MatchResult-weaker c.answer_files.result
+    (rw (c.asked-inputs.ensures, c.asked_of-command.ensures) at c.answer_files.ensures)
+    (λ reply is. (_, c.in_ok-read.ensures, _, expected, is)) (λ fault is. inr is)

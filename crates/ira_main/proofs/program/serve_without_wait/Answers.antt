@@ -1,6 +1,6 @@
 use Rattle.std.proofs.Common.{◌≡◌, ◌∙◌, Err, List, [], ◌∷◌, Ok, Result, ℕ, ap, inl, inr, map, refl, subst, sym}
 use Rattle.ira_main_cli.specs.Request.{IsMadeOf, IsVersionLine}
-use Rattle.ira_main.specs.Serve.CommandOutcome.{asked, decided, drawn, each, folders, guided, judged, mended, pairs, recorded, refused, shown}
+use Rattle.ira_main.specs.Serve.CommandOutcome.{asked, decided, drawn, each, guided, judged, mended, pairs, recorded, refused, shown}
 use Rattle.ira_main.specs.Serve.CommandOutcome.{upgraded}
 use Rattle.ira_main.specs.Serve.CommandOutcome.{explained as explained_of_logs}
 use Rattle.ira_main.specs.Serve.Serves.{explained, with_words, without_words}
@@ -36,21 +36,14 @@ returns-in-OneLog-clause-served g c =
 pub returns-in-Logs-clause-served : goal.returns-in-Logs-clause-served
 returns-in-Logs-clause-served g c =
     let made = subst (IsMadeOf (map (λ w. w.now) c.args.words.now)) c.in-Logs.is c.in-Ok.ensures.made in
-    with_words (some_words _ _ _ made.line.first) refl (judged _ made (rw c.in_default.is at c.several_folders.ensures)
-    refl (told _ _ _ _ _ _ c.judge_logs.ensures c.deliver-in-Logs.ensures))
-
-pub returns-in-Some-clause-served : goal.returns-in-Some-clause-served
-returns-in-Some-clause-served g c =
-    let made = subst (IsMadeOf (map (λ w. w.now) c.args.words.now)) c.in-Logs.is c.in-Ok.ensures.made in
-    with_words (some_words _ _ _ made.line.first) refl
-    (folders _ _ made (rw c.in-Some.is at c.several_folders.ensures) refl
-    (rw c.of_json-form.ensures at c.judge_each.ensures))
+    with_words (some_words _ _ _ made.line.first) refl (judged _ made refl
+    (rw c.of_json-form.ensures at c.answer_logs.ensures))
 
 pub returns-in-Each-clause-served : goal.returns-in-Each-clause-served
 returns-in-Each-clause-served g c =
     let made = subst (IsMadeOf (map (λ w. w.now) c.args.words.now)) c.in-Each.is c.in-Ok.ensures.made in
     with_words (some_words _ _ _ made.first) refl (each _ made refl
-    (rw (c.of_json-form-in-Each.ensures, c.deref.ensures.value) at c.judge_each-in-Each.ensures))
+    (rw (c.of_json-form-in-Each.ensures, c.deref.ensures.value) at c.judge_each.ensures))
 
 pub returns-in-OneLog-answer-clause-served : goal.returns-in-OneLog-answer-clause-served
 returns-in-OneLog-answer-clause-served g c =
@@ -62,7 +55,7 @@ pub returns-in-Logs-answer-clause-served : goal.returns-in-Logs-answer-clause-se
 returns-in-Logs-answer-clause-served g c =
     let made = subst (IsMadeOf (map (λ w. w.now) c.args.words.now)) c.in-Explain.is c.in-Ok.ensures.made in
     with_words (some_words _ _ _ made.first) refl (explained_of_logs _ made refl
-    (rw c.in-Logs-answer.is (rw c.of_json-form-in-Explain.ensures at c.explain_logs.ensures)))
+    (rw c.in-Logs-answer.is (rw c.of_json-form-in-Explain.ensures at c.answer_logs-in-Logs-answer.ensures)))
 
 pub returns-in-Findings-clause-served : goal.returns-in-Findings-clause-served
 returns-in-Findings-clause-served g c =

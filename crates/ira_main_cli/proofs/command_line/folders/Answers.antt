@@ -29,5 +29,5 @@ none_found (f ∷ fs) names same named found =
 
 pub returns-in-Some-names-clause-refused : goal.returns-in-Some-names-clause-refused
 returns-in-Some-names-clause-refused c = λ folders.
-    let same = ap (λ names. unwrap_or names []) (sym folders.given ∙ c.in-Some-names.ensures.names) in
+    let same = ap (λ names. unwrap_or names []) (sym folders.given ∙ c.in-Some-names.ensures) in
     absurd (none_found c.in-Some-names.names.now folders.names same folders.named c.if-contains.ensures.cases)

@@ -19,7 +19,7 @@ found_request-requires c =
     let parse = c.in_ok-matches.ensures in
     let it = is_parsed _ (map (λ w. w.now) c.args.words.now) _ _ _ c.in_ok-command.ensures parse.kinds parse.matches
     c.unwrap.ensures c.subcommand.ensures.name c.subcommand.ensures.rows in
-    record { named = it.one; found = it.found }
+    record { named = it.one }
 
 pub returns-in-Ok-clause-made : goal.returns-in-Ok-clause-made
 returns-in-Ok-clause-made c =

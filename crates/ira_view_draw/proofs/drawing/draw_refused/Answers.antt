@@ -8,12 +8,12 @@ returns-clause-drawing g c =
     let picture = c.in_ok-picture.picture in
     let grid = c.write_ground-grid.result in
     let finished = c.in_ok-finish.ensures in
-    let rings = c.write_highlights.ensures in
-    let over = rings.1.ends finished.1.0 finished.1.1 in
+    let above = c.write_highlights.ensures in
+    let over = above.1.ends finished.1.0 finished.1.1 in
     let marked = c.write_marks.ensures.ends over.0 over.1 in
     refused_drawing_of c.args.refused.now.logs c.args.columns.from c.args.columns.to grid.window picture.last
     picture.line (map drawn_of picture.lanes.items) picture.arrows.items grid.nodes marked.0 over.0 finished.1.0
-    c.in_ok-finish.field-0 rings.0
+    above.0 c.in_ok-finish.field-0
     (rw (c.write_ground-grid.ensures.1, ← c.logs-logs.ensures.value) c.in_ok-picture.ensures.shown)
     (c.write_ground-grid.ensures.1 ∙ c.in_ok-picture.ensures.window)
     (c.write_ground-grid.ensures.0 ∙ c.get.ensures.value ∙ c.size.ensures.value ∙ ap length c.logs-logs.ensures.value)

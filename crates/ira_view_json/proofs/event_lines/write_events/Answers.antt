@@ -1,7 +1,6 @@
 use Rattle.std.proofs.Common.{◌≡◌, ◌∷◌, ◌++◌, ◌∙◌, [], Err, arith, refl, rules, subst}
 use Rattle.std.proofs.lemmas.List.{length_push}
-use Rattle.ira_view_trail.proofs.Steps.{last_is_there}
-use Rattle.ira_view_trail.proofs.Walks.{few_steps}
+use Rattle.ira_view_trail.proofs.Walked.{few_given, many_given}
 use Rattle.ira_view_trail.specs.StateTrail.{TellsStates}
 use Rattle.ira_view_trail.specs.Trail.{IsTrail}
 use Rattle.ira_view_page.specs.declared.show_fault.ShowFault.TheVariants.{OutOfMemory}
@@ -12,11 +11,11 @@ use Rattle.ira_view_json.proofs.Gathering.{all_gathered, gathered_more, none_gat
 use Rattle.ira_view_json.proofs.LinesWritten.{failed_then, more_taken, none_taken, none_wrote, wrote_then}
 use Rattle.ira_view_json.proofs.event_lines.write_events.Goals as goal
 
-pub returns-in_err-trail-clause-wrote : goal.returns-in_err-trail-clause-wrote
-returns-in_err-trail-clause-wrote g c =
-    let r = c.from_residual-in_err-trail.result in
-    let is : r ≡ Err OutOfMemory = search rules in
-    none_wrote r (g.W.Sink.state c.args.sink.now) is
+pub returns-in-Err-Wrong-clause-wrote : goal.returns-in-Err-Wrong-clause-wrote
+returns-in-Err-Wrong-clause-wrote g c = none_taken (g.W.Sink.state c.args.sink.now)
+
+pub returns-in-Err-OutOfMemory-clause-wrote : goal.returns-in-Err-OutOfMemory-clause-wrote
+returns-in-Err-OutOfMemory-clause-wrote g c = none_taken (g.W.Sink.state c.args.sink.now)
 
 pub returns-in_err-clone-2-clause-wrote : goal.returns-in_err-clone-2-clause-wrote
 returns-in_err-clone-2-clause-wrote g c =
@@ -26,10 +25,10 @@ returns-in_err-clone-2-clause-wrote g c =
 
 pub steps-init : goal.steps-init
 steps-init g c = record {
-  logs = c.in_ok-trail.ensures.logs;
-  cut = c.in_ok-trail.ensures.cut;
+  logs = c.in-Ok.ensures.logs;
+  cut = c.in-Ok.ensures.cut;
   steps = [];
-  walked = c.in_ok-trail.ensures.none_given;
+  walked = c.in-Ok.ensures.none_given;
   count = refl;
   values = [];
   told = none_so_far c.args.logs.now;
@@ -39,7 +38,12 @@ steps-init g c = record {
 
 pub overflow_add-number : goal.overflow_add-number
 overflow_add-number g c =
-    omega (arith, c.steps.invariant.count, few_steps _ _ c.steps.invariant.walked.given)
+    omega (
+      arith,
+      c.steps.invariant.count,
+      many_given _ _ c.steps.invariant.walked,
+      few_given _ _ c.steps.invariant.walked,
+    )
 
 pub steps-smaller-in_ok-add-3 : goal.steps-smaller-in_ok-add-3
 steps-smaller-in_ok-add-3 g c =
@@ -47,17 +51,11 @@ steps-smaller-in_ok-add-3 g c =
     let new = (rw c.in-Some.is at (c.in_ok-walked.ensures.step steps c.steps.invariant.walked)).0 in
     omega (
       arith,
-      new.given.number,
-      c.steps.invariant.walked.given.number,
+      many_given _ _ new,
+      many_given _ _ c.steps.invariant.walked,
       length_push steps c.in-Some.walked.step,
-      few_steps _ _ new.given,
+      few_given _ _ new,
     )
-
-pub event_value-requires : goal.event_value-requires
-event_value-requires g c =
-    let steps = c.steps.invariant.steps in
-    let after = rw c.in-Some.is at (c.in_ok-walked.ensures.step steps c.steps.invariant.walked) in
-    omega (arith, (last_is_there c.next.new.self.trail steps c.in-Some.walked.step after.0.given).time)
 
 pub steps-preserved-in_ok-add-3 : goal.steps-preserved-in_ok-add-3
 steps-preserved-in_ok-add-3 g c =
@@ -100,7 +98,7 @@ returns-clause-told g c =
     let none = (rw c.in_default.is at (c.in_ok-walked.ensures.none steps c.steps.invariant.walked)).0 in
     let trail : IsTrail logs cut steps =
     subst (λ cut. IsTrail logs cut steps) c.steps.invariant.cut
-    (subst (λ logs. IsTrail logs c.steps.trail.trail.cut steps) c.steps.invariant.logs none) in
+    (subst (λ logs. IsTrail logs c.steps.trail.cut steps) c.steps.invariant.logs none) in
     let values = c.steps.invariant.values in
     all_gathered (AreEventValues logs cut) c.flush.result values c.steps.lines c.flush.new.self
     (g.W.Sink.state c.args.sink.now) (g.W.Sink.state c.steps.sink) (g.W.Sink.state c.flush.new.sink)

@@ -72,8 +72,6 @@ loop-place-preserved g c =
       events = c.in_ok-lane.ensures.events;
       start = rw row at c.in_ok-lane.ensures.start;
       marks = rw row at c.in_ok-lane.ensures.marks;
-      bands = c.in_ok-lane.ensures.bands;
-      debts = c.in_ok-lane.ensures.debts;
       replayed = c.in_ok-lane.ensures.end;
     } in
     record {

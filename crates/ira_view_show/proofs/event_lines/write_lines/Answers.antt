@@ -1,6 +1,6 @@
 use Rattle.std.proofs.Common.{◌≡◌, ◌∷◌, ◌++◌, ◌+◌, ◌∙◌, [], Err, arith, refl, rules, subst}
 use Rattle.std.proofs.lemmas.List.{length_push}
-use Rattle.ira_view_trail.proofs.Walks.{few_steps}
+use Rattle.ira_view_trail.proofs.Walked.{few_given, many_given}
 use Rattle.ira_view_trail.specs.StateTrail.{TellsStates}
 use Rattle.ira_view_trail.specs.Trail.{IsTrail}
 use Rattle.ira_view_show.specs.EventLine.{event_line_text}
@@ -11,10 +11,10 @@ use Rattle.ira_view_show.proofs.event_lines.write_lines.Goals as goal
 
 pub steps-init : goal.steps-init
 steps-init g c = record {
-  logs = c.in_ok-trail.ensures.logs;
-  cut = c.in_ok-trail.ensures.cut;
+  logs = c.in-Ok.ensures.logs;
+  cut = c.in-Ok.ensures.cut;
   steps = [];
-  walked = c.in_ok-trail.ensures.none_given;
+  walked = c.in-Ok.ensures.none_given;
   count = refl;
   told = record {
     text = [];
@@ -26,7 +26,12 @@ steps-init g c = record {
 
 pub overflow_add-number : goal.overflow_add-number
 overflow_add-number g c =
-    omega (arith, c.steps.invariant.count, few_steps _ _ c.steps.invariant.walked.given)
+    omega (
+      arith,
+      c.steps.invariant.count,
+      many_given _ _ c.steps.invariant.walked,
+      few_given _ _ c.steps.invariant.walked,
+    )
 
 pub steps-smaller : goal.steps-smaller
 steps-smaller g c =
@@ -34,10 +39,10 @@ steps-smaller g c =
     let new = (rw c.in-Some.is at (c.in_ok-walked.ensures.step steps c.steps.invariant.walked)).0 in
     omega (
       arith,
-      new.given.number,
-      c.steps.invariant.walked.given.number,
+      many_given _ _ new,
+      many_given _ _ c.steps.invariant.walked,
       length_push steps c.in-Some.walked.step,
-      few_steps _ _ new.given,
+      few_given _ _ new,
     )
 
 pub steps-preserved : goal.steps-preserved
@@ -103,7 +108,7 @@ returns-clause-told g c =
     let none = (rw c.in_default.is at (c.in_ok-walked.ensures.none steps c.steps.invariant.walked)).0 in
     let trail : IsTrail logs cut steps =
     subst (λ cut. IsTrail logs cut steps) c.steps.invariant.cut
-    (subst (λ logs. IsTrail logs c.steps.trail.trail.cut steps) c.steps.invariant.logs none) in
+    (subst (λ logs. IsTrail logs c.steps.trail.cut steps) c.steps.invariant.logs none) in
     ok_so c.write_page.result
     (all_told logs cut (here_text c.args.is_asked cut) c.of-columns.result c.args.heading c.steps.is_inside steps
     c.steps.number c.steps.page _ (g.W.Sink.state c.args.sink.now) (g.W.Sink.state c.steps.sink)

@@ -9,8 +9,8 @@ use Rattle.ira_view_show.proofs.event_lines.write_lines.Given as goal
 
 abbrev pub invariant-steps : goal.invariant-steps
 invariant-steps g l = record {
-  logs : l.trail.trail.logs ≡ l.logs;
-  cut : l.trail.trail.cut ≡ l.cut;
+  logs : l.trail.logs ≡ l.logs;
+  cut : l.trail.cut ≡ l.cut;
   steps : List TrailStep;
   walked : HasWalked l.trail steps;
   count : l.number ≡ length steps;
@@ -20,4 +20,4 @@ invariant-steps g l = record {
 }
 
 abbrev pub decreases-steps : goal.decreases-steps
-decreases-steps g l = 25500001 - l.trail.trail.steps
+decreases-steps g l = 25500001 - l.trail.given

@@ -2,7 +2,7 @@ use Rattle.std.proofs.Common.{◌≡◌, ◌+◌, ◌-◌, arith, length, rules}
 use Rattle.std.specs.Prelude.{slice_index}
 use Rattle.ira_view_picture.specs.Lane.{IsMark}
 use Rattle.ira_view_picture.specs.Window.{IsIn}
-use Rattle.ira_view_picture.proofs.DrawnMarks.{marks_more, marks_over, marks_rise}
+use Rattle.ira_view_picture.proofs.DrawnMarks.{marks_more, marks_over}
 use Rattle.ira_view_picture.proofs.Starts.{start_more, start_over}
 use Rattle.ira_view_picture.proofs.lane.Lane.of.Goals as goal
 use Rattle.ira_view_picture.proofs.lane.Lane.of.Goals.{then-contains+in_ok-push, else-contains+then-column-window}
@@ -64,26 +64,6 @@ loop-k-preserved g c =
             (omega (arith, column, w.if-column-window.false)))
       ];
     }
-
-pub bands_of-requires-clause-from : goal.bands_of-requires-clause-from
-bands_of-requires-clause-from g c =
-    rw c.deref.ensures.value (λ k m at. (c.loop-k.invariant.marks.each k m at).1.0)
-
-pub bands_of-requires-clause-rise : goal.bands_of-requires-clause-rise
-bands_of-requires-clause-rise g c =
-    rw c.deref.ensures.value
-    (marks_rise c.args.log.now c.args.columns.now c.args.window c.loop-k.k c.loop-k.marks.items c.loop-k.invariant.marks
-    c.requires.rise (omega (arith, c.requires.count, c.loop-k.auto.k-end, c.len-k-end.ensures.value)))
-
-pub debts_of-requires-clause-from : goal.debts_of-requires-clause-from
-debts_of-requires-clause-from g c =
-    rw c.deref-2.ensures.value (λ k m at. (c.loop-k.invariant.marks.each k m at).1.0)
-
-pub debts_of-requires-clause-rise : goal.debts_of-requires-clause-rise
-debts_of-requires-clause-rise g c =
-    rw c.deref-2.ensures.value
-    (marks_rise c.args.log.now c.args.columns.now c.args.window c.loop-k.k c.loop-k.marks.items c.loop-k.invariant.marks
-    c.requires.rise (omega (arith, c.requires.count, c.loop-k.auto.k-end, c.len-k-end.ensures.value)))
 
 pub returns-clause-marks : goal.returns-clause-marks
 returns-clause-marks g c =
