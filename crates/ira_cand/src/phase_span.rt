@@ -7,5 +7,5 @@ pub(crate) struct PhaseSpan {
     /// Where the profile has the stage in the first round of the first term.
     pub kind: usize,
     /// How many states it has.
-    pub count: usize,
+    pub count: u32,
 }

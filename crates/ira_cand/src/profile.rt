@@ -1,32 +1,37 @@
-ghost use Rattle.std.specs.Prelude.{◌≡◌, ◌+◌, ◌++◌, ◌∷◌, ◌<◌, ◌≤◌, [], ℕ, Bool, true, false, cond, Some, length, slice_get};
-ghost use Rattle.std.specs.Prelude.{All, IfOk, IfSome, OnOk};
-ghost use Rattle.ira_event.specs.Limits.{MAX_RECORDS};
+ghost use Rattle.std.specs.Prelude.{◌≡◌, ◌+◌, ◌++◌, ◌∷◌, ◌<◌, ◌≤◌, [], ℕ, Bool, List, Some, is_some, length, replicate};
+ghost use Rattle.std.specs.Prelude.{All, IfOk, OnOk, slice_get};
+ghost use Rattle.ira_event.specs.declared.event.Event.{Event};
+ghost use Rattle.ira_event.specs.Messages.{sending};
+ghost use Rattle.ira_node.specs.declared.node_state.NodeState.{NodeState};
 ghost use Rattle.ira_pred.specs.Clause.{formula};
+ghost use Rattle.ira_pred.specs.Formula.{Formula};
 ghost use Rattle.ira_cand.specs.Candidates.{AreCandidates};
-ghost use Rattle.ira_cand.specs.Profile.{AreNoted, HasKind, answers_in, in_first_round, next_state, picked, stage};
+ghost use Rattle.ira_cand.specs.Profile.{HasKind, TableAt, answers_in, in_first_round};
 ghost use Rattle.ira_cand.specs.declared.phase_span.PhaseSpan.{PhaseSpan};
 ghost use Rattle.ira_cand.specs.declared.stage.Stage.{Stage};
 
 use crate::phase_span::PhaseSpan;
 use crate::stage::Stage;
-use ira_event::{Event, Events, Load, Msg, NodeLog, OutOfMemory, RingSize};
-use ira_node::{Handling, NodeState};
+use ira_event::{Event, Load, Msg, NodeLog, OutOfMemory};
+use ira_node::NodeState;
 use ira_pred::Clause;
 use std::alloc::Allocator;
 use std::marker::Model;
 
 /// The states of a log, told in short: a clause sees no more of a state than its term, its phase and whether something
-/// is owed, and phases change seldom, terms with them alone. So the candidates for a clause are found by trying it twice
-/// for each phase, and no state is computed again. A clause that names neither a round nor a term is tried twice for
-/// each phase without an ID and for each ID. It takes a byte for each event, and a few words for each change of phase.
+/// is owed, and phases change seldom, terms with them alone; and a node owes something exactly where the next event is a
+/// sending. So the candidates for a clause are found by trying it twice at most for each phase, and no state is computed
+/// again. A clause that names neither a round nor a term is tried for each phase without an ID and for each ID. It takes
+/// a few words for each change of phase.
 #[derive(Drop)]
 pub struct Profile<'a, A: Allocator> {
     log: &'a NodeLog<A>,
+    /// All states but the last one.
     spans: Vec<PhaseSpan, A>,
-    /// Whether something is owed, state by state.
-    owes: Vec<bool, A>,
     /// The stages of the spans in the first round of the first term, each once.
     kinds: Vec<Stage, A>,
+    /// The last state, of which no event tells whether it owes something.
+    last: NodeState,
 }
 
 impl<'a, A: Allocator> Model for Profile<'a, A> {
@@ -37,7 +42,7 @@ impl<'a, A: Allocator> Model for Profile<'a, A> {
 
     ghost view = { λ p. p.log.now };
 
-    ghost invariant = { λ p. IsProfile p.log.now p.spans.items p.owes.items p.kinds.items };
+    ghost invariant = { λ p. IsProfile p.log.now p.spans.items p.kinds.items p.last };
 }
 
 impl<'a, A: Allocator + Clone> Profile<'a, A> {
@@ -46,29 +51,28 @@ impl<'a, A: Allocator + Clone> Profile<'a, A> {
         ensures { IfOk result (λ p. p ≡ log.now) }
     {
         let mut spans = Vec::new(alloc.clone()?);
-        let mut kinds = Vec::new(alloc.clone()?);
-        let mut owes = Vec::with_capacity(alloc, log.len() + 1)?;
+        let mut kinds = Vec::new(alloc);
         let mut events = log.events();
         let mut state = NodeState::first(log.initiator());
-        loop {
-            let begin = owes.len();
-            let next = note_stage(log.nodes(), state, &mut events, &mut owes)?;
-            add_span(
-                &mut spans,
-                &mut kinds,
-                Stage::of(&state),
-                owes.len() - begin,
-            )?;
-            let Some(after) = next else {
-                return Ok(Profile {
-                    log,
-                    spans,
-                    owes,
-                    kinds,
-                });
-            };
-            state = after;
+        let mut count = 0;
+        while let Some(event) = events.next() {
+            let stage = Stage::of(&state);
+            if state.advance(log.nodes(), &event).is_err() {
+                break;
+            }
+            count += 1;
+            if Stage::of(&state) != stage {
+                add_span(&mut spans, &mut kinds, stage, count)?;
+                count = 0;
+            }
         }
+        add_span(&mut spans, &mut kinds, Stage::of(&state), count)?;
+        Ok(Profile {
+            log,
+            spans,
+            kinds,
+            last: state,
+        })
     }
 
     /// The candidates of the log for a clause, as a list.
@@ -76,16 +80,58 @@ impl<'a, A: Allocator + Clone> Profile<'a, A> {
         ensures { IfOk result (λ v. AreCandidates self.now (formula clause.now) v.items) }
     {
         let known = known_answers(alloc.clone()?, clause, &self.kinds)?;
-        let owes: &[bool] = &self.owes;
+        let last = self.last;
         let mut found = Vec::new(alloc);
         let mut position = 0;
         for span in &self.spans {
-            let (free, owing) = span_answers(clause, span, &known);
             let end = position + span.count;
-            pick(&mut found, position, &owes[position..end], free, owing)?;
+            self.pick(
+                &mut found,
+                position,
+                end,
+                span_answers(clause, span, &known),
+            )?;
             position = end;
         }
+        if clause.holds(&last) {
+            found.push(position)?;
+        }
         Ok(found)
+    }
+
+    /// Adds the positions of the states of a span that pass, by its two answers.
+    fn pick(
+        &self,
+        found: &mut Vec<u32, A>,
+        begin: u32,
+        end: u32,
+        answers: (bool, bool),
+    ) -> Result<(), OutOfMemory>
+        requires { end ≤ length self.now.events }
+        ensures { OnOk result ((last : NodeState) (f : Formula) (at : Stage) (n : ℕ) (rest : List Stage)
+            → begin + n ≡ end → answers ≡ answers_in f at
+            → TableAt self.now last f (replicate n at ++ rest) begin found.old.items
+            → TableAt self.now last f rest end found.new.items) }
+    {
+        let (free, owing) = answers;
+        if !free && !owing {
+            return Ok(());
+        }
+        for p in begin..end {
+            if free == owing || self.sends_after(p) == owing {
+                found.push(p)?;
+            }
+        }
+        Ok(())
+    }
+
+    /// Whether the event after so many is a sending.
+    #[inline(always)]
+    fn sends_after(&self, count: u32) -> bool
+        requires { count < length self.now.events }
+        ensures { (e : Event) → slice_get self.now.events count ≡ Some e → result ≡ is_some (sending e) }
+    {
+        matches!(self.log.event(count + 1), Event::Sent(_))
     }
 }
 
@@ -94,7 +140,7 @@ fn add_span<A: Allocator>(
     spans: &mut Vec<PhaseSpan, A>,
     kinds: &mut Vec<Stage, A>,
     stage: Stage,
-    count: usize,
+    count: u32,
 ) -> Result<(), OutOfMemory>
     requires { All (HasKind kinds.old.items) spans.old.items }
     ensures kinds { OnOk result (All (HasKind kinds.new.items) spans.new.items) }
@@ -104,81 +150,6 @@ fn add_span<A: Allocator>(
     let kind = find_kind(kinds, stage.in_first_round())?;
     spans.push(PhaseSpan { stage, kind, count })?;
     Ok(())
-}
-
-/// Notes of each state from this one on whether something is owed, as long as the stage is the same. Gives the state
-/// after these, if there is one.
-fn note_stage<A: Allocator>(
-    nodes: RingSize,
-    first: NodeState,
-    events: &mut Events<'_>,
-    owes: &mut Vec<bool, A>,
-) -> Result<Option<NodeState>, OutOfMemory>
-    ensures marks { IfOk result (λ next. AreNoted nodes (stage first) (Some first) events.old owes.old.items
-        next events.new owes.new.items) }
-    ensures shorter { IfOk result (λ next. IfSome next (λ _. length events.new < length events.old)) }
-{
-    let stage = Stage::of(&first);
-    let mut state = first;
-    loop {
-        let Some(event) = note_handled(nodes, &state, events, owes)? else {
-            return Ok(None);
-        };
-        if state.advance(nodes, &event).is_err() {
-            return Ok(None);
-        }
-        if Stage::of(&state) != stage {
-            return Ok(Some(state));
-        }
-    }
-}
-
-/// Notes the state, and those after it while the node handles messages and stays as it is, as nearly all do. Gives the
-/// event after the last of these states, if there is one, at which the node is as it was.
-fn note_handled<A: Allocator>(
-    nodes: RingSize,
-    state: &NodeState,
-    events: &mut Events<'_>,
-    owes: &mut Vec<bool, A>,
-) -> Result<Option<Event>, OutOfMemory>
-    ensures marks { IfOk result (λ next. AreNoted nodes (stage state.now) (Some state.now) events.old owes.old.items
-        (next_state nodes state.now next) events.new owes.new.items) }
-    ensures shorter { IfOk result (λ next. IfSome next (λ _. length events.new < length events.old)) }
-{
-    if state.owed.is_some() {
-        owes.push(true)?;
-        return Ok(events.next());
-    }
-    loop {
-        owes.push(false)?;
-        let Some(event) = events.next() else {
-            return Ok(None);
-        };
-        let Event::Got(Load::Msg(message)) = event else {
-            return Ok(Some(event));
-        };
-        match state.phase.handling(nodes, &message) {
-            Some(Handling::Purges) => {}
-            Some(Handling::Passes) => {
-                owes.push(true)?;
-                let passed = Msg {
-                    hop: message.hop + 1,
-                    ..message
-                };
-                let mut owing = NodeState {
-                    owed: Some(Load::Msg(passed)),
-                    ..*state
-                };
-                let Some(next) = events.next() else {
-                    return Ok(None);
-                };
-                if owing.advance(nodes, &next).is_err() {
-                    return Ok(None);
-                }
-            }
-            None => return Ok(Some(event)),
-        }
-    }
 }
 
 /// Where the kinds have this one. Where they lack it, it is put after them.
@@ -207,17 +178,20 @@ fn answers<A: Allocator>(clause: &Clause<A>, stage: Stage) -> (bool, bool)
         dirty: false,
     };
     let Stage { term, phase } = stage;
-    let free = NodeState {
+    let free = clause.holds(&NodeState {
         phase,
         owed: None,
         term,
-    };
-    let owing = NodeState {
+    });
+    if !clause.names_debt() {
+        return (free, free);
+    }
+    let owing = clause.holds(&NodeState {
         phase,
         owed: Some(Load::Msg(message)),
         term,
-    };
-    (clause.holds(&free), clause.holds(&owing))
+    });
+    (free, owing)
 }
 
 /// What the clause answers of each kind, where it tells no more stages apart than these; else nothing.
@@ -254,33 +228,4 @@ fn span_answers<A: Allocator>(
         Some(both) => *both,
         None => answers(clause, span.stage),
     }
-}
-
-/// Adds the positions of the states of a span that pass; the first of them stands at `position`.
-fn pick<A: Allocator>(
-    found: &mut Vec<u32, A>,
-    position: usize,
-    owes: &[bool],
-    free: bool,
-    owing: bool,
-) -> Result<(), OutOfMemory>
-    requires { position + length owes.now ≤ MAX_RECORDS + 1 }
-    ensures { OnOk result (found.new.items ≡ found.old.items ++ picked free owing position owes.now) }
-{
-    if !free && !owing {
-        return Ok(());
-    }
-    for k in 0..owes.len() {
-        if passes(owes[k], free, owing) {
-            found.push((position + k) as u32)?;
-        }
-    }
-    Ok(())
-}
-
-/// Whether a state of a span passes, by whether something is owed.
-fn passes(owes: bool, free: bool, owing: bool) -> bool
-    ensures { result ≡ cond owes owing free }
-{
-    if owes { owing } else { free }
 }

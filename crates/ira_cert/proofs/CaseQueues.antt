@@ -1,11 +1,12 @@
 -- The candidates of a case, found place by place.
-use Rattle.std.proofs.Common.{◌≡◌, ◌≢◌, ℕ, zero, suc, ◌<◌, ◌⊎◌, inl, inr, List, [], ◌∷◌, ◌++◌, Option, Some, None}
+use Rattle.std.proofs.Common.{◌≡◌, ◌≢◌, ℕ, zero, suc, ◌<◌, inl, inr, List, [], ◌∷◌, ◌++◌, Option, Some, None}
 use Rattle.std.proofs.Common.{MatchOption, Contains, Result, Ok, Err, IfOk, length, slice_get, refl, sym, ◌∙◌, ap}
 use Rattle.std.proofs.Common.{subst, arith}
 use Rattle.std.specs.Option.{option_map}
 use Rattle.std.proofs.lemmas.List.Elements.{All-contains}
 use Rattle.std.proofs.lemmas.Option.{same_Some, slice_get-get_or, slice_get_cases}
 use Rattle.ira_event.specs.Log.{Log}
+use Rattle.ira_order.proofs.Pushed.{pushed_cases}
 use Rattle.ira_pred.specs.Case.{Conjunct}
 use Rattle.ira_pred.specs.Formula.{Formula}
 use Rattle.ira_cert.specs.Conjuncts.{IsAsked, CandidatesOf, HasPlacesOf}
@@ -45,13 +46,6 @@ conjunct_there [] n p place = cc
 conjunct_there (c ∷ case) zero p place = (c, refl, same_Some c.place p place)
 conjunct_there (c ∷ case) (suc n) p place = conjunct_there case n p place
 
-last_of : {X : Type 0} → (xs : List X) (x y : X) (i : ℕ) → slice_get (xs ++ x ∷ []) i ≡ Some y
-    → (slice_get xs i ≡ Some y) ⊎ ((i ≡ length xs) × (x ≡ y))
-last_of [] x y zero at = inr (refl, same_Some x y at)
-last_of [] x y (suc i) at = cc
-last_of (z ∷ xs) x y zero at = inl at
-last_of (z ∷ xs) x y (suc i) at = elim (last_of xs x y i at) [ inl h ↦ inl h | inr h ↦ inr (ap suc h.0, h.1) ]
-
 -- this holds of what was found at each place
 abbrev pub AllFound : {T : Type 0} → (ℕ → Option T → Type 0) → List (Option T) → Type 0
 AllFound Q all = (i : ℕ) (found : Option _) → slice_get all i ≡ Some found → Q i found
@@ -59,7 +53,7 @@ AllFound Q all = (i : ℕ) (found : Option _) → slice_get all i ≡ Some found
 -- one place more
 pub found_more : {T : Type 0} → (Q : ℕ → Option T → Type 0) (all : List (Option T)) (place : ℕ) (found : Option T)
     → place ≡ length all → AllFound Q all → Q place found → AllFound Q (all ++ found ∷ [])
-found_more Q all place found e h here i next at = elim (last_of all found next i at) [
+found_more Q all place found e h here i next at = elim (pushed_cases all found next i at) [
   | inl old ↦ h i next old
   | inr new ↦ subst (λ o. Q i o) new.1 (subst (λ (j : ℕ). Q j found) (e ∙ sym new.0) here)
 ]

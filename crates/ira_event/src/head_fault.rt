@@ -2,11 +2,11 @@ ghost use Rattle.std.specs.Prelude.{◌≡◌, ◌≤◌, length};
 ghost use Rattle.ira_event.specs.HeadFault.{head_fault_words};
 
 use crate::fault_words::FaultWords;
-use thiserror::Error;
+use std::error::Error;
+use std::fmt::{self, Display, Formatter, Write};
 
 /// Why logs aren't the logs of one ring, each at its place. Numbers count the logs from 0.
-#[derive(Clone, Copy, Debug, PartialEq, Eq, Error)]
-#[error("{}", self.words())]
+#[derive(Clone, Copy, Debug, PartialEq, Eq)]
 pub enum HeadFault {
     /// There is no log, or not as many as log 0 names nodes.
     Number,
@@ -32,3 +32,11 @@ impl HeadFault {
         }
     }
 }
+
+impl Display for HeadFault {
+    fn fmt<W: Write>(&self, f: &mut Formatter<W>) -> fmt::Result {
+        self.words().fmt(f)
+    }
+}
+
+impl Error for HeadFault {}

@@ -3,11 +3,11 @@ ghost use Rattle.ira_event.specs.LogFault.{log_fault_words};
 
 use crate::fault_words::FaultWords;
 use crate::out_of_memory::OutOfMemory;
-use thiserror::Error;
+use std::error::Error;
+use std::fmt::{self, Display, Formatter, Write};
 
 /// What is wrong with a text that should be a log's. Lines count from 1 in the whole text.
-#[derive(Clone, Copy, Debug, PartialEq, Eq, Error)]
-#[error("{}", self.words())]
+#[derive(Clone, Copy, Debug, PartialEq, Eq)]
 pub enum LogFault {
     /// The text has more than `MAX_TEXT` bytes.
     TooLong,
@@ -49,6 +49,14 @@ impl LogFault {
         }
     }
 }
+
+impl Display for LogFault {
+    fn fmt<W: Write>(&self, f: &mut Formatter<W>) -> fmt::Result {
+        self.words().fmt(f)
+    }
+}
+
+impl Error for LogFault {}
 
 impl From<OutOfMemory> for LogFault {
     ghost use Rattle.std.specs.Prelude.{◌≡◌};

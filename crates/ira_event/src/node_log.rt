@@ -18,10 +18,7 @@ use std::marker::Model;
 /// and its events in their order, at most `MAX_RECORDS` of them.
 #[derive(Drop)]
 pub struct NodeLog<A: Allocator> {
-    version: u8,
-    nodes: RingSize,
-    place: u8,
-    initiator: bool,
+    head: LogHead,
     events: StoredEvents<A>,
 }
 
@@ -31,19 +28,19 @@ impl<A: Allocator> Model for NodeLog<A> {
     ghost Value = { Log };
 
     ghost view = { λ a. record {
-      version = a.version;
-      nodes = a.nodes;
-      place = a.place;
-      initiator = a.initiator;
+      version = a.head.version;
+      nodes = a.head.nodes;
+      place = a.head.place;
+      initiator = a.head.initiator;
       events = a.events;
     } };
 
     ghost invariant = { λ a. IsLog
         (record {
-          version = a.version;
-          nodes = a.nodes;
-          place = a.place;
-          initiator = a.initiator;
+          version = a.head.version;
+          nodes = a.head.nodes;
+          place = a.head.place;
+          initiator = a.head.initiator;
           events = a.events;
         }) };
 }
@@ -102,13 +99,7 @@ impl<A: Allocator> NodeLog<A> {
         {
             return None;
         }
-        Some(NodeLog {
-            version,
-            nodes,
-            place,
-            initiator,
-            events: StoredEvents::plain(events),
-        })
+        Some(NodeLog::of_parts(version, nodes, place, initiator, events))
     }
 
     /// The log of these parts, which are known to be in range.
@@ -137,10 +128,12 @@ impl<A: Allocator> NodeLog<A> {
             } }
     {
         NodeLog {
-            version,
-            nodes,
-            place,
-            initiator,
+            head: LogHead {
+                version,
+                nodes,
+                place,
+                initiator,
+            },
             events: StoredEvents::plain(events),
         }
     }
@@ -165,10 +158,7 @@ impl<A: Allocator> NodeLog<A> {
             } }
     {
         NodeLog {
-            version: head.version,
-            nodes: head.nodes,
-            place: head.place,
-            initiator: head.initiator,
+            head,
             events: StoredEvents::packed(events.into_list()),
         }
     }
@@ -177,12 +167,7 @@ impl<A: Allocator> NodeLog<A> {
     pub fn head(&self) -> LogHead
         ensures { result ≡ head_of self.now }
     {
-        LogHead {
-            version: self.version,
-            nodes: self.nodes,
-            place: self.place,
-            initiator: self.initiator,
-        }
+        self.head
     }
 
     /// The version of the log, 1 or 2.
@@ -190,13 +175,13 @@ impl<A: Allocator> NodeLog<A> {
         ensures value { result ≡ self.now.version }
         ensures valid { IsLog self.now }
     {
-        self.version
+        self.head.version
     }
 
     pub fn nodes(&self) -> RingSize
         ensures { result ≡ self.now.nodes }
     {
-        self.nodes
+        self.head.nodes
     }
 
     /// The node's place on the ring, from 0.
@@ -204,13 +189,13 @@ impl<A: Allocator> NodeLog<A> {
         ensures value { result ≡ self.now.place }
         ensures valid { IsLog self.now }
     {
-        self.place
+        self.head.place
     }
 
     pub fn initiator(&self) -> bool
         ensures { result ≡ self.now.initiator }
     {
-        self.initiator
+        self.head.initiator
     }
 
     /// How many events there are.
@@ -222,6 +207,7 @@ impl<A: Allocator> NodeLog<A> {
     }
 
     /// Event number `k`, counted from 1.
+    #[inline(always)]
     pub fn event(&self, k: u32) -> Event
         requires { (1 ≤ k) × (k ≤ length self.now.events) }
         ensures { slice_get self.now.events (k - 1) ≡ Some result }

@@ -58,6 +58,7 @@ impl<A: Allocator> StoredEvents<A> {
     }
 
     /// Event number `k`, counted from 1.
+    #[inline(always)]
     pub(crate) fn event(&self, k: u32) -> Event
         requires { (1 ≤ k) × (k ≤ length self.now) }
         ensures { slice_get self.now (k - 1) ≡ Some result }

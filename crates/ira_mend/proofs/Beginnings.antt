@@ -1,26 +1,16 @@
 -- A beginning of a log, an event longer or shorter.
-use Rattle.std.proofs.Common.{◌≡◌, ℕ, ◌+◌, ◌-◌, ◌<◌, ◌≤◌, inl, inr, List, [], ◌∷◌, length, refl, sym, ◌∙◌, ap, subst}
-use Rattle.std.proofs.Common.{arith, drop, take, Option, Some}
-use Rattle.std.specs.List.{filter_map, cons_option}
+use Rattle.std.proofs.Common.{◌≡◌, ℕ, ◌+◌, ◌-◌, ◌<◌, ◌≤◌, inl, inr, List, ◌∷◌, length, refl, sym, ◌∙◌, ap, subst}
+use Rattle.std.proofs.Common.{arith, drop, take, Some}
 use Rattle.std.specs.Prelude.{slice_get}
 use Rattle.std.proofs.lemmas.Bool.{cases_eq}
-use Rattle.std.proofs.lemmas.Option.{get_or_from_slice_get, slice_get_within}
+use Rattle.std.proofs.lemmas.Option.{slice_get_within}
 use Rattle.ira_event.specs.declared.event.Event.{Event}
-use Rattle.ira_event.specs.declared.event.Event.TheVariants.{Draw}
-use Rattle.ira_event.specs.declared.load.Load.{Load}
 use Rattle.ira_order.specs.Matching.{got, sent, receipt, sending}
 use Rattle.ira_order.specs.Tally.{sent_by, got_by}
-use Rattle.ira_order.proofs.OrderPrefixes.{rank_le, rank_more}
+use Rattle.ira_order.proofs.OrderPrefixes.{counted_more, rank_le}
 use Rattle.ira_order.proofs.Receipts.{next_ahead}
 use Rattle.ira_mend.specs.Longest.{IsBeginning, IsLongestWith}
 use Rattle.ira_mend.specs.declared.beginning.Beginning.{Beginning}
-
-rank_next : (h : Event → Option Load) (es : List Event) (n : ℕ) (e : Event) → slice_get es n ≡ Some e
-    → length (filter_map h (take (n + 1) es)) ≡ length (filter_map h (take n es)) + length (cons_option (h e) [])
-rank_next h es n e is =
-    rank_more h es n (Draw 0) (slice_get_within es n e is)
-    ∙ ap (λ (x : Event). length (filter_map h (take n es)) + length (cons_option (h x) []))
-    (get_or_from_slice_get es n e (Draw 0) is)
 
 -- the events from the first on, one by one: so many were counted, and these are left
 pub record Counting (es : List Event) (n r s : ℕ) (rest : List Event) : Type 0 where
@@ -38,8 +28,8 @@ counting_more es n r s r' s' e rest rest' c next re se =
     let ahead = next_ahead es n e rest' (sym next ∙ c.left) in
     record {
       within = omega (arith, slice_get_within es n e ahead.0);
-      receipts = re ∙ ap (λ x. x + got_by e) c.receipts ∙ sym (rank_next receipt es n e ahead.0);
-      sendings = se ∙ ap (λ x. x + sent_by e) c.sendings ∙ sym (rank_next sending es n e ahead.0);
+      receipts = re ∙ ap (λ x. x + got_by e) c.receipts ∙ sym (counted_more receipt es n e ahead.0);
+      sendings = se ∙ ap (λ x. x + sent_by e) c.sendings ∙ sym (counted_more sending es n e ahead.0);
       left = ahead.1;
     }
 
@@ -56,10 +46,10 @@ one_less es b b' e is some at ev re se =
     let back : (b.events - 1) + 1 ≡ b.events = omega arith in
     let gots : length (got (take b.events es)) ≡ length (got (take (b.events - 1) es)) + got_by e =
     subst (λ n. length (got (take n es)) ≡ length (got (take (b.events - 1) es)) + got_by e) back
-    (rank_next receipt es (b.events - 1) e at) in
+    (counted_more receipt es (b.events - 1) e at) in
     let sents : length (sent (take b.events es)) ≡ length (sent (take (b.events - 1) es)) + sent_by e =
     subst (λ n. length (sent (take n es)) ≡ length (sent (take (b.events - 1) es)) + sent_by e) back
-    (rank_next sending es (b.events - 1) e at) in
+    (counted_more sending es (b.events - 1) e at) in
     record {
       within = omega (arith, is.within);
       receipts = rw ev (omega (arith, is.receipts, gots, re));
@@ -73,10 +63,10 @@ holds_last es b e is some at =
     let back : (b.events - 1) + 1 ≡ b.events = omega arith in
     let gots : length (got (take b.events es)) ≡ length (got (take (b.events - 1) es)) + got_by e =
     subst (λ n. length (got (take n es)) ≡ length (got (take (b.events - 1) es)) + got_by e) back
-    (rank_next receipt es (b.events - 1) e at) in
+    (counted_more receipt es (b.events - 1) e at) in
     let sents : length (sent (take b.events es)) ≡ length (sent (take (b.events - 1) es)) + sent_by e =
     subst (λ n. length (sent (take n es)) ≡ length (sent (take (b.events - 1) es)) + sent_by e) back
-    (rank_next sending es (b.events - 1) e at) in
+    (counted_more sending es (b.events - 1) e at) in
     (omega (arith, is.receipts, gots), omega (arith, is.sendings, sents))
 
 -- where there are receipts there are events

@@ -1,14 +1,11 @@
 -- Upgraded logs have the events of the old ones.
-use Rattle.std.proofs.Common.{◌≡◌, ℕ, zero, suc, List, [], ◌∷◌, length, refl, ap}
+use Rattle.std.proofs.Common.{◌≡◌, ℕ, zero, suc, List, [], ◌∷◌, refl}
 use Rattle.std.specs.Prelude.{map}
 use Rattle.ira_event.specs.Log.{Log}
 use Rattle.ira_event.specs.Upgrade.{upgraded}
+use Rattle.ira_event.proofs.Upgrades.{upgraded_count}
 use Rattle.ira_order.specs.Ring.{log_of}
 use Rattle.ira_order.proofs.SameEvents.{HaveSameEvents}
-
-upgraded_count : (logs : List Log) → length (map upgraded logs) ≡ length logs
-upgraded_count [] = refl
-upgraded_count (log ∷ logs) = ap (λ n. suc n) (upgraded_count logs)
 
 upgraded_events : (logs : List Log) (i : ℕ) → log_of (map upgraded logs) i ≡ log_of logs i
 upgraded_events [] i = refl

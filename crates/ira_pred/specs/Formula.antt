@@ -44,3 +44,11 @@ names_round_or_term (both a b) = names_round_or_term a || names_round_or_term b
 names_round_or_term (either a b) = names_round_or_term a || names_round_or_term b
 names_round_or_term (negated a) = names_round_or_term a
 names_round_or_term _ = false
+
+-- whether the formula asks if something is owed
+abbrev pub names_debt : Formula → Bool
+names_debt owes = true
+names_debt (both a b) = names_debt a || names_debt b
+names_debt (either a b) = names_debt a || names_debt b
+names_debt (negated a) = names_debt a
+names_debt _ = false

@@ -3,11 +3,11 @@ ghost use Rattle.ira_pred.specs.AskFault.{ask_fault_words};
 
 use ira_event::FaultWords;
 use std::alloc::{AllocError, AllocFailed};
-use thiserror::Error;
+use std::error::Error;
+use std::fmt::{self, Display, Formatter, Write};
 
 /// What is wrong with a text that should be a question's. Lines count from 1 in the whole text.
-#[derive(Clone, Copy, Debug, PartialEq, Eq, Error)]
-#[error("{}", self.words())]
+#[derive(Clone, Copy, Debug, PartialEq, Eq)]
 pub enum AskFault {
     /// The text has more than `MAX_TEXT` bytes.
     TooLong,
@@ -51,6 +51,14 @@ impl AskFault {
         }
     }
 }
+
+impl Display for AskFault {
+    fn fmt<W: Write>(&self, f: &mut Formatter<W>) -> fmt::Result {
+        self.words().fmt(f)
+    }
+}
+
+impl Error for AskFault {}
 
 impl<T: Drop> From<AllocFailed<T>> for AskFault {
     ghost use Rattle.std.specs.Prelude.{◌≡◌};

@@ -1,7 +1,7 @@
 ghost use Rattle.std.specs.Prelude.{◌≡◌, ◌↔◌, IsTrue};
 ghost use Rattle.ira_pred.specs.Clause.{formula, Holds};
 ghost use Rattle.ira_pred.specs.ClauseAnswer.{compare_test, compare_some_test, round_of, id_of, holds_test};
-ghost use Rattle.ira_pred.specs.Formula.{names_round_or_term};
+ghost use Rattle.ira_pred.specs.Formula.{names_debt, names_round_or_term};
 
 use crate::rel::Rel;
 use ira_node::{NodeState, Phase};
@@ -150,6 +150,18 @@ impl<A: Allocator> Clause<A> {
                 a.names_round_or_term() || b.names_round_or_term()
             }
             Clause::Negated(a) => a.names_round_or_term(),
+        }
+    }
+
+    /// Whether it asks if something is owed. Any other clause tells no two states of one phase and term apart.
+    pub fn names_debt(&self) -> bool
+        ensures { result ≡ names_debt (formula self.now) }
+    {
+        match self {
+            Clause::Owes => true,
+            Clause::Both(a, b) | Clause::Either(a, b) => a.names_debt() || b.names_debt(),
+            Clause::Negated(a) => a.names_debt(),
+            _ => false,
         }
     }
 }

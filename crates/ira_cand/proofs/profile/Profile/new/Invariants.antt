@@ -1,11 +1,13 @@
-use Rattle.std.proofs.Common.{All, Some, length}
-use Rattle.ira_cand.specs.Profile.{HasKind}
-use Rattle.ira_cand.proofs.Profiles.{ProfiledTo}
+use Rattle.std.proofs.Common.{◌++◌, All, length, replicate}
+use Rattle.ira_node.specs.NodeState.{first_state}
+use Rattle.ira_cand.specs.Profile.{HasKind, WalkedTo, stage, stages_in}
 use Rattle.ira_cand.proofs.profile.Profile.new.Given as goal
 
-abbrev pub invariant-loop-owes : goal.invariant-loop-owes
-invariant-loop-owes g l =
-    ProfiledTo l.log l.spans.items l.owes.items (Some l.state) l.events × All (HasKind l.kinds.items) l.spans.items
+abbrev pub invariant-loop-event : goal.invariant-loop-event
+invariant-loop-event g l =
+    WalkedTo l.log.nodes (first_state l.log.initiator) l.log.events
+    (stages_in l.spans.items ++ replicate l.count (stage l.state)) l.state l.events
+    × All (HasKind l.kinds.items) l.spans.items
 
-abbrev pub decreases-loop-owes : goal.decreases-loop-owes
-decreases-loop-owes g l = length l.events
+abbrev pub decreases-loop-event : goal.decreases-loop-event
+decreases-loop-event g l = length l.events
