@@ -1,8 +1,11 @@
 ghost use Rattle.std.specs.Prelude.{◌≡◌};
 ghost use Rattle.ira_event.specs.Records.{RecordsLeft, ReadsRecord};
 
-use ira_event::{Event, Load, OutOfMemory, Records, SentLine};
+use ira_event::{Event, Load, OutOfMemory, Records, RingSize, SentLine};
 use std::alloc::Allocator;
+
+/// In a ring of so few nodes nearly each message is a draw's own, so lines aren't worth noting.
+const FEW_NODES: u8 = 4;
 
 /// The messages that a node sent, in their order, with their lines, while the log of the next node is read; what that one
 /// sends is written over those that it has received. No contract says which they are: one that is wrong or missing costs
@@ -39,6 +42,7 @@ impl<A: Allocator> LinkLines<A> {
     #[inline(always)]
     pub(crate) fn note(
         &mut self,
+        nodes: RingSize,
         before: &[u8],
         records: &Records<'_>,
         event: &Event,
@@ -55,6 +59,7 @@ impl<A: Allocator> LinkLines<A> {
                 }
                 Ok(())
             }
+            Event::Sent(Load::Msg(_)) if nodes.get() <= FEW_NODES => Ok(()),
             Event::Sent(Load::Msg(message)) => match records.last_sent(before, *message) {
                 Some(line) => self.send(line),
                 None => Ok(()),

@@ -121,7 +121,7 @@ fn read_and_replay<A: Allocator>(
             }
         }
         events.push(event)?;
-        link.note(before, &records, &event)?;
+        link.note(nodes, before, &records, &event)?;
     }
 }
 

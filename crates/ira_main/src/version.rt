@@ -8,7 +8,7 @@ use ira_event::Sink;
 use ira_view::Status;
 
 /// The program's version, and the logic that it was proved in, as `rt version` names that.
-const VERSION: &[u8] = b"ira 0.3.0 (proved by rattle, logic dac8208d650f15bf)\n";
+const VERSION: &[u8] = b"ira 0.4.0-dev (proved by rattle, logic dac8208d650f15bf)\n";
 
 /// Prints which version this is.
 pub(crate) fn print_version<'a, W: Sink>(out: &mut W) -> Result<Status, ProgramFault<'a>>
