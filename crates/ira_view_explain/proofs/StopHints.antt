@@ -1,5 +1,6 @@
 -- Which events after another send a load.
-use Rattle.std.proofs.Common.{◌≡◌, ℕ, zero, suc, ◌+◌, ◌<◌, ◌≤◌, inl, inr, List, [], Option, None, Some, arith, drop, length, subst}
+use Rattle.std.proofs.Common.{◌≡◌, ◌≢◌, ℕ, zero, suc, ◌+◌, ◌<◌, ◌≤◌, inl, inr, List, [], ◌∷◌, Option, None, Some, arith, drop, length}
+use Rattle.std.proofs.Common.{refl, subst, sym}
 use Rattle.std.proofs.lemmas.Bool.{cases_lt}
 use Rattle.std.proofs.lemmas.Option.{slice_get_within}
 use Rattle.std.specs.Prelude.{IfSome, slice_get}
@@ -12,6 +13,8 @@ use Rattle.ira_node.specs.declared.node_state.NodeState.{NodeState}
 use Rattle.ira_order.specs.Ring.{numbered}
 use Rattle.ira_order.proofs.Receipts.{none_ahead}
 use Rattle.ira_view_evidence.proofs.Counted.{at_number}
+use Rattle.ira_view_evidence.specs.LoadDifference.{DifferAlike, DiffersBy}
+use Rattle.ira_view_evidence.specs.declared.load_difference.LoadDifference.{LoadDifference}
 use Rattle.ira_view_explain.specs.StopHint.{CallsFor, IsCalledNext, IsSentAfter}
 use Rattle.ira_view_explain.specs.declared.stopped.Stopped.{Stopped}
 
@@ -52,3 +55,11 @@ pub called : (log : Log) (stopped : Stopped) (call load : Load) (o : Option Load
     → IfSome o (CallsFor log.nodes stopped.state (Got call)) → o ≡ Some load → IsCalledNext log stopped load
 called log stopped call load o at calls debt =
     (call, at, subst (λ (x : Option Load). IfSome x (CallsFor log.nodes stopped.state (Got call))) debt calls)
+
+-- one receipt that isn't its sending differs as all do
+pub other_differs : (how : LoadDifference) (first load : Load) → first ≢ load
+    → DifferAlike how (first ∷ []) (load ∷ []) → DiffersBy how first load
+other_differs how first load not alike = elim (alike.alike 0 first load refl refl) [
+  | inl same ↦ absurd (not (sym same))
+  | inr differ ↦ differ
+]

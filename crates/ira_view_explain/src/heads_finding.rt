@@ -1,5 +1,5 @@
-ghost use Rattle.std.specs.Prelude.{◌≤◌, ◌<◌, ℕ, All, IfOk, IfSome, MatchOption};
-ghost use Rattle.ira_view_explain.specs.HeadsHint.{HasNoPlace, IsOfPlace, IsSo};
+ghost use Rattle.std.specs.Prelude.{◌≤◌, ◌<◌, ℕ, IfOk, IfSome, MatchOption};
+ghost use Rattle.ira_view_explain.specs.HeadsHint.{AreMissing, IsOfPlace, IsSo};
 ghost use Rattle.ira_view_explain.specs.HeadsTold.{AreHeads, AreHeadsTold, AreLogFiles};
 ghost use Rattle.ira_view_page.specs.Printable.{IsPrintable};
 
@@ -117,7 +117,7 @@ fn missing_places<A: Allocator>(
     heads: &[LogHead],
     nodes: u8,
 ) -> Result<Vec<u8, A>, OutOfMemory>
-    ensures { IfOk result (λ places. All (HasNoPlace heads.now) places.items) }
+    ensures { IfOk result (λ places. AreMissing heads.now nodes places.items) }
 {
     let mut places = Vec::new(alloc);
     for place in 0..nodes {

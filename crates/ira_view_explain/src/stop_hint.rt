@@ -6,8 +6,19 @@ use std::alloc::Allocator;
 /// A usual cause why an event has no step.
 #[derive(Clone, Copy)]
 pub(crate) enum StopHint {
-    /// One that names nothing of the log.
-    Words(&'static str),
+    BeginsByItself,
+    WokenByMessage,
+    /// A new term began, and its `yield` and resets are not recorded.
+    RoundAgain,
+    DrawsAfterReset,
+    YieldLeftOut,
+    HasYielded,
+    HopNotRaised,
+    HopRaisedTwice,
+    BitContrary,
+    BitKept,
+    OnlyBit,
+    ResetBack,
     /// A node that yielded draws before its reset is back, in a ring of so many nodes.
     ResetNotBack { nodes: u8 },
     /// An ID is none of a ring of so many nodes.
@@ -35,64 +46,77 @@ pub(crate) enum StopHint {
 impl StopHint {
     /// Adds its sentence.
     pub(crate) fn print<A: Allocator>(self, text: &mut Page<A>) {
-        match self {
-            StopHint::Words(words) => text.show(words.as_bytes()),
-            StopHint::ResetNotBack { nodes } => fill(
+        let words = match self {
+            StopHint::BeginsByItself =>
+                "a node that begins by itself has `start initiator` on line 4.",
+            StopHint::WokenByMessage => "a node that a message woke has `start passive` on line 4.",
+            StopHint::RoundAgain =>
+                "it chooses in round 1 again, and the log has no reset: perhaps a new term began, and its `yield` and \
+                 resets are not recorded.",
+            StopHint::DrawsAfterReset => "after a reset each node draws, initiator or not.",
+            StopHint::YieldLeftOut =>
+                "the `yield` is recorded too, in front of its `send reset 1`.",
+            StopHint::HasYielded => "it has yielded in this term already.",
+            StopHint::HopNotRaised => "the hop is not raised.",
+            StopHint::HopRaisedTwice => "the hop is raised twice.",
+            StopHint::BitContrary => "the bit means the contrary: `clean` is \"unique so far\".",
+            StopHint::BitKept =>
+                "the bit was kept from an earlier round: each own message starts clean.",
+            StopHint::OnlyBit => "only the bit differs.",
+            StopHint::ResetBack =>
+                "its own reset is back: the node that yielded takes it off the ring.",
+            StopHint::ResetNotBack { nodes } => return fill(
                 text,
                 "its reset is not back yet: the node draws after `recv reset {}`.",
                 [nodes],
             ),
-            StopHint::IdRange { nodes } => fill(
+            StopHint::IdRange { nodes } => return fill(
                 text,
                 "IDs are 1 to N, and N is {} (line 2).",
                 [nodes],
             ),
-            StopHint::SentLater { line } => fill(
+            StopHint::SentLater { line } => return fill(
                 text,
                 "that sending stands on line {}: a message is passed on before the next one is taken.",
                 [line as u64],
             ),
-            StopHint::NeverSends => text.words(
+            StopHint::NeverSends =>
                 "that sending stands nowhere below: by its log the node never made it.",
-            ),
             StopHint::ResetFirst { is_passed } => {
                 text.words("a reset is passed on before the node draws in the new term");
-                text.words(if is_passed {
+                if is_passed {
                     "."
                 } else {
                     "; by its log the node never passed it on."
-                });
+                }
             }
-            StopHint::LeadsLater { line } => fill(
+            StopHint::LeadsLater { line } => return fill(
                 text,
                 "the receipt by which it leads stands after the yield, on line {}: record it as soon as the message \
                  is taken.",
                 [line as u64],
             ),
-            StopHint::CalledLater { line } => fill(
+            StopHint::CalledLater { line } => return fill(
                 text,
                 "the receipt on line {} calls for this sending, and is recorded after it: record a message as soon as \
                  it is taken.",
                 [line as u64],
             ),
-            StopHint::NotDrawn { id } => fill(
+            StopHint::NotDrawn { id } => return fill(
                 text,
                 "a draw of {} may not be recorded, or stands after its sending.",
                 [id],
             ),
-            StopHint::SentTwice => text.words(
+            StopHint::SentTwice =>
                 "it is the sending before it once more: it was recorded twice, or sent twice.",
-            ),
             StopHint::NeverReceived { call } => {
                 text.words("by its log the node never received ");
                 text.load(call);
-                text.words(
-                    ", which the node before it sent next and which calls for this: perhaps that receipt is missing.",
-                );
+                ", which the node before it sent next and which calls for this: perhaps that receipt is missing."
             }
-            StopHint::NoReceipts => text.words(
+            StopHint::NoReceipts =>
                 "the log has no receipt at all: perhaps none is recorded. Record each message as it is taken.",
-            ),
-        }
+        };
+        text.show(words.as_bytes());
     }
 }

@@ -1,20 +1,25 @@
-ghost use Rattle.std.specs.Prelude.{◌≡◌, ◌↔◌, ◌+◌, ℕ, IfSome, IsTrue, List, MatchOption, ◌∷◌, [], ◌++◌, Some};
+ghost use Rattle.std.specs.Prelude.{◌≡◌, ◌↔◌, ◌+◌, ℕ, IfSome, IsTrue, List, MatchOption, ◌∷◌, [], ◌++◌, Some, length};
+ghost use Rattle.std.specs.Prelude.{slice_get};
+ghost use Rattle.std.specs.List.{list_any, position};
 ghost use Rattle.ira_event.specs.Log.{Log};
 ghost use Rattle.ira_event.specs.declared.event.Event.TheVariants as Event;
 ghost use Rattle.ira_node.specs.declared.phase.Phase.TheVariants as Phase;
 ghost use Rattle.ira_node.specs.NodeStep.{NodeStep};
 ghost use Rattle.ira_node.specs.declared.node_state.NodeState.{NodeState};
+ghost use Rattle.ira_order.specs.Matching.{got, sent};
 ghost use Rattle.ira_order.specs.Ring.{numbered};
+ghost use Rattle.ira_view_evidence.specs.LoadDifference.{DiffersBy};
 ghost use Rattle.ira_view_evidence.specs.NodeEvidence.{IsNodeEvidence};
 ghost use Rattle.ira_view_explain.specs.LinkHint.{IsBegun};
-ghost use Rattle.ira_view_explain.specs.StopHint.{CallsFor, IsCalledNext, IsSentAfter, IsSo, line_number};
+ghost use Rattle.ira_view_explain.specs.StopHint.{BeginsAgain, CallsFor, IsCalledNext, IsSentAfter, IsSo, IsSoOfBoth};
+ghost use Rattle.ira_view_explain.specs.StopHint.{is_of_reset, line_number, starts_clean};
 ghost use Rattle.ira_view_explain.specs.declared.stopped.Stopped.{Stopped};
 
 use crate::numbered::fill;
 use crate::stop_hint::StopHint;
 use ira_event::{Event, Load, Msg, NodeLog, RingSize};
 use ira_node::{NodeState, Phase, StepFault};
-use ira_view_evidence::NodeEvidence;
+use ira_view_evidence::{LoadDifference, LoadField, NodeEvidence};
 use ira_view_page::{Page, event_of, line_of};
 use std::alloc::Allocator;
 
@@ -213,31 +218,16 @@ impl Stopped {
         match (self.fault, self.event, self.state.phase) {
             (StepFault::NotOwed, Event::Sent(sent), _) => self.sending_hint(log, sent),
             (StepFault::NotChoosing, _, Phase::Yielding) => Some(StopHint::ResetNotBack { nodes }),
-            (StepFault::NotChoosing, _, _) if self.position == 1 => Some(StopHint::Words(
-                "a node that begins by itself has `start initiator` on line 4.",
-            )),
+            (StepFault::NotChoosing, _, _) if self.position == 1 => Some(StopHint::BeginsByItself),
             (StepFault::NotChoosing | StepFault::Ended, Event::Draw(id), _)
-                if self.begins_again(log, id) => {
-                Some(StopHint::Words(
-                    "it chooses in round 1 again, and the log has no reset: perhaps a new term began, and its `yield` \
-                     and resets are not recorded.",
-                ))
-            }
-            (StepFault::MustDraw, _, _) if self.position == 1 => Some(StopHint::Words(
-                "a node that a message woke has `start passive` on line 4.",
-            )),
-            (StepFault::MustDraw, _, _) if self.state.term > 1 => Some(StopHint::Words(
-                "after a reset each node draws, initiator or not.",
-            )),
+                if self.begins_again(log, id) => { Some(StopHint::RoundAgain) }
+            (StepFault::MustDraw, _, _) if self.position == 1 => Some(StopHint::WokenByMessage),
+            (StepFault::MustDraw, _, _) if self.state.term > 1 => Some(StopHint::DrawsAfterReset),
             (StepFault::DrawRange, _, _) => Some(StopHint::IdRange { nodes }),
-            (StepFault::Ended, Event::Sent(Load::Reset(1)), _) => Some(StopHint::Words(
-                "the `yield` is recorded too, in front of its `send reset 1`.",
-            )),
+            (StepFault::Ended, Event::Sent(Load::Reset(1)), _) => Some(StopHint::YieldLeftOut),
             (StepFault::Owes, Event::Got(_), _) => self.unsent_hint(log),
             (StepFault::Owes, Event::Draw(_), _) => self.reset_hint(log),
-            (StepFault::NotLeader, _, Phase::Yielding) => Some(StopHint::Words(
-                "it has yielded in this term already.",
-            )),
+            (StepFault::NotLeader, _, Phase::Yielding) => Some(StopHint::HasYielded),
             (StepFault::NotLeader, _, Phase::Active { round, id }) => {
                 self.yield_hint(log, round, id)
             }
@@ -304,37 +294,40 @@ impl Stopped {
         }
     }
 
-    /// What a node may have done that sent a message and owed another.
-    fn message_hint<A: Allocator>(&self, log: &NodeLog<A>, sent: Msg, owed: Msg) -> Option<StopHint>
+    /// What a node may have done that sent one load and owed another.
+    fn other_hint<A: Allocator>(&self, log: &NodeLog<A>, sent: Load, owed: Load) -> Option<StopHint>
+        requires event { self.now.event ≡ Event.Sent sent }
+        requires owed { self.now.state.owed ≡ Some owed }
         ensures { IfSome result (IsSo log.now self.now) }
     {
-        if (sent.round, sent.id) != (owed.round, owed.id) {
+        if is_other(LoadDifference::RaisedHop, sent, owed) {
+            return Some(StopHint::HopNotRaised);
+        }
+        if is_other(LoadDifference::RaisedHop, owed, sent) {
+            return Some(StopHint::HopRaisedTwice);
+        }
+        if !is_other(LoadDifference::OneField(LoadField::Bit), owed, sent) {
             return None;
         }
-        if sent.dirty == owed.dirty {
-            return hop_hint(sent.hop, owed.hop);
-        }
-        match (sent.hop, owed.hop, log.events().position(is_clean_start)) {
-            (1, 1, None) => Some(StopHint::Words(
-                "the bit means the contrary: `clean` is \"unique so far\".",
-            )),
-            (1, 1, Some(first)) if first + 1 < self.position as usize => Some(StopHint::Words(
-                "the bit was kept from an earlier round: each own message starts clean.",
-            )),
-            (hop, due, _) if hop == due => Some(StopHint::Words("only the bit differs.")),
-            _ => None,
-        }
+        Some(match clean_start(log) {
+            None if is_begun(sent) => StopHint::BitContrary,
+            Some(first) if is_begun(sent) && first < self.position.saturating_sub(1) as usize =>
+                StopHint::BitKept,
+            _ => StopHint::OnlyBit,
+        })
     }
 
     /// Whether a draw of this ID begins round 1 again, and the log has no reset.
-    fn begins_again<A: Allocator>(&self, log: &NodeLog<A>, id: u32) -> bool {
+    fn begins_again<A: Allocator>(&self, log: &NodeLog<A>, id: u32) -> bool
+        ensures { IsTrue result → BeginsAgain log.now self.now id }
+    {
         let begun = Msg {
             round: 1,
             id,
             hop: 1,
             dirty: false,
         };
-        !log.events().any(is_of_reset) && self.next(log) == Some(Event::Sent(Load::Msg(begun)))
+        !has_reset(log) && self.next(log) == Some(Event::Sent(Load::Msg(begun)))
     }
 
     /// Whether the next event is a receipt that calls for this load, did it come in place of this one.
@@ -354,9 +347,10 @@ impl Stopped {
         &self,
         log: &NodeLog<A>,
         before: &NodeLog<A>,
-    ) -> Option<StopHint> {
-        let receipts = log.events().filter(is_receipt).count();
-        let call = before.events().filter_map(load_sent).nth(receipts)?;
+    ) -> Option<StopHint>
+        ensures { IfSome result (IsSoOfBoth before.now log.now self.now) }
+    {
+        let call = next_sent(before, log)?;
         match (self.fault, self.event, self.state.owed) {
             (StepFault::NotOwed, Event::Sent(sent), None)
                 if owed_after(log.nodes(), self.state, Event::Got(call)) == Some(sent) => {
@@ -377,9 +371,7 @@ impl Stopped {
             });
         }
         match (self.state.owed, self.state.phase, sent) {
-            (Some(Load::Msg(owed)), _, Load::Msg(sent)) => self.message_hint(log, sent, owed),
-            (Some(Load::Reset(owed)), _, Load::Reset(sent)) => hop_hint(sent, owed),
-            (Some(_), _, _) => None,
+            (Some(owed), _, _) => self.other_hint(log, sent, owed),
             _ if event_of(log, self.position.saturating_sub(1)) == Some(self.event) => {
                 Some(StopHint::SentTwice)
             }
@@ -391,9 +383,7 @@ impl Stopped {
                 Some(StopHint::NotDrawn { id: begun.id })
             }
             (None, Phase::Choosing { .. }, Load::Reset(_)) => match self.last {
-                Some((_, Event::Got(Load::Reset(_)))) => Some(StopHint::Words(
-                    "its own reset is back: the node that yielded takes it off the ring.",
-                )),
+                Some((_, Event::Got(Load::Reset(_)))) => Some(StopHint::ResetBack),
                 _ => None,
             },
             _ => None,
@@ -437,37 +427,60 @@ fn owed_after(nodes: RingSize, state: NodeState, event: Event) -> Option<Load>
     }
 }
 
-/// What an event sends.
-fn load_sent(event: Event) -> Option<Load> {
-    match event {
-        Event::Sent(load) => Some(load),
-        _ => None,
+/// What a node sent next after so many loads as the next one received.
+fn next_sent<A: Allocator>(writer: &NodeLog<A>, reader: &NodeLog<A>) -> Option<Load>
+    ensures { result ≡ slice_get (sent writer.now.events) (length (got reader.now.events)) }
+{
+    let mut receipts = reader.events();
+    for event in writer.events() {
+        if let Event::Sent(load) = event
+            && receipts.next_receipt().is_none()
+        {
+            return Some(load);
+        }
     }
-}
-
-/// Whether an event is a receipt.
-fn is_receipt(event: &Event) -> bool {
-    matches!(event, Event::Got(_))
+    None
 }
 
 /// Whether an event is of the end of a term.
-fn is_of_reset(event: Event) -> bool {
+fn is_of_reset(event: Event) -> bool
+    ensures { result ≡ is_of_reset event }
+{
     matches!(
         event,
         Event::Yield | Event::Sent(Load::Reset(_)) | Event::Got(Load::Reset(_))
     )
 }
 
+/// Whether a log has an event of the end of a term.
+fn has_reset<A: Allocator>(log: &NodeLog<A>) -> bool
+    ensures { result ≡ list_any is_of_reset log.now.events }
+{
+    log.events().any(is_of_reset)
+}
+
 /// Whether an event sends a message of the node's own that is clean.
-fn is_clean_start(event: Event) -> bool {
-    matches!(
-        event,
-        Event::Sent(Load::Msg(Msg {
-            hop: 1,
-            dirty: false,
-            ..
-        }))
-    )
+fn is_clean_start(event: Event) -> bool
+    ensures { result ≡ starts_clean event }
+{
+    match event {
+        Event::Sent(Load::Msg(message)) => message.hop == 1 && !message.dirty,
+        _ => false,
+    }
+}
+
+/// How many events of a log stand before the first such one.
+fn clean_start<A: Allocator>(log: &NodeLog<A>) -> Option<usize>
+    ensures { result ≡ position starts_clean log.now.events }
+{
+    log.events().position(is_clean_start)
+}
+
+/// Whether a load is another one than the first, and differs so from it.
+fn is_other(how: LoadDifference, first: Load, load: Load) -> bool
+    ensures { IsTrue result → DiffersBy how first load }
+{
+    first != load && how.is_between_all(&[first], &[load])
 }
 
 /// Whether the node that sends the load begins it.
@@ -492,17 +505,4 @@ fn sending_after<A: Allocator>(log: &NodeLog<A>, position: u32, load: Load) -> O
         }
     }
     None
-}
-
-/// What a node may have done that sent what it owed, with another hop.
-fn hop_hint(sent: u32, owed: u32) -> Option<StopHint>
-    ensures { (log : Log) (stopped : Stopped) → IfSome result (IsSo log stopped) }
-{
-    if sent.saturating_add(1) == owed {
-        Some(StopHint::Words("the hop is not raised."))
-    } else if owed.saturating_add(1) == sent {
-        Some(StopHint::Words("the hop is raised twice."))
-    } else {
-        None
-    }
 }
