@@ -1,10 +1,9 @@
 -- What a crash left of the files of a ring's logs.
 use Rattle.std.specs.Prelude.{◌≡◌, ◌<◌, ◌⊎◌, ⊤, ℕ, Contains, List, [], ◌∷◌, ◌++◌, None, Option, Some, Result, Ok, Err, map}
 use Rattle.std.specs.Borrow.{Bor}
-use Rattle.std.specs.List.{AllZip, enumerate_from, range_with_len}
+use Rattle.std.specs.List.{All, AllZip, enumerate_from, range_with_len}
 use Rattle.ira_event.specs.Limits.{MAX_NODES}
-use Rattle.ira_event.specs.Log.{Log}
-use Rattle.ira_mend.specs.RecordedLogs.{HasRecorded, RecordsLog}
+use Rattle.ira_mend.specs.RecordedLogs.{HasRecorded, IsShort}
 use Rattle.ira_mend.specs.declared.recorded_log.RecordedLog.{RecordedLog}
 use Rattle.ira_main_cli.specs.declared.log_source.LogSource.{LogSource}
 use Rattle.ira_main_cli.specs.declared.log_source.LogSource.TheVariants as source
@@ -101,15 +100,15 @@ pub record StopsLeft {S : Type 0} (reads : Reading S) (lost : Option (List ℕ))
   pub given : LeaveTexts reads lost shelf front texts
   pub why : IsFilesFault (left_by reads (MayBeLost lost at.0 at.1)) (file_name at.1 ∷ []) shelf f
 
--- what is left of the files of these names is no log, cut or not, and they aren't all there to be read
+-- what is left of the files of these names is short texts, and they aren't all there to be read
 pub record IsLost {S : Type 0} (reads : Reading S) (lost : Option (List ℕ)) (shelf : S) (names : List FileName)
     (f : ProgramFault) : Type 0 where
   pub texts : List (List ℕ)
   pub given : LeaveTexts reads lost shelf (enumerate_from 0 names) texts
-  pub none : (log : Log) → ¬ (RecordsLog texts log)
+  pub short : All IsShort texts
   pub why : IsFilesFault reads (names_of names) shelf f
 
--- why nothing is taken: a file wasn't read that had to be, no log is left, or memory ran out
+-- why nothing is taken: a file wasn't read that had to be, no more than short texts are left, or memory ran out
 abbrev pub IsLeftFault : {S : Type 0} → Reading S → Option (List ℕ) → S → List FileName → ProgramFault → Type 0
 IsLeftFault reads lost shelf names f =
     StopsLeft reads lost shelf (enumerate_from 0 names) f ⊎ IsLost reads lost shelf names f ⊎ (f ≡ OutOfMemory)

@@ -105,8 +105,8 @@ pub(crate) fn left_names<'a, A: Allocator + Clone, F: TextSource>(
     }
 }
 
-/// What is left of the logs in the files of these names, which are read in turn. Where no log is left they are read once
-/// more as those of logs are, so that a file that isn't there is named.
+/// What is left of the logs in the files of these names, which are read in turn. Where each text is short they are read
+/// once more as those of logs are, so that a file that isn't there is named.
 pub(crate) fn read_left<'a, A: Allocator + Clone, F: TextSource>(
     alloc: &A,
     lost: &Option<Vec<u64>>,
@@ -123,7 +123,7 @@ pub(crate) fn read_left<'a, A: Allocator + Clone, F: TextSource>(
         find_into(alloc, lost, place as u64, *name, &mut text, shelf)?;
         recorded.take(text.bytes())?;
     }
-    if !recorded.has_log() {
+    if recorded.are_short() {
         read_in_turn(alloc, names, shelf)?;
     }
     Ok(recorded)

@@ -1,9 +1,11 @@
 -- What is said of the texts that a crash left is one thing.
 use Rattle.std.proofs.Common.{◌≡◌, ◌<◌, ◌⊎◌, ◌+◌, ℕ, List, [], ◌∷◌, ◌++◌, zero, suc, Bool, true, false, Some, inl, inr}
-use Rattle.std.proofs.Common.{refl, sym, ap, subst, ◌∙◌, arith, take, append_assoc, length}
+use Rattle.std.proofs.Common.{refl, sym, ap, ap₂, subst, ◌∙◌, arith, take, append_assoc, length}
 use Rattle.std.specs.Prelude.{codes, slice_get}
 use Rattle.std.proofs.lemmas.Bool.{cases_lt}
-use Rattle.std.proofs.lemmas.Option.{same_Some}
+use Rattle.std.proofs.lemmas.Option.{same_Some, slice_get_within, unwrap_or-slice_get}
+use Rattle.std.specs.List.{All}
+use Rattle.std.specs.Option.{unwrap_or}
 use Rattle.ira_event.specs.Limits.{MAX_RECORDS}
 use Rattle.ira_event.specs.declared.event.Event.{Event}
 use Rattle.ira_event.specs.declared.log_fault.LogFault.{LogFault}
@@ -25,7 +27,7 @@ use Rattle.ira_audit.specs.declared.reason.Reason.TheVariants as reason
 use Rattle.ira_mend.specs.Laws.{LeftTextsAreOne, NoReasonAgainstARing, RecordedReasonsAreOne}
 use Rattle.ira_mend.specs.RecordedLogs.{AreLeftTexts, BreaksOff, BreaksOffAfter, IsCutHead, IsFirstFault}
 use Rattle.ira_mend.specs.RecordedLogs.{IsFirstNotLeft, IsLeftText, IsLost, IsRecordedText, LeftTextsFrom, RecordsLog, empty_log}
-use Rattle.ira_mend.specs.RecordedLogs.{no_log, no_ring, none}
+use Rattle.ira_mend.specs.RecordedLogs.{IsShort, faulty, no_log, no_ring, none, nothing, short}
 use Rattle.ira_mend.proofs.RecordedTexts.{cut_fault, goes_on}
 
 -- ---- one text
@@ -250,9 +252,38 @@ not_left_same guess texts i j r q x y = elim (cases_lt i j) [
   ]
 ]
 
+-- a text among short ones is short
+short_at : (texts : List (List ℕ)) (i : ℕ) (text : List ℕ) → All IsShort texts → slice_get texts i ≡ Some text
+    → IsShort text
+short_at texts i text all at =
+    subst IsShort (sym (unwrap_or-slice_get texts i text) ∙ ap (λ o. unwrap_or o text) at)
+    (all i text (slice_get_within texts i text at))
+
 first_faults_same : (texts : List (List ℕ)) (r q : Reason) → IsFirstFault texts r → IsFirstFault texts q → r ≡ q
-first_faults_same [] r q a b = a ∙ sym b
-first_faults_same (t ∷ ts) r q a b = a.1 ∙ ap (reason.Log 0) (one_fault t a.0 b.0 a.2 b.2) ∙ sym b.1
+first_faults_same texts r q (nothing empty is) (nothing again so) = is ∙ sym so
+first_faults_same texts r q (short some all is) (short any each so) = is ∙ sym so
+first_faults_same texts r q (nothing empty is) (short some all so) = absurd (omega (arith, some, ap length empty))
+first_faults_same texts r q (short some all is) (nothing empty so) = absurd (omega (arith, some, ap length empty))
+first_faults_same texts r q (nothing empty is) (faulty j t g at before long bad so) =
+    absurd (omega (arith, slice_get_within texts j t at, ap length empty))
+first_faults_same texts r q (faulty i t f at before long bad is) (nothing empty so) =
+    absurd (omega (arith, slice_get_within texts i t at, ap length empty))
+first_faults_same texts r q (short some all is) (faulty j t g at before long bad so) =
+    absurd (long (short_at texts j t all at))
+first_faults_same texts r q (faulty i t f at before long bad is) (short some all so) =
+    absurd (long (short_at texts i t all at))
+first_faults_same texts r q (faulty i t f at before long bad is) (faulty j u g there prior wide ill so) =
+    elim (cases_lt i j) [
+      | inl low ↦ absurd (long (short_at (take j texts) i t prior (taken_at texts j i t low at)))
+      | inr high ↦ elim (cases_lt j i) [
+        | inl low ↦ absurd (wide (short_at (take i texts) j u before (taken_at texts i j u low there)))
+        | inr even ↦
+            let number : i ≡ j = omega arith in
+            let text : u ≡ t = one_text texts i u t (ap (slice_get texts) number ∙ there) at in
+            let fault : f ≡ g = one_fault t f g bad (subst (λ x. LogTextFault x g) text ill) in
+            is ∙ ap₂ reason.Log number fault ∙ sym so
+      ]
+    ]
 
 pub recorded_reasons_are_one : RecordedReasonsAreOne
 recorded_reasons_are_one guess texts r q (no_log i x) (no_log j y) = not_left_same guess texts i j r q x y

@@ -1,12 +1,13 @@
 -- Texts that may have been cut off, and the logs that they record.
-use Rattle.std.proofs.Common.{◌≡◌, ◌≢◌, ◌<◌, ◌≤◌, ◌⊎◌, ◌+◌, ℕ, List, [], ◌∷◌, ◌++◌, zero, suc, Bool, Option, Some, None}
+use Rattle.std.proofs.Common.{◌≡◌, ◌≢◌, ◌↔◌, ◌<◌, ◌≤◌, ◌⊎◌, ◌+◌, ℕ, List, [], ◌∷◌, ◌++◌, zero, suc, Bool, Option, Some, None}
 use Rattle.std.proofs.Common.{Ok, Err, true, false, inl, inr, length, map, refl, sym, ap, ap₂, subst, ◌∙◌, arith, take}
 use Rattle.std.proofs.Common.{length-append}
 use Rattle.std.proofs.lemmas.List.{take-append-le, take_all}
 use Rattle.std.specs.Prelude.{codes, decimal, slice_get}
-use Rattle.std.specs.List.{AllZip, flat_map}
+use Rattle.std.specs.List.{All, AllZip, flat_map, list_all}
 use Rattle.ira_event.specs.Limits.{MAX_TEXT}
 use Rattle.ira_event.specs.declared.event.Event.{Event}
+use Rattle.ira_event.specs.declared.head_fault.HeadFault.TheVariants.{Number}
 use Rattle.ira_event.specs.declared.log_fault.LogFault.{LogFault}
 use Rattle.ira_event.specs.declared.log_fault.LogFault.TheVariants as fault
 use Rattle.ira_event.specs.declared.log_head.LogHead.{LogHead}
@@ -19,14 +20,17 @@ use Rattle.ira_event.specs.NextLine.{at_line, cut}
 use Rattle.ira_event.specs.Records.{HasRead, IsAtEnd, ReadsOn, ReadsRecord, RecordsLeft}
 use Rattle.ira_event.proofs.LogAnswers.{log_of, log_or_fault, log_read, one_fault, opening_fault}
 use Rattle.ira_event.proofs.LogReading.{after_all}
+use Rattle.ira_event.proofs.Numerals.{and_parts}
 use Rattle.std.proofs.lemmas.Fmt.{length-decimal-le}
+use Rattle.std.proofs.lemmas.Option.{same_Some}
 use Rattle.ira_mend.specs.RecordedLogs.{AreLeftTexts, BreaksOff, BreaksOffAfter, HasHeadOfLog, HasNoLog, HasReadLines, HasRecorded, IsCutText}
 use Rattle.ira_mend.specs.RecordedLogs.{IsFirstFault, IsLeftText, IsLost, IsNotLeft, IsRecordOf, IsRecordedReason}
 use Rattle.ira_mend.specs.RecordedLogs.{IsRecordedText, LeftTextsFrom, ReadsWholeLine, RecordsLog, SaysLost, empty_log}
-use Rattle.ira_mend.specs.RecordedLogs.{is_lost, no_log}
+use Rattle.ira_mend.specs.RecordedLogs.{IsShort, faulty, is_lost, is_short, no_log, nothing, short}
 use Rattle.ira_audit.specs.Refusal.{MatchRefusal}
 use Rattle.ira_audit.specs.Report.{IsReportableReason}
 use Rattle.ira_audit.specs.declared.reason.Reason.{Reason}
+use Rattle.ira_audit.specs.declared.reason.Reason.TheVariants as reason
 use Rattle.ira_audit.specs.declared.refusal.Refusal.{Refusal}
 use Rattle.ira_audit.specs.declared.refusal.Refusal.TheVariants.{No, OutOfMemory}
 use Rattle.ira_audit.proofs.Replaying.{text_fault_other}
@@ -234,7 +238,7 @@ module _ {A : Type 0} where
   no_log_of : (text : List ℕ) (r : RecordedLog A) → IsRecordOf text r → (log : Log) → IsRecordedText text log
       → ((l : Log) → r ≡ taken.Log l → ⊥) → ⊥
   no_log_of text (taken.Log l) of log is none = none l refl
-  no_log_of text (taken.Short bytes) of log is none = not_recorded text log fault.Head of.1 head_goes_on is
+  no_log_of text (taken.Short bytes) of log is none = not_recorded text log fault.Head of.1.0 head_goes_on is
   no_log_of text (taken.Faulty f) of log is none = not_recorded text log f of.0 of.1 is
 
   -- a log that was taken is recorded
@@ -263,7 +267,7 @@ module _ {A : Type 0} where
   -- of each text it is said whether it begins with no head
   lost_said : (text : List ℕ) (r : RecordedLog A) → IsRecordOf text r → SaysLost text (is_lost r)
   lost_said text (taken.Log log) of = (λ no. cc, λ bad. absurd (not_recorded text log fault.Head bad head_goes_on of))
-  lost_said text (taken.Short bytes) of = (λ yes. of.1, λ bad. refl)
+  lost_said text (taken.Short bytes) of = (λ yes. of.1.0, λ bad. refl)
   lost_said text (taken.Faulty f) of = go f of.0
     where
       go : (f : LogFault) → LogTextFault text f → SaysLost text (is_lost {A = A} (taken.Faulty f))
@@ -276,6 +280,90 @@ module _ {A : Type 0} where
   all_said [] (t ∷ texts) has = absurd has
   all_said (r ∷ recorded) [] has = absurd has
   all_said (r ∷ recorded) (t ∷ texts) has = (lost_said t r has.0, all_said recorded texts has.1)
+
+  -- and whether it is short
+  short_said : (text : List ℕ) (r : RecordedLog A) → IsRecordOf text r → (is_short r ≡ true) ↔ IsShort text
+  short_said text (taken.Log log) of =
+      (λ yes. absurd cc, λ short. absurd (not_recorded text log fault.Head short.0 head_goes_on of))
+  short_said text (taken.Short bytes) of = (λ yes. of.1, λ short. refl)
+  short_said text (taken.Faulty f) of = (
+    λ yes. absurd cc,
+    λ short.
+        (let long = of.2 (one_fault text f fault.Head of.0 short.0) in absurd (omega (arith, long, short.1))),
+  )
+
+  shorts_more : (r : RecordedLog A) (recorded : List (RecordedLog A)) (t : List ℕ) (texts : List (List ℕ))
+      → ((is_short r ≡ true) ↔ IsShort t) → ((list_all is_short recorded ≡ true) ↔ All IsShort texts)
+      → (list_all is_short (r ∷ recorded) ≡ true) ↔ All IsShort (t ∷ texts)
+  shorts_more r recorded t texts one more =
+      (each, λ all. rw (one.1 (all 0 t (omega arith))) (more.1 (λ k d low. all (suc k) d (omega (arith, low)))))
+    where
+      each : list_all is_short (r ∷ recorded) ≡ true → All IsShort (t ∷ texts)
+      each all zero d low = one.0 (and_parts (is_short r) (list_all is_short recorded) all).0
+      each all (suc k) d low = more.0 (and_parts (is_short r) (list_all is_short recorded) all).1 k d (omega (arith, low))
+
+  pub shorts_said : (recorded : List (RecordedLog A)) (texts : List (List ℕ)) → HasRecorded recorded texts
+      → (list_all is_short recorded ≡ true) ↔ All IsShort texts
+  shorts_said [] [] has = (λ yes k d low. absurd (omega (arith, low)), λ all. refl)
+  shorts_said [] (t ∷ texts) has = absurd has
+  shorts_said (r ∷ recorded) [] has = absurd has
+  shorts_said (r ∷ recorded) (t ∷ texts) has =
+      shorts_more r recorded t texts (short_said t r has.0) (shorts_said recorded texts has.1)
+
+  -- what is neither a log nor faulty is short
+  left_short : (r : RecordedLog A) → ((log : _) → ¬ (r ≡ taken.Log log)) → ((f : LogFault) → ¬ (r ≡ taken.Faulty f))
+      → is_short r ≡ true
+  left_short (taken.Log log) log_no faulty_no = absurd (log_no log refl)
+  left_short (taken.Short bytes) log_no faulty_no = refl
+  left_short (taken.Faulty f) log_no faulty_no = absurd (faulty_no f refl)
+
+  short_next : (n : ℕ) (rs : List (RecordedLog A)) (r : RecordedLog A) → slice_get rs n ≡ Some r → is_short r ≡ true
+      → list_all is_short (take n rs) ≡ true → list_all is_short (take (suc n) rs) ≡ true
+  short_next n [] r at is all = absurd cc
+  short_next zero (x ∷ rs) r at is all = rw (ap is_short (same_Some x r at) ∙ is) refl
+  short_next (suc n) (x ∷ rs) r at is all =
+      rw (and_parts (is_short x) (list_all is_short (take n rs)) all).0
+      (short_next n rs r at is (and_parts (is_short x) (list_all is_short (take n rs)) all).1)
+
+  -- one more that is neither
+  pub shorts_next : (rs : List (RecordedLog A)) (n : ℕ) (r : RecordedLog A) → HasNoLog rs → slice_get rs n ≡ Some r
+      → ((f : LogFault) → ¬ (r ≡ taken.Faulty f)) → list_all is_short (take n rs) ≡ true
+      → list_all is_short (take (n + 1) rs) ≡ true
+  shorts_next rs n r no_logs at faulty_no all =
+      let next = short_next n rs r at (left_short r (λ log is. no_logs n log (at ∙ ap Some is)) faulty_no) all in
+      let number : suc n ≡ n + 1 = omega arith in
+      subst (λ k. list_all is_short (take k rs) ≡ true) number next
+
+  -- where one is neither short nor a log's, it is faulty
+  pub faulty_first : (recorded : List (RecordedLog A)) (texts : List (List ℕ)) (i : ℕ) (f : LogFault)
+      → HasRecorded recorded texts → slice_get recorded i ≡ Some (taken.Faulty f)
+      → list_all is_short (take i recorded) ≡ true → IsFirstFault texts (reason.Log i f)
+  faulty_first recorded texts i f has at before =
+      let it = text_of recorded texts i (taken.Faulty f) has at in
+      faulty i it.0 f it.1 ((shorts_said (take i recorded) (take i texts) (taken_first i recorded texts has)).0 before)
+      (λ short. (let yes = (short_said it.0 (taken.Faulty f) it.2).1 short in absurd cc)) it.2.0 refl
+    where
+      taken_first : (n : ℕ) (rs : List (RecordedLog A)) (ts : List (List ℕ)) → HasRecorded rs ts
+          → HasRecorded (take n rs) (take n ts)
+      taken_first zero rs ts all = tt
+      taken_first (suc n) [] [] all = tt
+      taken_first (suc n) [] (t ∷ ts) all = absurd all
+      taken_first (suc n) (r ∷ rs) [] all = absurd all
+      taken_first (suc n) (r ∷ rs) (t ∷ ts) all = (all.0, taken_first n rs ts all.1)
+
+  -- and where none is, there is none, or the first is short
+  pub none_faulty : (recorded : List (RecordedLog A)) (texts : List (List ℕ)) → HasRecorded recorded texts
+      → list_all is_short recorded ≡ true → 0 < length recorded → IsFirstFault texts (reason.Log 0 fault.Head)
+  none_faulty [] texts has all some = absurd (omega (arith, some))
+  none_faulty (r ∷ recorded) [] has all some = absurd has
+  none_faulty (r ∷ recorded) (t ∷ texts) has all some =
+      short (omega arith) ((shorts_said (r ∷ recorded) (t ∷ texts) has).0 all) refl
+
+  pub none_taken : (recorded : List (RecordedLog A)) (texts : List (List ℕ)) → HasRecorded recorded texts
+      → length recorded ≡ 0 → IsFirstFault texts (reason.Heads Number)
+  none_taken [] [] has empty = nothing refl refl
+  none_taken [] (t ∷ texts) has empty = absurd has
+  none_taken (r ∷ recorded) texts has empty = absurd (omega (arith, empty))
 
 -- one text more is left of one log more
 pub left_more : (place : ℕ) (ring : LogHead) (guess : Bool) (texts : List (List ℕ)) (logs : List Log) (text : List ℕ)
@@ -437,5 +525,6 @@ all_left recorded ring guess logs head are texts has = record {
 
 -- a reason without a log is reported
 pub first_reportable : (texts : List (List ℕ)) (r : Reason) → IsFirstFault texts r → IsReportableReason r
-first_reportable [] r is = rw is tt
-first_reportable (text ∷ texts) r is = rw is.1 (text_fault_other text is.0 is.2)
+first_reportable texts r (nothing empty is) = rw is tt
+first_reportable texts r (short some all is) = rw is (λ e. absurd cc)
+first_reportable texts r (faulty i text f at before long bad is) = rw is (text_fault_other text f bad)

@@ -1,7 +1,7 @@
 -- What a crash left of the texts of a ring's logs.
 use Rattle.std.specs.Prelude.{◌≡◌, ◌<◌, ◌≤◌, ◌↔◌, ◌⊎◌, ℕ, suc, Bool, true, false, IsTrue, List, [], ◌∷◌, ◌++◌, Option, Some, None}
 use Rattle.std.specs.Prelude.{Result, Ok, Err, codes, length, slice_get, take, ⊤}
-use Rattle.std.specs.List.{AllZip}
+use Rattle.std.specs.List.{All, AllZip}
 use Rattle.ira_event.specs.Limits.{MAX_TEXT}
 use Rattle.ira_event.specs.declared.event.Event.{Event}
 use Rattle.ira_event.specs.declared.head_fault.HeadFault.{HeadFault}
@@ -108,10 +108,16 @@ pub record IsFirstNotLeft (guess : Bool) (texts : List (List ℕ)) (i : ℕ) (r 
   pub at : slice_get texts i ≡ Some text
   pub why : IsNotLeft (head_of ring) guess i text r
 
--- no text is a log's, cut or not: what is wrong with the first, or that there is none, is the reason
-abbrev pub IsFirstFault : List (List ℕ) → Reason → Type 0
-IsFirstFault [] r = r ≡ reason.Heads Number
-IsFirstFault (text ∷ texts) r = (f : LogFault) × (r ≡ reason.Log 0 f) × LogTextFault text f
+-- the text begins with no head, and is no longer than a head may be
+abbrev pub IsShort : List ℕ → Type 0
+IsShort text = LogTextFault text Head × (length text ≤ 100)
+
+-- no text is a log's, cut or not: there is none, or all are short, or the first that isn't has this fault
+pub data IsFirstFault (texts : List (List ℕ)) (r : Reason) : Type 0 where
+  nothing : texts ≡ [] → r ≡ reason.Heads Number → IsFirstFault texts r
+  short : 0 < length texts → All IsShort texts → r ≡ reason.Log 0 Head → IsFirstFault texts r
+  faulty : (i : ℕ) (text : List ℕ) (f : LogFault) → slice_get texts i ≡ Some text → All IsShort (take i texts)
+      → ¬ (IsShort text) → LogTextFault text f → r ≡ reason.Log i f → IsFirstFault texts r
 
 -- why the texts aren't what is left of the logs of one ring
 pub data IsRecordedReason (guess : Bool) (texts : List (List ℕ)) (r : Reason) : Type 0 where
@@ -151,11 +157,11 @@ abbrev pub IsRecordedReading : List ℕ → Result Log LogFault → Type 0
 IsRecordedReading text (Ok log) = IsRecordedText text log
 IsRecordedReading text (Err f) = (f ≡ OutOfMemory) ⊎ (LogTextFault text f × ¬ (BreaksOff f))
 
--- what was taken of a text: its log, cut or not; its bytes, where it is short and begins with no head; or its fault, which
--- isn't that it breaks off, and where it begins with no head it is longer than any
+-- what was taken of a text: its log, cut or not; its bytes, where it is short; or its fault, which isn't that it breaks
+-- off, and where it begins with no head it is longer than any
 abbrev pub IsRecordOf : {A : Type 0} → List ℕ → RecordedLog A → Type 0
 IsRecordOf text (taken.Log log) = IsRecordedText text log
-IsRecordOf text (taken.Short bytes) = (text ≡ bytes.items) × LogTextFault text Head
+IsRecordOf text (taken.Short bytes) = (text ≡ bytes.items) × IsShort text
 IsRecordOf text (taken.Faulty f) = LogTextFault text f × ¬ (BreaksOff f) × (f ≡ Head → 100 < length text)
 
 -- whether that text begins with no head
@@ -163,6 +169,11 @@ abbrev pub is_lost : {A : Type 0} → RecordedLog A → Bool
 is_lost (taken.Short bytes) = true
 is_lost (taken.Faulty Head) = true
 is_lost other = false
+
+-- whether that text is short
+abbrev pub is_short : {A : Type 0} → RecordedLog A → Bool
+is_short (taken.Short bytes) = true
+is_short other = false
 
 -- these texts were taken, in this order
 abbrev pub HasRecorded : {A : Type 0} → List (RecordedLog A) → List (List ℕ) → Type 0

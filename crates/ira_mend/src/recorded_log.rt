@@ -4,7 +4,7 @@ ghost use Rattle.ira_event.specs.Log.{IsLog, Log};
 ghost use Rattle.ira_event.specs.LogText.{log_text};
 ghost use Rattle.ira_event.specs.LogTextFault.{LogTextFault};
 ghost use Rattle.ira_event.specs.declared.log_fault.LogFault.TheVariants.{Head};
-ghost use Rattle.ira_mend.specs.RecordedLogs.{AreReadLines, IsLeftText, IsLost, IsNotLeft, IsRecordOf, IsRecordedReading, ReadsWholeLine, empty_log, is_lost};
+ghost use Rattle.ira_mend.specs.RecordedLogs.{AreReadLines, IsLeftText, IsLost, IsNotLeft, IsRecordOf, IsRecordedReading, ReadsWholeLine, empty_log, is_lost, is_short};
 
 use ira_audit::{Reason, Refusal};
 use ira_event::{
@@ -144,6 +144,13 @@ impl<A: Allocator> RecordedLog<A> {
             self,
             RecordedLog::Short(_) | RecordedLog::Faulty(LogFault::Head)
         )
+    }
+
+    /// Whether the text is short.
+    pub(crate) fn is_short(&self) -> bool
+        ensures { result ≡ is_short self.now }
+    {
+        matches!(self, RecordedLog::Short(_))
     }
 
     /// The log of the node at this place of the ring that a head names, if the text is what is left of it. The start of a

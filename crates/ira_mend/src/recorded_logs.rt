@@ -1,10 +1,10 @@
 ghost use Rattle.std.specs.Prelude.{◌≡◌, ◌++◌, ◌∷◌, [], ℕ, ◌↔◌, IfOk, IsTrue, List, MatchOption, OnOk, OnErr, map};
-ghost use Rattle.std.specs.List.{AllZip};
+ghost use Rattle.std.specs.List.{All, AllZip, list_all};
 ghost use Rattle.ira_audit.specs.Refusal.{MatchRefusal};
 ghost use Rattle.ira_audit.specs.Report.{IsReportableReason};
-ghost use Rattle.ira_event.specs.Log.{Log};
 ghost use Rattle.ira_event.specs.Logs.{AreLogs};
-ghost use Rattle.ira_mend.specs.RecordedLogs.{AreLeftTexts, HasHeadOfLog, HasNoLog, HasRecorded, IsFirstFault, IsRecordedReason, RecordsLog, SaysLost, is_lost};
+ghost use Rattle.ira_mend.specs.RecordedLogs.{AreLeftTexts, HasHeadOfLog, HasNoLog, HasRecorded, IsFirstFault, IsRecordedReason, IsShort, SaysLost};
+ghost use Rattle.ira_mend.specs.RecordedLogs.{is_lost, is_short};
 
 use crate::recorded_log::RecordedLog;
 use ira_audit::{Reason, Refusal};
@@ -20,6 +20,13 @@ fn lost_of<A: Allocator>(alloc: A, recorded: &[RecordedLog<A>]) -> Result<Vec<bo
         .iter()
         .map(|recorded| recorded.is_lost())
         .collect(alloc)
+}
+
+/// Whether each text is short.
+fn are_short<A: Allocator>(recorded: &[RecordedLog<A>]) -> bool
+    ensures { result ≡ list_all is_short recorded.now }
+{
+    recorded.iter().all(RecordedLog::is_short)
 }
 
 /// What a crash left of the logs of a ring: their texts, which are taken one by one in the order of the ring's places.
@@ -76,12 +83,11 @@ impl<A: Allocator + Clone> RecordedLogs<A> {
         None
     }
 
-    /// Whether a text is a log's, cut or not: without one nothing is known of the ring.
-    pub fn has_log(&self) -> bool
-        ensures { (texts : List (List ℕ)) → HasRecorded self.now texts
-            → IsTrue result ↔ ((log : Log) × RecordsLog texts log) }
+    /// Whether each text is short: of none more is known than that, and nothing of the ring.
+    pub fn are_short(&self) -> bool
+        ensures { (texts : List (List ℕ)) → HasRecorded self.now texts → IsTrue result ↔ All IsShort texts }
     {
-        self.ring().is_some()
+        are_short(&self.recorded)
     }
 
     /// Which texts begin with no head.
@@ -92,22 +98,25 @@ impl<A: Allocator + Clone> RecordedLogs<A> {
         lost_of(self.recorded.allocator().clone()?, &self.recorded)
     }
 
-    /// What is wrong with the first text, where none is a log's.
+    /// What is wrong with the first text that isn't short, where none is a log's; with the first one, where all are short.
     fn first_fault(&self) -> Reason
         requires { HasNoLog self.now }
         ensures { (texts : List (List ℕ)) → HasRecorded self.now texts → IsFirstFault texts result }
     {
-        match self.recorded.first() {
-            None => Reason::Heads(HeadFault::Number),
-            Some(RecordedLog::Faulty(fault)) => Reason::Log {
-                number: 0,
-                fault: *fault,
-            },
-            Some(RecordedLog::Short(_)) => Reason::Log {
-                number: 0,
-                fault: LogFault::Head,
-            },
-            Some(RecordedLog::Log(_)) => unreachable!(),
+        for (number, recorded) in self.recorded.iter().enumerate() {
+            if let RecordedLog::Faulty(fault) = recorded {
+                return Reason::Log {
+                    number,
+                    fault: *fault,
+                };
+            }
+        }
+        if self.recorded.is_empty() {
+            return Reason::Heads(HeadFault::Number);
+        }
+        Reason::Log {
+            number: 0,
+            fault: LogFault::Head,
         }
     }
 

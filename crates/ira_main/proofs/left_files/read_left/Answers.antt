@@ -38,7 +38,7 @@ returns-in_err-read_in_turn g c =
       texts = taken.0;
       given = leave_all g.F.TextSource.reads _ c.args.shelf.now c.args.names.now c.loop-place.place taken.0
           (omega (arith, c.loop-place-test.false)) taken.2;
-      none = λ log is. (let yes = (c.has_log.ensures taken.0 taken.1).1 (log, is) in cc);
+      short = (c.are_short.ensures taken.0 taken.1).0 c.if-are_short.true;
       why = c.in_err-read_in_turn.ensures;
     })))
 
