@@ -62,7 +62,7 @@ pub fn audit_logs<A: Allocator + Clone>(alloc: A, texts: &[&[u8]]) -> Result<Ans
 /// recorded, and nothing that the question asks was ever met: no consistent cut of the logs meets any of
 /// its cases. The answer is the same at every depth, 0 to 4, and with every gate.
 ///
-/// The links are matched by a thread of their own where one can be started. The steps of each section are cut into
+/// The steps of each section are cut into
 /// `2^depth` parts, which are judged on up to as many threads, each after the gate, which it passes with its number from
 /// the left.
 ///
@@ -90,7 +90,7 @@ where
     ensures yes { result ≡ Ok Answer.Yes
         → NoCaseIsMet (map (λ text. text.now) texts.now) question.now certificate.now }
 {
-    let judged = RingAudit::of_texts(alloc, texts)?.judge_on_threads(rt)?;
+    let judged = RingAudit::of_texts(alloc, texts)?.judge()?;
     judged.check(rt, question, certificate, depth, gate)
 }
 

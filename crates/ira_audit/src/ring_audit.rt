@@ -9,7 +9,7 @@ ghost use Rattle.ira_audit.specs.RingAudit.{HasTaken};
 
 use crate::judged::Judged;
 use crate::link_lines::LinkLines;
-use crate::order_search::{search_order, search_order_on_threads};
+use crate::order_search::search_order;
 use crate::reason::Reason;
 use crate::refusal::Refusal;
 use crate::replayed_log::{ReplayedLog, split_replayed};
@@ -17,7 +17,6 @@ use ira_event::{LogFault, Logs, OutOfMemory};
 use ira_order::FaultyEvent;
 use std::alloc::Allocator;
 use std::marker::Model;
-use std::thread::Threads;
 
 /// Judges the texts of a ring's logs, which it takes one by one, or from an audit that has taken those that come next,
 /// in the order of the ring's places. Of a text it keeps the log and what its replay gave, so that the texts needn't all
@@ -128,24 +127,6 @@ impl<A: Allocator + Clone> RingAudit<A> {
             Ok((logs, faulty_events)) => {
                 let alloc = faulty_events.allocator().clone()?;
                 let order = search_order(alloc, &logs, &faulty_events);
-                Judged::new(logs, faulty_events, order)
-            }
-            Err(Refusal::No(reason)) => Ok(Judged::NoRing(reason)),
-            Err(Refusal::OutOfMemory) => Err(OutOfMemory),
-        }
-    }
-
-    /// What `judge` gives. Where an event has no step, an order is looked for on two threads, if one can be started.
-    pub fn judge_on_threads<R>(self, rt: &R) -> Result<Judged<A>, OutOfMemory>
-    where
-        R: Threads,
-        A: Sync,
-        ensures { (texts : List (List ℕ)) → HasTaken self texts → IfOk result (IsJudged texts) }
-    {
-        match self.gather_replayed() {
-            Ok((logs, faulty_events)) => {
-                let alloc = faulty_events.allocator().clone()?;
-                let order = search_order_on_threads(rt, alloc, &logs, &faulty_events);
                 Judged::new(logs, faulty_events, order)
             }
             Err(Refusal::No(reason)) => Ok(Judged::NoRing(reason)),

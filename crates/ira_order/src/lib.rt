@@ -35,5 +35,5 @@ pub use order_fault::OrderFault;
 pub use order_prefix::OrderPrefix;
 pub use ordered::Ordered;
 pub use ring::{predecessor, successor};
-pub use search::{find_order, find_order_on_threads, order};
+pub use search::{find_order, order};
 pub use tally::Tally;

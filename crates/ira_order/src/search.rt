@@ -1,20 +1,17 @@
-ghost use Rattle.std.specs.Prelude.{◌≡◌, ◌≢◌, ◌↔◌, Err, IfOk, MatchResult};
+ghost use Rattle.std.specs.Prelude.{◌≡◌, ◌≢◌, ◌↔◌, Err, IfOk};
 ghost use Rattle.ira_order.specs.declared.match_fault.MatchFault.{MatchFault};
 ghost use Rattle.ira_order.specs.declared.order_fault.OrderFault.TheVariants.{Match, Circle, OutOfMemory};
-ghost use Rattle.ira_order.specs.Matching.{Matches};
 ghost use Rattle.ira_order.specs.MatchFault.{IsMatchFault};
 ghost use Rattle.ira_order.specs.Circle.{HasCircle};
 ghost use Rattle.ira_order.specs.Ordered.{IsOrdered};
 
 use crate::links::match_links;
-use crate::match_fault::MatchFault;
 use crate::order_fault::OrderFault;
 use crate::order_prefix::OrderPrefix;
 use crate::ordered::Ordered;
 use crate::stamps::Stamps;
 use ira_event::Logs;
 use std::alloc::Allocator;
-use std::thread::{self, Threads};
 
 /// One order of all events of the logs as a list of places, each event after those that happened
 /// before it; or the fault of logs that don't match, or a circle where they match and have no order.
@@ -27,31 +24,6 @@ pub fn find_order<A: Allocator + Clone>(alloc: A, logs: &Logs<A>) -> Result<Vec<
 {
     match_links(logs)?;
     OrderPrefix::longest(alloc, logs)?.into_order(logs)
-}
-
-/// What `find_order` gives. The links are matched by a thread of their own where one can be started, beside the search
-/// for an order; so it takes memory for one also where they don't match.
-pub fn find_order_on_threads<R, A>(
-    rt: &R,
-    alloc: A,
-    logs: &Logs<A>,
-) -> Result<Vec<u8, A>, OrderFault>
-where
-    R: Threads,
-    A: Allocator + Clone + Sync,
-    ensures ok { IfOk result (λ places. IsOrdered (record { logs = logs.now; schedule = places.items })) }
-    ensures matching { (f : MatchFault) → (result ≡ Err (Match f)) ↔ IsMatchFault logs.now f }
-    ensures circle { result ≢ Err OutOfMemory → (result ≡ Err Circle) ↔ HasCircle logs.now }
-{
-    let (matching, prefix) = thread::join(
-        rt,
-        || -> Result<(), MatchFault>
-            ensures { MatchResult result (λ _. Matches logs.entry.now) (IsMatchFault logs.entry.now) }
-        { match_links(logs) },
-        || OrderPrefix::longest(alloc, logs),
-    );
-    matching?;
-    prefix?.into_order(logs)
 }
 
 /// The logs with one order of all their events, and which of them happened before one another; or why

@@ -7,7 +7,6 @@ use ira_audit::{Judged, RingAudit};
 use ira_event::OutOfMemory;
 use ira_view_page::NamedText;
 use std::alloc::Allocator;
-use std::thread::Threads;
 
 /// An audit that has taken these texts.
 pub fn take_texts<A: Allocator + Clone>(
@@ -23,13 +22,12 @@ pub fn take_texts<A: Allocator + Clone>(
     Ok(audit)
 }
 
-/// Judges texts as those of a ring's logs, the links by a thread of their own where one can be started.
-pub fn judge_texts<R: Threads, A: Allocator + Clone + Sync>(
-    rt: &R,
+/// Judges texts as those of a ring's logs.
+pub fn judge_texts<A: Allocator + Clone>(
     alloc: A,
     texts: &[NamedText<'_>],
 ) -> Result<Judged<A>, OutOfMemory>
     ensures { IfOk result (IsJudged (texts_of texts.now)) }
 {
-    take_texts(alloc, texts)?.judge_on_threads(rt)
+    take_texts(alloc, texts)?.judge()
 }

@@ -187,7 +187,7 @@ fn takes_again(rt: &(impl Abort + Threads), alloc: Memory) -> bool {
         are_taken &= audit.take(text).is_ok() || audit.take(text).is_ok();
     }
     assert!(rt; are_taken);
-    match audit.judge_on_threads(rt) {
+    match audit.judge() {
         Ok(judged) => is_answer(rt, Ok(judged.answer()), Answer::Yes),
         Err(_) => false,
     }

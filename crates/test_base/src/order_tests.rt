@@ -3,15 +3,12 @@ ghost use Rattle.std.specs.Prelude.{◌<◌, length};
 
 use crate::samples::assert_shown;
 use ira_event::{Event, Logs, NodeLog, RingSize};
-use ira_order::{
-    MatchFault, OrderFault, Ordered, find_order, find_order_on_threads, match_links, order,
-};
+use ira_order::{MatchFault, OrderFault, Ordered, find_order, match_links, order};
 use std::alloc::Global;
 use std::process::Abort;
-use std::thread::Threads;
 use test_fixtures::{
-    CIRCLE, ELECTION, ELECTION_0, EMPTY, EMPTY_1, EQUAL_PAIR_PASSED_ON_CLEAN, LONE_INITIATOR,
-    RECEIPT_WITHOUT_SENDING, RECEIPTS_EXCHANGED, TIE, clean, logs_of, lone_initiator_logs,
+    CIRCLE, ELECTION, EMPTY, EQUAL_PAIR_PASSED_ON_CLEAN, LONE_INITIATOR, RECEIPT_WITHOUT_SENDING,
+    RECEIPTS_EXCHANGED, TIE, clean, logs_of, lone_initiator_logs,
 };
 
 /// Whether the places have each event of the reader once, and each receipt after its sending.
@@ -137,26 +134,6 @@ fn receipts_exchanged(rt: HostRuntime) {
 fn receipt_without_sending(rt: HostRuntime) {
     let fault = OrderFault::Match(MatchFault::NoSending { link: 1, k: 2 });
     assert_refused(&rt, &RECEIPT_WITHOUT_SENDING, fault);
-}
-
-/// Whether both calls find the same for the logs of these texts.
-fn is_same_on_threads(rt: &(impl AllocGlobal + Threads), texts: &[&[u8]]) -> Option<bool> {
-    let alloc = rt.alloc();
-    let logs = logs_of(alloc, texts)?;
-    Some(find_order_on_threads(rt, alloc, &logs) == find_order(alloc, &logs))
-}
-
-#[test]
-fn same_on_threads(rt: HostRuntime) {
-    let are_same = [
-        is_same_on_threads(&rt, &ELECTION),
-        is_same_on_threads(&rt, &[ELECTION_0, EMPTY_1]),
-        is_same_on_threads(&rt, &CIRCLE),
-    ];
-    assert!(rt;
-        are_same == [Some(true), Some(true), Some(true)],
-        "{are_same:?}"
-    );
 }
 
 /// Of two logs of four events each: some counts, and which of some events happened before which.
