@@ -87,19 +87,14 @@ node_more logs cut nodes place log p many are at is i other q at_log at_node =
           subst P same (subst Q new.1 (rw here at is))
     ]
 
-pub received_is : (logs : List Log) (cut : List ℕ) (nodes : List NodeProgress) (j received : ℕ)
-    → AreSoFar logs cut nodes → length nodes ≡ length logs → j < length logs
-    → ((p : NodeProgress) → slice_get nodes j ≡ Some p → received ≡ p.received)
-    → received ≡ length (got (take (slice_index cut j) (log_of logs j)))
-received_is logs cut nodes j received are many l is = elim (slice_get_cases logs j).1 [
-  | inr past ↦ absurd (omega (arith, past.0))
-  | inl h ↦ elim (slice_get_cases nodes j).1 [
-    | inr past ↦ absurd (omega (arith, past.0, many))
-    | inl k ↦
-        is k.0 k.2
-        ∙ (are j h.0 k.0 h.2 k.2).received
-        ∙ sym (ap (λ (o : Option Log). length (got (take (slice_index cut j) (events_of o)))) h.2)
-  ]
+pub received_is : (logs : List Log) (cut : List ℕ) (nodes : List NodeProgress) (j : ℕ) (p : NodeProgress)
+    → AreSoFar logs cut nodes → j < length logs → slice_get nodes j ≡ Some p
+    → p.received ≡ length (got (take (slice_index cut j) (log_of logs j)))
+received_is logs cut nodes j p are below at = elim (slice_get_cases logs j).1 [
+  | inr past ↦ absurd (omega (arith, past.0, below))
+  | inl h ↦
+      (are j h.0 p h.2 at).received
+      ∙ sym (ap (λ (o : Option Log). length (got (take (slice_index cut j) (events_of o)))) h.2)
 ]
 
 -- ---- sendings after the first ones

@@ -60,17 +60,22 @@ fn progress_of_nodes<A: Allocator>(
     Ok(nodes)
 }
 
-/// What the first events of a log send, but for so many first ones of it.
+/// What the first events of a log send, so many loads, but for those that were received.
 fn sendings_after<A: Allocator>(
     alloc: A,
     log: &NodeLog<A>,
     events: u32,
+    number: u32,
     received: u32,
 ) -> Result<Vec<Load, A>, OutOfMemory>
-    requires { events ≤ length log.now.events }
+    requires events { events ≤ length log.now.events }
+    requires number { number ≡ length (sent (take events log.now.events)) }
     ensures { IfOk result (λ loads. loads.items ≡ drop received (sent (take events log.now.events))) }
 {
     let mut loads = Vec::new(alloc);
+    if number <= received {
+        return Ok(loads);
+    }
     let mut passed = 0;
     for k in 0..events {
         if let Event::Sent(load) = log.event(k + 1) {
@@ -84,12 +89,12 @@ fn sendings_after<A: Allocator>(
     Ok(loads)
 }
 
-/// How many loads node `i` has received.
-fn received_by(nodes: &[NodeProgress], i: u8) -> u32
+/// How far node `i` has come.
+fn progress_of(nodes: &[NodeProgress], i: u8) -> NodeProgress
     requires { i < length nodes.now }
-    ensures { (p : NodeProgress) → slice_get nodes.now i ≡ Some p → result ≡ p.received }
+    ensures { slice_get nodes.now i ≡ Some result }
 {
-    nodes[usize::from(i)].received
+    nodes[usize::from(i)]
 }
 
 /// What is on its way on each link at the cut, where each node has come so far.
@@ -113,8 +118,9 @@ fn loads_of_links<A: Allocator + Clone>(
     let mut links = Vec::with_capacity(alloc.clone()?, usize::from(size))?;
     for link in 0..size {
         let events = cut[usize::from(link)];
-        let received = received_by(nodes, successor(size, link));
-        links.push(sendings_after(alloc.clone()?, logs.log(link), events, received)?)?;
+        let number = progress_of(nodes, link).sent;
+        let received = progress_of(nodes, successor(size, link)).received;
+        links.push(sendings_after(alloc.clone()?, logs.log(link), events, number, received)?)?;
     }
     Ok(links)
 }

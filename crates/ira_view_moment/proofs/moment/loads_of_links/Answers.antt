@@ -9,6 +9,12 @@ use Rattle.ira_view_moment.specs.Moment.{AreOnTheirWay}
 use Rattle.ira_view_moment.proofs.OnTheWay.{link_more, on_their_way, received_is}
 use Rattle.ira_view_moment.proofs.moment.loads_of_links.Goals as goal
 
+pub sendings_after-requires-clause-number : goal.sendings_after-requires-clause-number
+sendings_after-requires-clause-number g c =
+    let there = (c.requires.each c.loop-link.link c.log.result.now c.progress_of-number.result c.log.ensures.value
+    c.progress_of-number.ensures).sent in
+    rw c.from-in-loop-link.ensures there
+
 pub loop-link-preserved : goal.loop-link-preserved
 loop-link-preserved g c =
     let logs = c.args.logs.now in
@@ -20,20 +26,20 @@ loop-link-preserved g c =
     let to : c.successor.result ≡ next (length c.args.logs.now) c.loop-link.link =
     c.successor.ensures.value ∙ ap (λ k. next k c.loop-link.link) n in
     let received = received_is logs cut c.args.nodes.now (next (length c.args.logs.now) c.loop-link.link)
-    c.received_by-received.result c.requires.each c.requires.number (next_below (length c.args.logs.now) link below)
-    (rw to at c.received_by-received.ensures) in
+    c.progress_of-received.result c.requires.each (next_below (length c.args.logs.now) link below)
+    (rw to at c.progress_of-received.ensures) in
     let events : log_of c.args.logs.now c.loop-link.link ≡ c.log.result.now.events = ap events_of c.log.ensures.value in
     let held : c.in_ok-sendings_after.field-0.items
-    ≡ drop c.received_by-received.result
+    ≡ drop c.progress_of-received.result.received
     (sent (take (slice_index c.args.cut.now c.from-in-loop-link.result) c.log.result.now.events)) =
     c.in_ok-sendings_after.ensures in
     let here : c.in_ok-sendings_after.field-0.items
-    ≡ drop c.received_by-received.result
+    ≡ drop c.progress_of-received.result.received
     (sent (take (slice_index c.args.cut.now c.loop-link.link) (log_of c.args.logs.now c.loop-link.link))) =
     rw events (rw c.from-in-loop-link.ensures at held) in
     let is : AreOnTheirWay c.args.logs.now c.args.cut.now c.loop-link.link c.in_ok-sendings_after.field-0.items =
     subst (AreOnTheirWay c.args.logs.now c.args.cut.now c.loop-link.link) (sym here)
-    (on_their_way logs cut link c.received_by-received.result c.requires.matches c.requires.cut below received) in
+    (on_their_way logs cut link c.progress_of-received.result.received c.requires.matches c.requires.cut below received) in
     let items : c.push.new.self.items ≡ c.loop-link.links.items ++ c.in_ok-sendings_after.field-0 ∷ [] =
     c.in_ok-push.ensures.items in
     let mapped : map (λ (x : Vec Load g.row.A.Denot). x.items) c.push.new.self.items
