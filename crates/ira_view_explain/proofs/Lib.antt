@@ -6,5 +6,6 @@ mod Places
 mod Reading
 mod Reorderings
 mod RingHints
+mod RowsHints
 mod StopHints
 mod Told

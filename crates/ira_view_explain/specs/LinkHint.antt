@@ -87,7 +87,7 @@ IsCallMissing logs writer load call =
 -- it is so of the link
 abbrev pub IsSo : {A B : Type 0} → FaultyLink A → LinkHint B → Type 0
 IsSo link (Ring hint) = ring.IsSo link.logs.now hint
-IsSo link (Rows hint) = rows.IsSo link.sides.sent.items link.sides.received.items hint
+IsSo link (Rows hint) = rows.IsSo link hint
 IsSo link (OwedAtEnd writer file line) =
     (writer ≡ link.link) × (link.sending ≡ None) × EndsOwing link.logs.now writer link.receipt.load line
 -- the reader drops this sending in the state, to which its log leads
