@@ -10,7 +10,7 @@ use crate::shelf_fault::ShelfFault;
 use crate::text_buffer::TextBuffer;
 use crate::text_source::TextSource;
 use std::alloc::Allocator;
-use std::fs::{self, Files, Metadata, OpenFile, OpenOptions};
+use std::fs::{self, File, Files, Metadata, OpenFile, OpenOptions};
 use std::io::{self, BufWriter, ErrorKind};
 use std::os::unix::fs::MetadataExt;
 
@@ -32,14 +32,6 @@ pub struct FileShelf<'a, R: Files, A: Allocator> {
 /// How often a draft's name may be that of another file.
 const TRIES: u64 = 1_000_000;
 
-/// Where a new file is written.
-enum Place<A: Allocator> {
-    /// As it is.
-    There,
-    /// Beside the file of this name, which is this one, if there is one.
-    Beside(String<A>, Option<Metadata>),
-}
-
 impl<'a, R: Files, A: Allocator> FileShelf<'a, R, A> {
     /// Files that are opened through this runtime, and written through buffers of this memory.
     pub fn new(rt: &'a R, alloc: A) -> FileShelf<'a, R, A>
@@ -50,25 +42,18 @@ impl<'a, R: Files, A: Allocator> FileShelf<'a, R, A> {
     }
 }
 
-// Takes its bytes away from a file, and nothing from a device.
-fn empty(file: &impl OpenFile) -> io::Result<()> {
-    if file.metadata()?.is_file() {
-        file.set_len(0)?;
-    }
-    Ok(())
-}
-
 impl<'a, R: Files, A: Allocator + Clone> FileShelf<'a, R, A> {
-    // Where the file of this name is written. A file that can't be written isn't replaced either.
-    fn place(&self, name: &str) -> io::Result<Place<A>> {
+    // The name that a draft is to get for this one, and the file that has it, if there is one; nothing where none is made.
+    // A file that can't be written isn't replaced either.
+    fn place(&self, name: &str) -> io::Result<Option<(String<A>, Option<Metadata>)>> {
         if name.starts_with("/dev/") || name.starts_with("/proc/") {
-            return Ok(Place::There);
+            return Ok(None);
         }
         let name = match fs::symlink_metadata(self.rt, name) {
             Ok(found) if found.is_symlink() => {
                 match self.rt.canonicalize(self.alloc.clone()?, name) {
                     Ok(path) => path.into_string(),
-                    Err(error) if error.kind() == ErrorKind::NotFound => return Ok(Place::There),
+                    Err(error) if error.kind() == ErrorKind::NotFound => return Ok(None),
                     Err(error) => return Err(error),
                 }
             }
@@ -77,16 +62,16 @@ impl<'a, R: Files, A: Allocator + Clone> FileShelf<'a, R, A> {
                 if let Some((folder, _)) = name.rsplit_once('/') {
                     fs::create_dir_all(self.rt, folder)?;
                 }
-                return Ok(Place::Beside(String::from_str(self.alloc.clone()?, name)?, None));
+                return Ok(Some((String::from_str(self.alloc.clone()?, name)?, None)));
             }
             Err(error) => return Err(error),
         };
         let old = fs::metadata(self.rt, name.as_str())?;
         if !old.is_file() {
-            return Ok(Place::There);
+            return Ok(None);
         }
         OpenOptions::new().write(true).open(self.rt, name.as_str())?;
-        Ok(Place::Beside(name, Some(old)))
+        Ok(Some((name, Some(old))))
     }
 
     // The path of the next draft beside the file of this name.
@@ -109,11 +94,7 @@ impl<'a, R: Files, A: Allocator + Clone> FileShelf<'a, R, A> {
     ) -> io::Result<(R::File, Draft<'a, R, A>)> {
         for _ in 0..TRIES {
             let path = self.next_path(name.as_str())?;
-            match OpenOptions::new()
-                .write(true)
-                .create_new(true)
-                .open(self.rt, path.as_str())
-            {
+            match File::create_new(self.rt, path.as_str()) {
                 Ok(file) => return Ok((file, Draft::new(self.rt, path, name, old))),
                 Err(error) if error.kind() == ErrorKind::AlreadyExists => {}
                 Err(error) => return Err(error),
@@ -163,18 +144,20 @@ impl<'a, R: Files, A: Allocator + Clone> Shelf for FileShelf<'a, R, A> {
 
     fn create(&mut self, name: &str) -> Result<Self::Out, ShelfFault> {
         match self.place(name)? {
-            Place::Beside(name, old) => {
+            Some((name, old)) => {
                 let (file, draft) = self.draft(name, old)?;
                 Ok(NewFile::new(BufWriter::new(self.alloc.clone()?, file)?, Some(draft)))
             }
-            Place::There => {
+            None => {
                 let file = OpenOptions::new()
                     .write(true)
                     .create(true)
                     .open(self.rt, name)?;
                 let file = BufWriter::new(self.alloc.clone()?, file)?;
-                // Only now, since what is there stays where memory is refused.
-                empty(file.get_ref())?;
+                // Only now, since what is there stays where memory is refused. A device has nothing to take away.
+                if file.get_ref().metadata()?.is_file() {
+                    file.get_ref().set_len(0)?;
+                }
                 Ok(NewFile::new(file, None))
             }
         }
