@@ -126,7 +126,8 @@ function read(name, isJson, mayBeLost = false) {
   } catch (fault) {
     if (mayBeLost && fault.code == 'ENOENT') return Buffer.alloc(0);
     const entry = look(name);
-    const why = !entry ? 'no such file; of a log that is lost `ira mend --lost PLACE` makes an empty one'
+    const lost = name.endsWith('.log') ? '; of a log that is lost `ira mend --lost PLACE` makes an empty one' : '';
+    const why = !entry ? `no such file${lost}`
       : entry.isDirectory() ? 'it is a folder; logs in a folder are named by --dir'
         : 'the system refuses to open or read it; `ls -l` says who may';
     const told = {fault: 'cannot read', file: name, status: 2, type: 'fault', version: 1};
@@ -205,7 +206,8 @@ function write(files) {
   } catch (fault) {
     if (!fault.code) throw fault;
     drafts.forEach(([draft]) => fs.rmSync(draft, {force: true}));
-    return `ira: cannot write ${shown(name)}\n`;
+    return `ira: cannot write ${shown(name)}
+  it is a folder, its folder isn't there or can't be written in, or the disk is full\n`;
   }
   return '';
 }

@@ -1,5 +1,6 @@
--- A file that can't be read, told as JSON too, and why it can't.
-use Rattle.std.specs.Prelude.{◌≡◌, ◌⊎◌, ◌&&◌, ◌||◌, ℕ, Bool, true, false, not, List, [], ◌∷◌, None, Err, codes}
+-- A file that can't be read, told as JSON too, and why it can't, or can't be written.
+use Rattle.std.specs.Prelude.{◌≡◌, ◌⊎◌, ◌==◌, ◌&&◌, ◌||◌, ℕ, Bool, true, false, not, List, [], ◌∷◌, None, Err, codes, if◌then◌else◌}
+use Rattle.std.specs.List.{ends_with}
 use Rattle.std.specs.Str.{bytes_eq}
 use Rattle.ira_event.specs.Sink.{SinkState, StopsIn, Takes}
 use Rattle.ira_main_files.specs.FileName.{file_name}
@@ -9,7 +10,7 @@ use Rattle.ira_main_files.specs.declared.file_entry.FileEntry.TheVariants.{Folde
 use Rattle.ira_view_json.specs.FolderValue.{unread_value}
 use Rattle.ira_view_json.specs.Line.{IsLineOf}
 use Rattle.ira_main.specs.Outcome.{Outcome}
-use Rattle.ira_main.specs.declared.program_fault.ProgramFault.TheVariants.{CannotRead}
+use Rattle.ira_main.specs.declared.program_fault.ProgramFault.TheVariants.{CannotRead, CannotWrite, CannotWriteLog}
 
 -- `--json` is one of the words, and `--` doesn't stand before it
 abbrev pub wants_json : List (List ℕ) → Bool
@@ -26,14 +27,23 @@ TellsUnread true (Err (CannotRead name)) out out' =
     ⊎ (out' ≡ out)
 TellsUnread wants outcome out out' = out' ≡ out
 
--- what is said of such a file, by what its name leads to
-abbrev pub entry_text : FileEntry → List ℕ
-entry_text Missing = codes "  no such file; of a log that is lost `ira mend --lost PLACE` makes an empty one\n"
-entry_text Folder = codes "  it is a folder; logs in a folder are named by --dir\n"
-entry_text _ = codes "  the system refuses to open or read it; `ls -l` says who may\n"
+-- what is said of a file of this name that can't be read, by what the name leads to: `mend` is named where it is a log's
+abbrev pub entry_text : List ℕ → FileEntry → List ℕ
+entry_text name Missing = if ends_with (λ a b. a == b) name (codes ".log")
+    then codes "  no such file; of a log that is lost `ira mend --lost PLACE` makes an empty one\n"
+    else codes "  no such file\n"
+entry_text name Folder = codes "  it is a folder; logs in a folder are named by --dir\n"
+entry_text name _ = codes "  the system refuses to open or read it; `ls -l` says who may\n"
 
--- the line after that of an outcome: of a file that wasn't read this, if one; of others none
+-- of one that can't be written
+abbrev pub unwritten_why : List ℕ
+unwritten_why = codes "  it is a folder, its folder isn't there or can't be written in, or the disk is full\n"
+
+-- the line after that of an outcome: of a file that wasn't read or written this, if one; of others none
 abbrev pub IsWhy : {S : Type 0} → Reading S → S → Outcome → List ℕ → Type 0
 IsWhy reads shelf (Err (CannotRead name)) line =
-    ((entry : FileEntry) × reads.entry shelf (file_name name) entry × (line ≡ entry_text entry)) ⊎ (line ≡ [])
+    ((entry : FileEntry) × reads.entry shelf (file_name name) entry × (line ≡ entry_text (file_name name) entry))
+    ⊎ (line ≡ [])
+IsWhy reads shelf (Err (CannotWrite name)) line = line ≡ unwritten_why
+IsWhy reads shelf (Err (CannotWriteLog folder place)) line = line ≡ unwritten_why
 IsWhy reads shelf outcome line = line ≡ []

@@ -6,22 +6,22 @@ use ira_main_files::{FileEntry, TextSource};
 use ira_view::Status;
 use std::alloc::Allocator;
 
-/// What is said of a file that wasn't read, by what its name leads to.
-fn entry_text(entry: FileEntry) -> &'static [u8]
-    ensures { result.now ≡ entry_text entry }
+/// What is said of a file of this name that wasn't read, by what the name leads to: of a log that `mend` can do without it.
+fn entry_text(name: &str, entry: FileEntry) -> &'static [u8]
+    ensures { result.now ≡ entry_text name.now entry }
 {
+    let is_log = name.as_bytes().ends_with(b".log");
     match entry {
-        FileEntry::Missing => {
+        FileEntry::Missing if is_log => {
             b"  no such file; of a log that is lost `ira mend --lost PLACE` makes an empty one\n"
         }
+        FileEntry::Missing => b"  no such file\n",
         FileEntry::Folder => b"  it is a folder; logs in a folder are named by --dir\n",
-        FileEntry::File(_) | FileEntry::Other => {
-            b"  the system refuses to open or read it; `ls -l` says who may\n"
-        }
+        _ => b"  the system refuses to open or read it; `ls -l` says who may\n",
     }
 }
 
-/// The line after that of a file that wasn't read: none of other outcomes, and of standard input.
+/// The line after that of a file that wasn't read or written: none of other outcomes, and of standard input.
 pub(crate) fn why_unread<A: Allocator, F: TextSource>(
     alloc: A,
     outcome: &Result<Status, ProgramFault<'_>>,
@@ -29,11 +29,16 @@ pub(crate) fn why_unread<A: Allocator, F: TextSource>(
 ) -> &'static [u8]
     ensures { IsWhy F.reads shelf.now outcome.now result.now }
 {
-    let Err(ProgramFault::CannotRead(name)) = outcome else {
-        return b"";
-    };
-    match name.path(alloc) {
-        Ok(path) if path.as_str() != "-" => entry_text(shelf.look_up(path.as_str())),
+    match outcome {
+        Err(ProgramFault::CannotRead(name)) => match name.path(alloc) {
+            Ok(path) if path.as_str() != "-" => {
+                entry_text(path.as_str(), shelf.look_up(path.as_str()))
+            }
+            _ => b"",
+        },
+        Err(ProgramFault::CannotWrite(_) | ProgramFault::CannotWriteLog(_, _)) => {
+            b"  it is a folder, its folder isn't there or can't be written in, or the disk is full\n"
+        }
         _ => b"",
     }
 }
