@@ -1,3 +1,6 @@
+ghost use Rattle.std.specs.Prelude.{◌≡◌};
+ghost use Rattle.ira_ask.specs.declared.sentence_fault.SentenceFault.TheVariants.{OutOfMemory};
+
 use crate::sentence_part::SentencePart;
 use ira_event::OutOfMemory as NoMemory;
 use std::alloc::{AllocError, AllocFailed};
@@ -29,9 +32,6 @@ pub enum SentenceFault {
 }
 
 impl<T: Drop> From<AllocFailed<T>> for SentenceFault {
-    ghost use Rattle.std.specs.Prelude.{◌≡◌};
-    ghost use Rattle.ira_ask.specs.declared.sentence_fault.SentenceFault.TheVariants.{OutOfMemory};
-
     ghost from_gives = { λ _ f. f ≡ OutOfMemory };
 
     fn from(_refused: AllocFailed<T>) -> SentenceFault {
@@ -40,9 +40,6 @@ impl<T: Drop> From<AllocFailed<T>> for SentenceFault {
 }
 
 impl From<AllocError> for SentenceFault {
-    ghost use Rattle.std.specs.Prelude.{◌≡◌};
-    ghost use Rattle.ira_ask.specs.declared.sentence_fault.SentenceFault.TheVariants.{OutOfMemory};
-
     ghost from_gives = { λ _ f. f ≡ OutOfMemory };
 
     fn from(_refused: AllocError) -> SentenceFault {
@@ -51,9 +48,6 @@ impl From<AllocError> for SentenceFault {
 }
 
 impl From<NoMemory> for SentenceFault {
-    ghost use Rattle.std.specs.Prelude.{◌≡◌};
-    ghost use Rattle.ira_ask.specs.declared.sentence_fault.SentenceFault.TheVariants.{OutOfMemory};
-
     ghost from_gives = { λ _ f. f ≡ OutOfMemory };
 
     fn from(_refused: NoMemory) -> SentenceFault {

@@ -1,5 +1,7 @@
 ghost use Rattle.std.specs.Prelude.{◌≡◌};
-ghost use Rattle.ira_audit.specs.Refusal.{answered};
+ghost use Rattle.ira_audit.specs.Refusal.{answered, RefusesQuestion, RefusesCertificate};
+ghost use Rattle.ira_audit.specs.declared.reason.Reason.TheVariants.{Heads};
+ghost use Rattle.ira_audit.specs.declared.refusal.Refusal.TheVariants.{No, OutOfMemory};
 
 use crate::answer::Answer;
 use crate::reason::Reason;
@@ -27,10 +29,6 @@ pub(crate) fn answer_of<T: Drop>(judged: Result<T, Refusal>) -> Result<Answer, O
 }
 
 impl From<HeadFault> for Refusal {
-    ghost use Rattle.std.specs.Prelude.{◌≡◌};
-    ghost use Rattle.ira_audit.specs.declared.reason.Reason.TheVariants.{Heads};
-    ghost use Rattle.ira_audit.specs.declared.refusal.Refusal.TheVariants.{No};
-
     ghost from_gives = { λ fault r. r ≡ No (Heads fault) };
 
     fn from(fault: HeadFault) -> Refusal {
@@ -39,8 +37,6 @@ impl From<HeadFault> for Refusal {
 }
 
 impl From<AskFault> for Refusal {
-    ghost use Rattle.ira_audit.specs.Refusal.{RefusesQuestion};
-
     ghost from_gives = { RefusesQuestion };
 
     fn from(fault: AskFault) -> Refusal {
@@ -52,8 +48,6 @@ impl From<AskFault> for Refusal {
 }
 
 impl From<CertFault> for Refusal {
-    ghost use Rattle.ira_audit.specs.Refusal.{RefusesCertificate};
-
     ghost from_gives = { RefusesCertificate };
 
     fn from(fault: CertFault) -> Refusal {
@@ -65,9 +59,6 @@ impl From<CertFault> for Refusal {
 }
 
 impl From<OutOfMemory> for Refusal {
-    ghost use Rattle.std.specs.Prelude.{◌≡◌};
-    ghost use Rattle.ira_audit.specs.declared.refusal.Refusal.TheVariants.{OutOfMemory};
-
     ghost from_gives = { λ _ r. r ≡ OutOfMemory };
 
     fn from(_refused: OutOfMemory) -> Refusal {
@@ -76,9 +67,6 @@ impl From<OutOfMemory> for Refusal {
 }
 
 impl From<AllocError> for Refusal {
-    ghost use Rattle.std.specs.Prelude.{◌≡◌};
-    ghost use Rattle.ira_audit.specs.declared.refusal.Refusal.TheVariants.{OutOfMemory};
-
     ghost from_gives = { λ _ r. r ≡ OutOfMemory };
 
     fn from(_refused: AllocError) -> Refusal {

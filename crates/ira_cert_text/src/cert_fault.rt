@@ -1,5 +1,6 @@
 ghost use Rattle.std.specs.Prelude.{◌≡◌, ◌≤◌, length};
 ghost use Rattle.ira_cert_text.specs.CertFault.{cert_fault_words};
+ghost use Rattle.ira_cert_text.specs.declared.cert_fault.CertFault.TheVariants.{OutOfMemory};
 
 use ira_event::FaultWords;
 use std::alloc::{AllocError, AllocFailed};
@@ -49,9 +50,6 @@ impl CertFault {
 }
 
 impl<T: Drop> From<AllocFailed<T>> for CertFault {
-    ghost use Rattle.std.specs.Prelude.{◌≡◌};
-    ghost use Rattle.ira_cert_text.specs.declared.cert_fault.CertFault.TheVariants.{OutOfMemory};
-
     ghost from_gives = { λ _ f. f ≡ OutOfMemory };
 
     fn from(_refused: AllocFailed<T>) -> CertFault {
@@ -60,9 +58,6 @@ impl<T: Drop> From<AllocFailed<T>> for CertFault {
 }
 
 impl From<AllocError> for CertFault {
-    ghost use Rattle.std.specs.Prelude.{◌≡◌};
-    ghost use Rattle.ira_cert_text.specs.declared.cert_fault.CertFault.TheVariants.{OutOfMemory};
-
     ghost from_gives = { λ _ f. f ≡ OutOfMemory };
 
     fn from(_refused: AllocError) -> CertFault {

@@ -30,8 +30,7 @@ fn named_file<'f>(name: Option<&'f str>, text: &'f [u8]) -> NamedText<'f>
 }
 
 /// What comes of a command on logs that an audit has taken, whose texts it doesn't need.
-fn answer_taken<R: Threads, A: Allocator + Clone + Sync>(
-    rt: &R,
+fn answer_taken<A: Allocator + Clone>(
     alloc: A,
     command: LogsCommand<'_>,
     inputs: Inputs<'_, '_>,
@@ -47,7 +46,7 @@ fn answer_taken<R: Threads, A: Allocator + Clone + Sync>(
       texts = texts;
     })) }
 {
-    let judged = audit.judge_on_threads(rt)?;
+    let judged = audit.judge()?;
     let given = GivenFiles {
         question: named_file(inputs.question, first.question.bytes()),
         certificate: named_file(inputs.certificate, first.certificate.bytes()),
@@ -58,8 +57,7 @@ fn answer_taken<R: Threads, A: Allocator + Clone + Sync>(
 }
 
 /// What comes of a command on logs in files that were read.
-fn answer_read<R: Threads, A: Allocator + Clone + Sync>(
-    rt: &R,
+fn answer_read<A: Allocator + Clone>(
     alloc: A,
     command: LogsCommand<'_>,
     inputs: Inputs<'_, '_>,
@@ -75,7 +73,7 @@ fn answer_read<R: Threads, A: Allocator + Clone + Sync>(
     })) }
 {
     let logs = named_texts(alloc.clone()?, logs)?;
-    let judged = judge_texts(rt, alloc.clone()?, &logs)?;
+    let judged = judge_texts(alloc.clone()?, &logs)?;
     let given = GivenFiles {
         question: named_file(inputs.question, first.question.bytes()),
         certificate: named_file(inputs.certificate, first.certificate.bytes()),
@@ -105,8 +103,8 @@ where
 {
     if command.needs_texts() {
         let GivenTexts { first, logs } = read_given_texts(&alloc, inputs, shelf)?;
-        return Ok(answer_read(rt, alloc, command, inputs, &first, &logs)?);
+        return Ok(answer_read(alloc, command, inputs, &first, &logs)?);
     }
     let Given { first, audit } = read_given(rt, &alloc, inputs, shelf)?;
-    Ok(answer_taken(rt, alloc, command, inputs, &first, audit)?)
+    Ok(answer_taken(alloc, command, inputs, &first, audit)?)
 }

@@ -59,7 +59,7 @@ where
         (given_of question.now certificate.now (names_in logs.now) (texts_in logs.now))) }
 {
     let logs = named_texts(alloc.clone()?, logs)?;
-    let judged = judge_texts(rt, alloc.clone()?, &logs)?;
+    let judged = judge_texts(alloc.clone()?, &logs)?;
     let files = AskedFiles {
         logs: &logs,
         question,

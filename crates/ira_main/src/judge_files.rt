@@ -116,7 +116,7 @@ where
     ensures { (texts : List (List ℕ)) → HasTaken audit texts
         → IfOk result (ChecksTexts (ReportsAs (json_form check.now.is_json)) question.now certificate.now texts) }
 {
-    let judged = audit.judge_on_threads(rt)?;
+    let judged = audit.judge()?;
     let answer = judged.check(rt, question, certificate, check.depth, &OpenGate)?;
     Reply::of_answer_as(alloc, Form::of_json(check.is_json), &answer)
 }

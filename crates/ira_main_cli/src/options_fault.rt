@@ -1,5 +1,6 @@
 ghost use Rattle.std.specs.Prelude.{◌≡◌};
 ghost use Rattle.clap.specs.declared.error.kind.ErrorKind.TheVariants as kind;
+ghost use Rattle.ira_main_cli.specs.declared.options_fault.OptionsFault.TheVariants as options;
 
 use clap::error::ErrorKind;
 use std::alloc::AllocError;
@@ -97,8 +98,6 @@ impl OptionsFault {
 }
 
 impl From<AllocError> for OptionsFault {
-    ghost use Rattle.ira_main_cli.specs.declared.options_fault.OptionsFault.TheVariants as options;
-
     ghost from_gives = { λ _ f. f ≡ options.OutOfMemory };
 
     fn from(_refused: AllocError) -> OptionsFault {

@@ -1,3 +1,8 @@
+ghost use Rattle.std.specs.Prelude.{◌≡◌};
+ghost use Rattle.std.specs.IoError.{error_kind};
+ghost use Rattle.ira_main_files.specs.ShelfFault.{kind_fault};
+ghost use Rattle.ira_main_files.specs.declared.shelf_fault.ShelfFault.TheVariants as fault;
+
 use ira_event::WriteFault;
 use std::alloc::AllocError;
 use std::io::{Error, ErrorKind};
@@ -17,10 +22,6 @@ pub enum ShelfFault {
 }
 
 impl From<Error> for ShelfFault {
-    ghost use Rattle.std.specs.Prelude.{◌≡◌};
-    ghost use Rattle.std.specs.IoError.{error_kind};
-    ghost use Rattle.ira_main_files.specs.ShelfFault.{kind_fault};
-
     ghost from_gives = { λ e f. f ≡ kind_fault (error_kind e) };
 
     fn from(error: Error) -> ShelfFault {
@@ -33,9 +34,6 @@ impl From<Error> for ShelfFault {
 }
 
 impl From<AllocError> for ShelfFault {
-    ghost use Rattle.std.specs.Prelude.{◌≡◌};
-    ghost use Rattle.ira_main_files.specs.declared.shelf_fault.ShelfFault.TheVariants as fault;
-
     ghost from_gives = { λ _ f. f ≡ fault.OutOfMemory };
 
     fn from(_refused: AllocError) -> ShelfFault {
@@ -44,9 +42,6 @@ impl From<AllocError> for ShelfFault {
 }
 
 impl From<WriteFault> for ShelfFault {
-    ghost use Rattle.std.specs.Prelude.{◌≡◌};
-    ghost use Rattle.ira_main_files.specs.declared.shelf_fault.ShelfFault.TheVariants as fault;
-
     ghost from_gives = { λ _ f. f ≡ fault.Device };
 
     fn from(_failed: WriteFault) -> ShelfFault {

@@ -1,3 +1,6 @@
+ghost use Rattle.std.specs.Prelude.{◌≡◌};
+ghost use Rattle.ira_mend.specs.declared.mend_fault.MendFault.TheVariants.{Match, OutOfMemory};
+
 use ira_event::OutOfMemory;
 use ira_order::MatchFault;
 use std::alloc::AllocError;
@@ -15,9 +18,6 @@ pub enum MendFault {
 }
 
 impl From<MatchFault> for MendFault {
-    ghost use Rattle.std.specs.Prelude.{◌≡◌};
-    ghost use Rattle.ira_mend.specs.declared.mend_fault.MendFault.TheVariants.{Match};
-
     ghost from_gives = { λ fault f. f ≡ Match fault };
 
     fn from(fault: MatchFault) -> MendFault {
@@ -26,9 +26,6 @@ impl From<MatchFault> for MendFault {
 }
 
 impl From<OutOfMemory> for MendFault {
-    ghost use Rattle.std.specs.Prelude.{◌≡◌};
-    ghost use Rattle.ira_mend.specs.declared.mend_fault.MendFault.TheVariants.{OutOfMemory};
-
     ghost from_gives = { λ _ f. f ≡ OutOfMemory };
 
     fn from(_refused: OutOfMemory) -> MendFault {
@@ -37,9 +34,6 @@ impl From<OutOfMemory> for MendFault {
 }
 
 impl From<AllocError> for MendFault {
-    ghost use Rattle.std.specs.Prelude.{◌≡◌};
-    ghost use Rattle.ira_mend.specs.declared.mend_fault.MendFault.TheVariants.{OutOfMemory};
-
     ghost from_gives = { λ _ f. f ≡ OutOfMemory };
 
     fn from(_refused: AllocError) -> MendFault {

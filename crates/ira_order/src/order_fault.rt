@@ -1,3 +1,6 @@
+ghost use Rattle.std.specs.Prelude.{◌≡◌};
+ghost use Rattle.ira_order.specs.declared.order_fault.OrderFault.TheVariants.{Match, OutOfMemory};
+
 use crate::match_fault::MatchFault;
 use std::alloc::{AllocError, AllocFailed};
 use thiserror::Error;
@@ -17,9 +20,6 @@ pub enum OrderFault {
 }
 
 impl From<MatchFault> for OrderFault {
-    ghost use Rattle.std.specs.Prelude.{◌≡◌};
-    ghost use Rattle.ira_order.specs.declared.order_fault.OrderFault.TheVariants.{Match};
-
     ghost from_gives = { λ fault f. f ≡ Match fault };
 
     fn from(fault: MatchFault) -> OrderFault {
@@ -28,9 +28,6 @@ impl From<MatchFault> for OrderFault {
 }
 
 impl<T: Drop> From<AllocFailed<T>> for OrderFault {
-    ghost use Rattle.std.specs.Prelude.{◌≡◌};
-    ghost use Rattle.ira_order.specs.declared.order_fault.OrderFault.TheVariants.{OutOfMemory};
-
     ghost from_gives = { λ _ f. f ≡ OutOfMemory };
 
     fn from(_refused: AllocFailed<T>) -> OrderFault {
@@ -39,9 +36,6 @@ impl<T: Drop> From<AllocFailed<T>> for OrderFault {
 }
 
 impl From<AllocError> for OrderFault {
-    ghost use Rattle.std.specs.Prelude.{◌≡◌};
-    ghost use Rattle.ira_order.specs.declared.order_fault.OrderFault.TheVariants.{OutOfMemory};
-
     ghost from_gives = { λ _ f. f ≡ OutOfMemory };
 
     fn from(_refused: AllocError) -> OrderFault {

@@ -1,5 +1,6 @@
 ghost use Rattle.std.specs.Prelude.{◌≡◌, ◌≤◌, length};
 ghost use Rattle.ira_pred.specs.AskFault.{ask_fault_words};
+ghost use Rattle.ira_pred.specs.declared.ask_fault.AskFault.TheVariants.{OutOfMemory};
 
 use ira_event::FaultWords;
 use std::alloc::{AllocError, AllocFailed};
@@ -61,9 +62,6 @@ impl Display for AskFault {
 impl Error for AskFault {}
 
 impl<T: Drop> From<AllocFailed<T>> for AskFault {
-    ghost use Rattle.std.specs.Prelude.{◌≡◌};
-    ghost use Rattle.ira_pred.specs.declared.ask_fault.AskFault.TheVariants.{OutOfMemory};
-
     ghost from_gives = { λ _ f. f ≡ OutOfMemory };
 
     fn from(_refused: AllocFailed<T>) -> AskFault {
@@ -72,9 +70,6 @@ impl<T: Drop> From<AllocFailed<T>> for AskFault {
 }
 
 impl From<AllocError> for AskFault {
-    ghost use Rattle.std.specs.Prelude.{◌≡◌};
-    ghost use Rattle.ira_pred.specs.declared.ask_fault.AskFault.TheVariants.{OutOfMemory};
-
     ghost from_gives = { λ _ f. f ≡ OutOfMemory };
 
     fn from(_refused: AllocError) -> AskFault {

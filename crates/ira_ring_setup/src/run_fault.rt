@@ -1,5 +1,6 @@
 ghost use Rattle.std.specs.Prelude.{◌≡◌};
 ghost use Rattle.ira_ring_setup.specs.RunFault.{run_fault_number};
+ghost use Rattle.ira_ring_setup.specs.declared.run_fault.RunFault.TheVariants.{OutOfMemory};
 
 use ira_event::OutOfMemory;
 use std::alloc::{AllocError, AllocFailed};
@@ -51,9 +52,6 @@ impl RunFault {
 }
 
 impl From<OutOfMemory> for RunFault {
-    ghost use Rattle.std.specs.Prelude.{◌≡◌};
-    ghost use Rattle.ira_ring_setup.specs.declared.run_fault.RunFault.TheVariants.{OutOfMemory};
-
     ghost from_gives = { λ _ f. f ≡ OutOfMemory };
 
     fn from(_refused: OutOfMemory) -> RunFault {
@@ -62,9 +60,6 @@ impl From<OutOfMemory> for RunFault {
 }
 
 impl<T: Drop> From<AllocFailed<T>> for RunFault {
-    ghost use Rattle.std.specs.Prelude.{◌≡◌};
-    ghost use Rattle.ira_ring_setup.specs.declared.run_fault.RunFault.TheVariants.{OutOfMemory};
-
     ghost from_gives = { λ _ f. f ≡ OutOfMemory };
 
     fn from(_refused: AllocFailed<T>) -> RunFault {
@@ -73,9 +68,6 @@ impl<T: Drop> From<AllocFailed<T>> for RunFault {
 }
 
 impl From<AllocError> for RunFault {
-    ghost use Rattle.std.specs.Prelude.{◌≡◌};
-    ghost use Rattle.ira_ring_setup.specs.declared.run_fault.RunFault.TheVariants.{OutOfMemory};
-
     ghost from_gives = { λ _ f. f ≡ OutOfMemory };
 
     fn from(_refused: AllocError) -> RunFault {

@@ -1,3 +1,8 @@
+ghost use Rattle.std.specs.Prelude.{◌≡◌};
+ghost use Rattle.ira_view.specs.ShownRing.{refusal_fault};
+ghost use Rattle.ira_view.specs.declared.ring_fault.RingFault.TheVariants.{Cut};
+ghost use Rattle.ira_view.specs.declared.ring_fault.RingFault.TheVariants as fault;
+
 use ira_audit::{Reason, Refusal};
 use ira_event::OutOfMemory;
 use ira_view_moment::CutFault;
@@ -16,9 +21,6 @@ pub enum RingFault {
 }
 
 impl From<Refusal> for RingFault {
-    ghost use Rattle.ira_view.specs.ShownRing.{refusal_fault};
-    ghost use Rattle.std.specs.Prelude.{◌≡◌};
-
     ghost from_gives = { λ refusal f. f ≡ refusal_fault refusal };
 
     fn from(refusal: Refusal) -> RingFault {
@@ -30,9 +32,6 @@ impl From<Refusal> for RingFault {
 }
 
 impl From<CutFault> for RingFault {
-    ghost use Rattle.std.specs.Prelude.{◌≡◌};
-    ghost use Rattle.ira_view.specs.declared.ring_fault.RingFault.TheVariants.{Cut};
-
     ghost from_gives = { λ fault f. f ≡ Cut fault };
 
     fn from(fault: CutFault) -> RingFault {
@@ -41,9 +40,6 @@ impl From<CutFault> for RingFault {
 }
 
 impl From<OutOfMemory> for RingFault {
-    ghost use Rattle.std.specs.Prelude.{◌≡◌};
-    ghost use Rattle.ira_view.specs.declared.ring_fault.RingFault.TheVariants as fault;
-
     ghost from_gives = { λ _ f. f ≡ fault.OutOfMemory };
 
     fn from(_refused: OutOfMemory) -> RingFault {
@@ -52,9 +48,6 @@ impl From<OutOfMemory> for RingFault {
 }
 
 impl From<AllocError> for RingFault {
-    ghost use Rattle.std.specs.Prelude.{◌≡◌};
-    ghost use Rattle.ira_view.specs.declared.ring_fault.RingFault.TheVariants as fault;
-
     ghost from_gives = { λ _ f. f ≡ fault.OutOfMemory };
 
     fn from(_refused: AllocError) -> RingFault {

@@ -1,3 +1,6 @@
+ghost use Rattle.std.specs.Prelude.{◌≡◌};
+ghost use Rattle.ira_view_page.specs.declared.show_fault.ShowFault.TheVariants.{OutOfMemory, Write};
+
 use ira_event::{OutOfMemory, WriteFault};
 use std::alloc::{AllocError, AllocFailed};
 use thiserror::Error;
@@ -17,9 +20,6 @@ pub enum ShowFault {
 }
 
 impl From<OutOfMemory> for ShowFault {
-    ghost use Rattle.std.specs.Prelude.{◌≡◌};
-    ghost use Rattle.ira_view_page.specs.declared.show_fault.ShowFault.TheVariants.{OutOfMemory};
-
     ghost from_gives = { λ _ f. f ≡ OutOfMemory };
 
     fn from(_refused: OutOfMemory) -> ShowFault {
@@ -28,9 +28,6 @@ impl From<OutOfMemory> for ShowFault {
 }
 
 impl From<AllocError> for ShowFault {
-    ghost use Rattle.std.specs.Prelude.{◌≡◌};
-    ghost use Rattle.ira_view_page.specs.declared.show_fault.ShowFault.TheVariants.{OutOfMemory};
-
     ghost from_gives = { λ _ f. f ≡ OutOfMemory };
 
     fn from(_refused: AllocError) -> ShowFault {
@@ -39,9 +36,6 @@ impl From<AllocError> for ShowFault {
 }
 
 impl<T: Drop> From<AllocFailed<T>> for ShowFault {
-    ghost use Rattle.std.specs.Prelude.{◌≡◌};
-    ghost use Rattle.ira_view_page.specs.declared.show_fault.ShowFault.TheVariants.{OutOfMemory};
-
     ghost from_gives = { λ _ f. f ≡ OutOfMemory };
 
     fn from(_refused: AllocFailed<T>) -> ShowFault {
@@ -50,9 +44,6 @@ impl<T: Drop> From<AllocFailed<T>> for ShowFault {
 }
 
 impl From<WriteFault> for ShowFault {
-    ghost use Rattle.std.specs.Prelude.{◌≡◌};
-    ghost use Rattle.ira_view_page.specs.declared.show_fault.ShowFault.TheVariants.{Write};
-
     ghost from_gives = { λ _ f. f ≡ Write };
 
     fn from(_failed: WriteFault) -> ShowFault {

@@ -1,3 +1,7 @@
+ghost use Rattle.std.specs.Prelude.{◌≡◌};
+ghost use Rattle.ira_view_picture.specs.declared.draw_fault.DrawFault.TheVariants as fault;
+ghost use Rattle.ira_view_picture.specs.DrawFault.{no_columns};
+
 use ira_event::OutOfMemory;
 use ira_view_trail::ColumnsFault;
 use std::alloc::AllocError;
@@ -16,9 +20,6 @@ pub enum DrawFault {
 }
 
 impl From<OutOfMemory> for DrawFault {
-    ghost use Rattle.std.specs.Prelude.{◌≡◌};
-    ghost use Rattle.ira_view_picture.specs.declared.draw_fault.DrawFault.TheVariants as fault;
-
     ghost from_gives = { λ _ f. f ≡ fault.OutOfMemory };
 
     fn from(_refused: OutOfMemory) -> DrawFault {
@@ -27,9 +28,6 @@ impl From<OutOfMemory> for DrawFault {
 }
 
 impl From<AllocError> for DrawFault {
-    ghost use Rattle.std.specs.Prelude.{◌≡◌};
-    ghost use Rattle.ira_view_picture.specs.declared.draw_fault.DrawFault.TheVariants as fault;
-
     ghost from_gives = { λ _ f. f ≡ fault.OutOfMemory };
 
     fn from(_refused: AllocError) -> DrawFault {
@@ -38,9 +36,6 @@ impl From<AllocError> for DrawFault {
 }
 
 impl From<ColumnsFault> for DrawFault {
-    ghost use Rattle.std.specs.Prelude.{◌≡◌};
-    ghost use Rattle.ira_view_picture.specs.DrawFault.{no_columns};
-
     ghost from_gives = { λ f d. d ≡ no_columns f };
 
     fn from(fault: ColumnsFault) -> DrawFault {

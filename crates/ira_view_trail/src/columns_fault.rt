@@ -1,3 +1,6 @@
+ghost use Rattle.std.specs.Prelude.{◌≡◌};
+ghost use Rattle.ira_view_trail.specs.declared.columns_fault.ColumnsFault.TheVariants as fault;
+
 use ira_event::OutOfMemory;
 use std::alloc::AllocError;
 use thiserror::Error;
@@ -13,9 +16,6 @@ pub enum ColumnsFault {
 }
 
 impl From<OutOfMemory> for ColumnsFault {
-    ghost use Rattle.std.specs.Prelude.{◌≡◌};
-    ghost use Rattle.ira_view_trail.specs.declared.columns_fault.ColumnsFault.TheVariants as fault;
-
     ghost from_gives = { λ _ f. f ≡ fault.OutOfMemory };
 
     fn from(_refused: OutOfMemory) -> ColumnsFault {
@@ -24,9 +24,6 @@ impl From<OutOfMemory> for ColumnsFault {
 }
 
 impl From<AllocError> for ColumnsFault {
-    ghost use Rattle.std.specs.Prelude.{◌≡◌};
-    ghost use Rattle.ira_view_trail.specs.declared.columns_fault.ColumnsFault.TheVariants as fault;
-
     ghost from_gives = { λ _ f. f ≡ fault.OutOfMemory };
 
     fn from(_refused: AllocError) -> ColumnsFault {
