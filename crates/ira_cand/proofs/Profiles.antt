@@ -20,7 +20,7 @@ use Rattle.ira_node.specs.NodeState.{IsLeader, first_state}
 use Rattle.ira_node.specs.NodeStep.{NodeStep, sends, draws, passes, gives_in, purges, meets, ties, wins, yields}
 use Rattle.ira_node.specs.NodeStep.{restarts, comes_home}
 use Rattle.ira_node.specs.StepAnswer.{advance_answer, answer}
-use Rattle.ira_node.proofs.Answers.{step_exactly, step_gives}
+use Rattle.ira_node.proofs.Answers.{step_exactly}
 use Rattle.ira_pred.specs.ClauseAnswer.{compare_some_test, holds_test, id_of, is_active, is_choosing, is_leader}
 use Rattle.ira_pred.specs.ClauseAnswer.{is_owing, is_passive, is_yielding}
 use Rattle.ira_pred.specs.Formula.{Formula, always, leader, active, passive, choosing, yielding, owes, round, id, term}

@@ -54,19 +54,20 @@ impl<'a, A: Allocator + Clone> Profile<'a, A> {
         let mut kinds = Vec::new(alloc);
         let mut events = log.events();
         let mut state = NodeState::first(log.initiator());
-        let mut count = 0;
+        let (mut stage, mut count) = (Stage::of(&state), 0);
         while let Some(event) = events.next() {
-            let stage = Stage::of(&state);
             if state.advance(log.nodes(), &event).is_err() {
                 break;
             }
             count += 1;
-            if Stage::of(&state) != stage {
+            let after = Stage::of(&state);
+            if after != stage {
                 add_span(&mut spans, &mut kinds, stage, count)?;
+                stage = after;
                 count = 0;
             }
         }
-        add_span(&mut spans, &mut kinds, Stage::of(&state), count)?;
+        add_span(&mut spans, &mut kinds, stage, count)?;
         Ok(Profile {
             log,
             spans,

@@ -55,7 +55,7 @@ first_in term b p is = elim (cases_lt (first_state b).term term) [
 ]
 
 -- a node that draws is active with the ID then
-by_draw : (n : ℕ) (s : NodeState) (e : Event) (t : NodeState) (x y : ℕ) → NodeStep n s e t → e ≡ Draw y
+pub by_draw : (n : ℕ) (s : NodeState) (e : Event) (t : NodeState) (x y : ℕ) → NodeStep n s e t → e ≡ Draw y
     → s.phase ≡ Choosing x → (t.term ≡ s.term) × (t.phase ≡ Active x y)
 by_draw n s e t x y (draws term round id es ee lo hi et) is from =
     let same : Draw id ≡ Draw y = sym ee ∙ is in

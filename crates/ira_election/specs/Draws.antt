@@ -1,6 +1,6 @@
 -- Who leads is decided by what the nodes draw.
 use Rattle.std.specs.Prelude.{◌≡◌, ◌≢◌, ℕ, ◌+◌, ◌<◌, ◌≤◌, ◌⊎◌, true, List, Some, slice_get, slice_index}
-use Rattle.std.specs.Prelude.{length}
+use Rattle.std.specs.Prelude.{length, take}
 use Rattle.ira_event.specs.declared.event.Event.TheVariants.{Draw}
 use Rattle.ira_event.specs.Log.{Log}
 use Rattle.ira_event.specs.Logs.{AreLogs}
@@ -144,3 +144,24 @@ abbrev pub BothMayLeadUnmatched : Type 0
 BothMayLeadUnmatched =
     AreLogs both_elected × AreLocalRuns both_elected × Leads both_elected 0 3 × Leads both_elected 1 3
     × Drew both_elected 0 1 1 1 × Drew both_elected 1 1 1 1
+
+-- node i begins to choose in the term, and nobody drew more in a round of it in which node i drew
+pub record IsContender (logs : List Log) (cut : List ℕ) (term i : ℕ) : Type 0 where
+  pub starts : Starts logs term i
+  pub not_outdrawn :
+      (j round id other : ℕ) → DrewWithin logs cut i term round id → DrewWithin logs cut j term round other
+      → other ≤ id
+
+-- the logs go on from the cut of those
+pub record GoesOn (logs : List Log) (cut : List ℕ) (more : List Log) : Type 0 where
+  pub nodes : length more ≡ length logs
+  pub start : (i : ℕ) → is_initiator (slice_get more i) ≡ is_initiator (slice_get logs i)
+  pub events : (i : ℕ) → take (slice_index cut i) (log_of more i) ≡ take (slice_index cut i) (log_of logs i)
+
+-- however logs go on from a cut: who leads then in a term is one of its contenders
+abbrev pub OnlyContendersLead : Type 0
+OnlyContendersLead =
+    (logs more : List Log) (cut : List ℕ) → AreLogs logs → GoesOn logs cut more → AreLogs more → Matches more
+    → AreLocalRuns more
+    → (i events round id : ℕ) (state : NodeState) → IsIn more i events state → state.phase ≡ Leader round id
+    → IsContender logs cut state.term i

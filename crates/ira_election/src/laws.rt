@@ -2,7 +2,7 @@ ghost use Rattle.ira_election.specs.AnOrder.{LocalRunsHaveAnOrder, CirclesHaveAF
 ghost use Rattle.ira_election.specs.Draws.{AllTheGreatestGoOn, AllWhoStartDraw, BothMayLeadUnmatched};
 ghost use Rattle.ira_election.specs.Draws.{DrawsDecide, FirstTermInOrder, NobodyDrawsLate};
 ghost use Rattle.ira_election.specs.Draws.{OneDrawInARound, OnlyWhoStartDraw, RoundsCountFromOne, TheGreatestGoOn};
-ghost use Rattle.ira_election.specs.Draws.{TheGreatestAreStillIn, TheGreatestLeads};
+ghost use Rattle.ira_election.specs.Draws.{OnlyContendersLead, TheGreatestAreStillIn, TheGreatestLeads};
 ghost use Rattle.ira_election.specs.Rounds.{FewElectNobody};
 ghost use Rattle.ira_election.specs.Tables.{ElectedIsSomebody, FirstLeadersAreElected, LeadersAreElected, TablesElectOne};
 ghost use Rattle.ira_election.specs.Ways.{AtLeastHalfElect, HalfIsSharp, WaysToDraw, WaysToElect};
@@ -69,6 +69,12 @@ pub fn draws_decide()
 
     // Of logs that don't match two nodes may lead with the same draw.
     ensures needed { BothMayLeadUnmatched }
+{}
+
+/// A law: however the events of a ring go on from a cut of its logs, who leads then in a term is one of those that can lead
+/// by its draws up to the cut.
+pub fn only_contenders_lead()
+    ensures { OnlyContendersLead }
 {}
 
 /// A law: of the n^k ways in which k nodes may draw IDs of 1 to n just k (0^(k-1) + 1^(k-1) + .. + (n-1)^(k-1)) have

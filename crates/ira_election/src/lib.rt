@@ -5,5 +5,5 @@ mod laws;
 
 pub use laws::{
     draws_decide, half_of_the_draws_elect, leaders_end_elections, local_runs_have_an_order,
-    no_ring_stands_still, runs_go_on, tables_elect_leaders,
+    no_ring_stands_still, only_contenders_lead, runs_go_on, tables_elect_leaders,
 };

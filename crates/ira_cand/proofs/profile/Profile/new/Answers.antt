@@ -1,4 +1,4 @@
-use Rattle.std.proofs.Common.{◌≡◌, ℕ, ◌++◌, ◌+◌, ◌∷◌, [], Some, length, refl, sym, ap, subst, ◌∙◌, arith, replicate, rules}
+use Rattle.std.proofs.Common.{◌≡◌, ℕ, ◌++◌, ◌+◌, ◌∷◌, [], Some, length, sym, ap, subst, ◌∙◌, arith, replicate, rules}
 use Rattle.std.proofs.lemmas.List.{append-nil}
 use Rattle.ira_node.specs.NodeState.{first_state}
 use Rattle.ira_replay.specs.StatesLeft.{states_left}
@@ -13,6 +13,7 @@ loop-event-init g c =
       rw (c.new-spans.ensures.items, c.first-state.ensures, c.events-events.ensures.list, c.initiator.ensures)
           (walked_none log.nodes (first_state log.initiator) log.events),
       λ k d lt. absurd (omega (arith, ap length c.new-spans.ensures.items, lt)),
+      c.of-stage.ensures,
     )
 
 pub loop-event-preserved-then-ne : goal.loop-event-preserved-then-ne
@@ -25,22 +26,24 @@ loop-event-preserved-then-ne g c =
     c.loop-event.invariant.0 c.in-Some.ensures.steps c.nodes.ensures c.advance.ensures.value c.if-is_err.ensures.value in (
       subst (λ xs. WalkedTo log.nodes (first_state log.initiator) log.events xs c.advance.new.self c.next.new.self)
           (span_more spans c.add_span.new.spans.items span.0 (stage c.loop-event.state) (c.loop-event.count + 1) span.1
-          (span.2 ∙ c.of-stage.ensures) span.3 ∙ sym (append-nil (stages_in c.add_span.new.spans.items))) more,
+          (span.2 ∙ c.loop-event.invariant.2) span.3 ∙ sym (append-nil (stages_in c.add_span.new.spans.items))) more,
       c.in_ok-add_span.ensures.kinds,
+      c.of-after.ensures,
     )
 
 pub loop-event-preserved : goal.loop-event-preserved
 loop-event-preserved g c =
     let log = c.args.log.now in
     let spans = c.loop-event.spans.items in
-    let same : c.of.result ≡ c.of-stage.result = search rules in
+    let same : c.of-after.result ≡ c.loop-event.stage = search rules in
     let more = walked_more log.nodes c.nodes.result (first_state log.initiator) c.loop-event.state c.advance.new.self
     log.events c.loop-event.events c.next.new.self (stages_in spans) c.loop-event.count c.in-Some.event c.advance.result
     c.loop-event.invariant.0 c.in-Some.ensures.steps c.nodes.ensures c.advance.ensures.value c.if-is_err.ensures.value in (
       subst (λ a. WalkedTo log.nodes (first_state log.initiator) log.events
           (stages_in spans ++ replicate (c.loop-event.count + 1) a) c.advance.new.self c.next.new.self)
-          (sym c.of-stage.ensures ∙ sym same ∙ c.of.ensures) more,
+          (sym c.loop-event.invariant.2 ∙ sym same ∙ c.of-after.ensures) more,
       c.loop-event.invariant.1,
+      sym same ∙ c.of-after.ensures,
     )
 
 -- the last state, and that none comes after it
@@ -71,7 +74,7 @@ invariant_of-result g c =
       walked = subst (λ xs. WalkedTo log.nodes (first_state log.initiator) log.events xs c.loop-event.state
           c.loop-event.events)
           (span_more c.loop-event.spans.items spans span.0 (stage c.loop-event.state) c.loop-event.count span.1
-          (span.2 ∙ c.of-2.ensures ∙ ap stage end.0) span.3) c.loop-event.invariant.0;
+          (span.2 ∙ c.loop-event.invariant.2) span.3) c.loop-event.invariant.0;
       ends = end.1;
       kinds_are = c.in_ok-add_span-2.ensures.kinds;
       few = search rules;
