@@ -16,7 +16,7 @@ help:
 	@echo 'make install    copies bin/ira, or the release where that was not built of these sources, to $$(PREFIX)/bin, and the'
 	@echo '                manual and completions of its commit below $$(PREFIX)/share; PREFIX is $(PREFIX) if not given'
 	@echo 'make dist       packs the same with its examples and pages, for other machines'
-	@echo 'make packages   makes of release/ what pip, npm and dpkg install: bin/ira-*.whl, bin/ira-*.tgz, bin/ira_*.deb'
+	@echo 'make packages   makes of release/ what pip, npm and dpkg install: dist/ira-*.whl, dist/ira-*.tgz, dist/ira_*.deb'
 	@echo 'In minutes, and without the Rattle kit in seconds:'
 	@echo 'make test       tests and programs, built with no proof, and the checks that take minutes at most; without the kit'
 	@echo '                the checks alone, of the released program those of its commit. The last lines say what passed, what'
