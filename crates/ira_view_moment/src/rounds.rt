@@ -2,8 +2,7 @@ ghost use Rattle.std.specs.Prelude.{◌≡◌, ◌≤◌, length, map};
 ghost use Rattle.ira_view_moment.specs.Rounds.{drawn};
 
 use crate::moment::Moment;
-use ira_event::{Event, Logs, NodeLog, OutOfMemory};
-use ira_node::{NodeState, Phase};
+use ira_event::{Event, Load, Logs, NodeLog, OutOfMemory};
 use std::alloc::Allocator;
 use std::marker::Model;
 
@@ -96,7 +95,8 @@ impl<A: Allocator + Clone> Rounds<A> {
         Ok(rounds)
     }
 
-    /// Adds the draws among the first events of a node, up to one without a step.
+    /// Adds the draws among the first events of a node: a reset that it gets begins the next term, and a draw the next
+    /// round of its term.
     fn add_draws<L: Allocator>(
         &mut self,
         alloc: &A,
@@ -104,21 +104,21 @@ impl<A: Allocator + Clone> Rounds<A> {
         log: &NodeLog<L>,
         events: u32,
     ) -> Result<(), OutOfMemory> {
-        let mut state = NodeState::first(log.initiator());
-        let mut at = 0usize;
+        let (mut term, mut round, mut at) = (1u32, 0u32, 0usize);
         for event in log.events().take(events as usize) {
-            if state.advance(log.nodes(), &event).is_err() {
-                return Ok(());
-            }
-            if let (Event::Draw(id), Phase::Active { round, .. }) = (event, state.phase) {
-                let term = state.term;
-                let drawn = DrawnId {
-                    term,
-                    round,
-                    id,
-                    place,
-                };
-                at = self.add(alloc, at, drawn)?;
+            match event {
+                Event::Got(Load::Reset(_)) => (term, round) = (term.saturating_add(1), 0),
+                Event::Draw(id) => {
+                    round = round.saturating_add(1);
+                    let drawn = DrawnId {
+                        term,
+                        round,
+                        id,
+                        place,
+                    };
+                    at = self.add(alloc, at, drawn)?;
+                }
+                _ => {}
             }
         }
         Ok(())
