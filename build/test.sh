@@ -126,20 +126,18 @@ trap 'rm -rf "$room"' EXIT
 trap 'exit 130' HUP INT TERM
 
 ran='' checked=''
-printf 'check %s\n' $checks > "$room/checks"
 {
     echo build unproved
     if command -v rt > /dev/null; then
         # the crates with the most tests first
         grep -rc --include='*.rt' '#\[test\]' crates/*/src | awk -F '[/:]' '{ tests[$2] += $NF }
-            END { for (it in tests) if (tests[it]) print tests[it], "tests", it }' | sort -rn | cut -d ' ' -f 2- |
-            sed "3r $room/checks"
+            END { for (it in tests) if (tests[it]) print tests[it], "tests", it }' | sort -rn | cut -d ' ' -f 2-
         for it in crates/*/stdout; do
             echo "program $(basename "$(dirname "$it")")"
         done
-    else
-        cat "$room/checks"
     fi
+    # last, since they wait for the program, and the shortest of them leave no core without work
+    printf 'check %s\n' $checks
 } > "$room/parts"
 echo "$(wc -l < "$room/parts") parts, $(nproc) at a time"
 xargs -P "$(nproc)" -L 1 sh build/test.sh < "$room/parts"
