@@ -62,9 +62,10 @@ program() {
     esac && echo 1 0 > "$to.counts" || echo 0 1 > "$to.counts"
 }
 
-# The checks that take minutes at most, the longest first, on a program of these sources: one that was proved, or else one
+# The checks that take minutes at most, the longest apart, on a program of these sources: one that was proved, or else one
 # that is built with no proof.
-checks='hints pictures plain examples script page web library json limits refusals pages completions version definitions names sentences weight'
+long_checks='examples hints pictures plain'
+checks='script page web library json limits refusals pages completions version definitions names sentences weight'
 
 build() {
     if ! ira=$(sh build/program.sh); then
@@ -126,17 +127,20 @@ trap 'rm -rf "$room"' EXIT
 trap 'exit 130' HUP INT TERM
 
 ran='' checked=''
+printf 'check %s\n' $long_checks > "$room/long"
 {
     echo build unproved
     if command -v rt > /dev/null; then
         # the crates with the most tests first
         grep -rc --include='*.rt' '#\[test\]' crates/*/src | awk -F '[/:]' '{ tests[$2] += $NF }
-            END { for (it in tests) if (tests[it]) print tests[it], "tests", it }' | sort -rn | cut -d ' ' -f 2-
+            END { for (it in tests) if (tests[it]) print tests[it], "tests", it }' | sort -rn | cut -d ' ' -f 2- |
+            sed "3r $room/long"
         for it in crates/*/stdout; do
             echo "program $(basename "$(dirname "$it")")"
         done
+    else
+        cat "$room/long"
     fi
-    # last, since they wait for the program, and the shortest of them leave no core without work
     printf 'check %s\n' $checks
 } > "$room/parts"
 echo "$(wc -l < "$room/parts") parts, $(nproc) at a time"
