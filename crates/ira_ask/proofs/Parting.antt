@@ -133,12 +133,6 @@ part_same word f g x y h k e =
 abbrev Differ : List ℕ → List ℕ → Type 0
 Differ v w = (f g : Formula) (x y : List ℕ) → part_text v f ++ x ≡ part_text w g ++ y → ⊥
 
-any_other : Differ (codes "any ") (codes "other ")
-any_other f g x y e = first_differs 97 111 _ _ refl e
-
-any_each : Differ (codes "any ") (codes "each other ")
-any_each f g x y e = first_differs 97 101 _ _ refl e
-
 any_all : Differ (codes "any ") (codes "all ")
 any_all f g x y e = first_differs 110 108 _ _ refl (append_cancel_left (codes "a") _ _ e)
 
@@ -176,9 +170,6 @@ pub sentence-regrouped : (s : Sentence) (x : List ℕ) → sentence_text s ++ x 
     ++ (parts_text (codes "other ") s.other ++ (parts_text (codes "each other ") s.each_other
     ++ (parts_text (codes "all ") s.all ++ x)))
 sentence-regrouped s x = simp append_assoc
-
-is-some : (f : Formula) (o : Option Formula) → o ≡ Some f → o ≢ None
-is-some f o e h = cc
 
 -- a part of another word that may follow comes behind `all`, or not at all
 no-part : (v : List ℕ) → Differ v (codes "all ") → (o : Option Formula) (x : List ℕ) → (o ≡ None → ¬ (BeginsWith v x))

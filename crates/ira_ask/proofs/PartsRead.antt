@@ -1,7 +1,7 @@
 -- The parts that were read are those of the text.
 use Rattle.std.proofs.Common.{◌≡◌, ◌≢◌, ◌≤◌, ◌⊎◌, ℕ, List, [], ◌++◌, length, Option, Some, None, refl, sym, ap, subst}
 use Rattle.std.proofs.Common.{◌∙◌, append_assoc, inl, inr}
-use Rattle.std.specs.Prelude.{codes, is_some}
+use Rattle.std.specs.Prelude.{codes}
 use Rattle.std.proofs.lemmas.List.{append_cancel_right, append-nil}
 use Rattle.ira_pred.specs.Formula.{Formula}
 use Rattle.ira_ask.specs.declared.sentence_fault.SentenceFault.{SentenceFault}
@@ -268,12 +268,6 @@ last_read text v w any other each all h k =
           l.none before.0 (subst (λ p. Comes p v) (h.last part before.1 came) came);
       all_fits = l.part_fits;
     }
-
-pub spelled-some : (clause : Option (List ℕ)) (f : Option Formula) → Spells clause f → is_some clause ≡ is_some f
-spelled-some None None h = refl
-spelled-some (Some t) (Some f) h = refl
-spelled-some None (Some f) h = absurd h
-spelled-some (Some t) None h = absurd h
 
 pub stops : (text rest : List ℕ) (left any other each all : Option (List ℕ)) (last : Option SentencePart)
     → left ≡ Some rest → (h : AreRead text left any other each all) → last ≡ last_part h.sentence

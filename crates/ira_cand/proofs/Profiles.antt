@@ -5,7 +5,7 @@ use Rattle.std.proofs.Common.{Option, Some, None, Result, Ok, Err, option_map, s
 use Rattle.std.proofs.Common.{append_assoc, length-append, drop, get_or, ◌<◌, refl, sym, ap, subst, ◌∙◌, arith, replicate}
 use Rattle.std.specs.Prelude.{OnErr, is_err, is_some}
 use Rattle.std.proofs.lemmas.Option.{slice_get-map}
-use Rattle.std.proofs.lemmas.List.Elements.{All-get_or, All-push, All-weaker, filter-append}
+use Rattle.std.proofs.lemmas.List.Elements.{All-get_or, filter-append}
 use Rattle.std.proofs.lemmas.List.{length-map, drop_more, drop_all, length-drop, get_or_append_left, length_push}
 use Rattle.std.proofs.lemmas.List.{map-append, append-nil, flat_map_more, length-replicate, replicate-append-replicate}
 use Rattle.ira_event.specs.declared.load.Load.{Load}
@@ -133,19 +133,6 @@ known_read f kinds known unnamed is k at pair here there =
     let same : pair ≡ answers_in f (in_first_round at) = cc in
     same ∙ ap (λ x. (x, test_of f (in_first_round at) true)) (told_by_kind f at false unnamed)
     ∙ ap (λ y. (test_of f at false, y)) (told_by_kind f at true unnamed)
-
--- spans have their kinds also once there are more of these
-still_have_kinds : (old new : List Stage) (spans : List PhaseSpan)
-    → ((k : ℕ) (kind : Stage) → slice_get old k ≡ Some kind → slice_get new k ≡ Some kind)
-    → All (HasKind old) spans → All (HasKind new) spans
-still_have_kinds old new spans kept h =
-    All-weaker (HasKind old) (HasKind new) (λ r. kept r.kind (in_first_round r.stage)) spans h
-
-pub one_span_more : (old new : List Stage) (spans : List PhaseSpan) (span : PhaseSpan)
-    → ((k : ℕ) (kind : Stage) → slice_get old k ≡ Some kind → slice_get new k ≡ Some kind)
-    → All (HasKind old) spans → HasKind new span → All (HasKind new) (spans ++ span ∷ [])
-one_span_more old new spans span kept theirs its =
-    All-push (HasKind new) spans span (still_have_kinds old new spans kept theirs) its
 
 pub kind_of_span : (kinds : List Stage) (spans : List PhaseSpan) (k : ℕ) (r : PhaseSpan)
     → All (HasKind kinds) spans → k < length spans → r ≡ get_or spans k r

@@ -1,5 +1,5 @@
 -- What a skip to a position removes from a rising list, and what it keeps.
-use Rattle.std.proofs.Common.{◌≡◌, ℕ, ◌<◌, ◌≤◌, List, [], ◌∷◌, true, false, nat_le, Some, None, slice_get, filter, drop}
+use Rattle.std.proofs.Common.{◌≡◌, ℕ, ◌<◌, ◌≤◌, List, [], ◌∷◌, true, nat_le, Some, None, slice_get, filter, drop}
 use Rattle.std.proofs.Common.{length, refl, ap, arith}
 use Rattle.std.specs.List.Sorted.{IsStrictlyIncreasing}
 use Rattle.std.proofs.lemmas.Bool.Decides.{nat_tests}
@@ -7,9 +7,6 @@ use Rattle.ira_cand.proofs.Rising.{rises_after}
 
 le_true : (p x : ℕ) → p ≤ x → nat_le p x ≡ true
 le_true p x h = grind (arith, nat_tests)
-
-le_false : (p x : ℕ) → x < p → nat_le p x ≡ false
-le_false p x h = grind (arith, nat_tests)
 
 all_kept : (p x : ℕ) (xs : List ℕ) → p ≤ x → IsStrictlyIncreasing (x ∷ xs) → filter (nat_le p) (x ∷ xs) ≡ x ∷ xs
 all_kept p x [] h r = rw (le_true p x h) refl
@@ -24,14 +21,6 @@ kept_from_first p x [] e h r = refl
 kept_from_first p x (y ∷ ys) e h r =
     let same : y ≡ x = cc in
     all_kept p y ys (omega arith) r
-
--- a first below p may be removed
-pub first_removed : (p x : ℕ) (xs : List ℕ) → slice_get xs 0 ≡ Some x → x < p
-    → filter (nat_le p) (drop 1 xs) ≡ filter (nat_le p) xs
-first_removed p x [] e h = refl
-first_removed p x (y ∷ ys) e h =
-    let same : y ≡ x = cc in
-    rw (le_false p y (omega arith)) refl
 
 pub nothing_left : (xs : List ℕ) → slice_get xs 0 ≡ None → xs ≡ []
 nothing_left [] e = refl

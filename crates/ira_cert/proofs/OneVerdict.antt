@@ -27,9 +27,6 @@ module _ (logs : List Log) (case : List Conjunct) (differ : HasDifferentPlaces c
   asked_from_front : (i p : ℕ) → IsFront logs case before i p → IsAsked case i
   asked_from_front i p h = (h.1.formula, h.1.asked)
 
-  asked_from_spent : (i : ℕ) → IsSpent logs case before i → IsAsked case i
-  asked_from_spent i h = (h.1.formula, h.1.asked)
-
   -- a node has no candidate left, or a first one
   pub front_unspent : (i p : ℕ) → IsFront logs case before i p → ¬ (IsSpent logs case before i)
   front_unspent i p front spent =

@@ -38,7 +38,7 @@ module _ (logs : List Log) (cut : List ℕ) (m n : Moment) (is : IsMoment logs c
 
   over_too : (standing : Standing) → SomeNodeLeads m → Stands n standing → standing ≡ over
   over_too over leads stands = refl
-  over_too (goes_on next) leads stands = absurd (stands.0 (some_leads leads))
+  over_too (goes_on next contenders) leads stands = absurd (stands.0 (some_leads leads))
 
 -- where there are no lines by some, there are none by all
 none_over : (logs : List Log) (is_over : Bool) (lines others : List ℕ) → AreLinesOver logs is_over lines

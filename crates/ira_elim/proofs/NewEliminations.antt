@@ -1,6 +1,6 @@
 -- After an elimination, whatever is eliminated anew is so by the node that moved: each other elimination is of
 -- two nodes that had one before.
-use Rattle.std.proofs.Common.{◌≡◌, ◌≢◌, ℕ, ◌+◌, ◌<◌, ◌≤◌, inl, inr, List, Option, Some, None, slice_get, slice_index}
+use Rattle.std.proofs.Common.{◌≡◌, ◌≢◌, ℕ, ◌+◌, ◌≤◌, inl, inr, List, Option, Some, None, slice_get}
 use Rattle.std.proofs.Common.{slice_index_or, drop, refl, sym, ◌∙◌, ap, subst, arith}
 use Rattle.std.specs.Option.{option_map}
 use Rattle.std.proofs.lemmas.Bool.{cases_eq}
@@ -9,7 +9,6 @@ use Rattle.std.proofs.lemmas.Option.{same_Some, get_or_from_slice_get, slice_get
 use Rattle.ira_event.specs.Log.{Log}
 use Rattle.ira_pred.specs.Case.{Conjunct}
 use Rattle.ira_order.specs.Before.{Before, own, onward}
-use Rattle.ira_order.specs.VectorClock.{AreCountsOfOthers}
 use Rattle.ira_order.proofs.Acyclic.{before_within}
 use Rattle.ira_order.proofs.Bridge.{before_places}
 use Rattle.ira_cert_text.specs.declared.cert_step.CertStep.{CertStep}
@@ -18,10 +17,8 @@ use Rattle.ira_cert.specs.QueuesAfter.{AreQueuesAfter}
 use Rattle.ira_cert.proofs.QueueHeads.{one_fewer, slice_get-drop, slice_get-set_same, slice_get-set_other}
 use Rattle.ira_cert.proofs.NoCut.{rising_le}
 use Rattle.ira_cert.specs.Queues.{HasList}
-use Rattle.ira_elim.specs.Elimination.{HasEliminations, IsElimination, IsFirstLeft, AreWithin}
+use Rattle.ira_elim.specs.Elimination.{HasEliminations, IsElimination, IsFirstLeft}
 use Rattle.ira_elim.specs.PairSet.{Has}
-use Rattle.ira_elim.proofs.Places.{one_first}
-use Rattle.ira_elim.proofs.Present.{before_counts}
 
 -- an earlier event of the node happened before it too
 pub before_earlier : (logs : List Log) (i a b j c : ℕ) → 1 ≤ a → a ≤ b → Before logs i b j c → Before logs i a j c
@@ -30,17 +27,6 @@ before_earlier logs i a b j c first le before = elim (cases_eq a b) [
   | inr other ↦ onward (own refl (before_places logs i b j c before).0 first (omega (arith, le, other))
       (before_within logs i b j c before).1) before
 ]
-
--- an event of a node that is eliminated is counted where it happened before
-pub is_counted : (logs : List Log) (queues : List (Option (List ℕ))) (i p j q : ℕ) (counts : List ℕ)
-    → AreCountsOfOthers logs j q counts → AreWithin logs queues → IsFirstLeft queues i p → IsFirstLeft queues j q
-    → (s : CertStep) → s.node ≡ i → s.other ≡ j → IsElimination logs queues s → p < slice_index counts i
-is_counted logs queues i p j q counts are inside first other_first s at by is =
-    let at_p : s.pos ≡ p = one_first queues s.node i s.pos p at is.front first in
-    let at_q : s.other_pos ≡ q = one_first queues s.other j s.other_pos q by is.other_front other_first in
-    let happened : Before logs i (p + 1) j q = rw (at, by, at_p, at_q) at is.happened_before in
-    before_counts logs j q i (slice_index counts i) p
-    (are.others i (inside i p first).0 (λ e. is.differ (at ∙ e ∙ sym by))) happened
 
 module _ (logs : List Log) (case : List Conjunct) (before : List CertStep) (queues left : List (Option (List ℕ)))
     (queues_after : AreQueuesAfter logs case before queues) (s : CertStep) (is : IsElimination logs queues s)

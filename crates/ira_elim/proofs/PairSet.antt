@@ -83,17 +83,6 @@ no_pairs words none a b has =
 -- ---- the words
 
 module _ (words filled : List ℕ) (are : AreWords words filled) where
-  -- where no word has a bit, there is no pair
-  pub none_filled : ((i : ℕ) → i < 16 → get_or filled i 0 ≡ 0) → (a b : ℕ) → ¬ (Has words a b)
-  none_filled zero a b has =
-      let w = word_of a b in
-      let below = word_below a b has.0 has.1 in
-      let bit : bit_at (get_or filled (w / 64) 0) (w % 64) ≡ 1 =
-      (are.bits w below).1 (not_zero (get_or words w 0) (b % 64) has.2.2) in
-      let none : bit_at (get_or filled (w / 64) 0) (w % 64) ≡ 0 =
-      ap (λ (k : ℕ). bit_at k (w % 64)) (zero (w / 64) (omega (arith, below))) ∙ bit_at-zero (w % 64) in
-      omega (arith, bit, none)
-
   -- the first bit of a word that has one
   pub least : (i f w word : ℕ) → i < 16 → f ≡ get_or filled i 0 → w ≡ 64 * i + trailing_zeros w64 f
       → word ≡ get_or words w 0 → 0 < f → f < 2 ^ 64 → word < 2 ^ 64

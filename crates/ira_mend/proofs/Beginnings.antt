@@ -1,5 +1,5 @@
 -- A beginning of a log, an event longer or shorter.
-use Rattle.std.proofs.Common.{◌≡◌, ℕ, ◌+◌, ◌-◌, ◌<◌, ◌≤◌, inl, inr, List, ◌∷◌, length, refl, sym, ◌∙◌, ap, subst}
+use Rattle.std.proofs.Common.{◌≡◌, ℕ, ◌+◌, ◌-◌, ◌<◌, ◌≤◌, inl, inr, List, ◌∷◌, length, sym, ◌∙◌, ap, subst}
 use Rattle.std.proofs.Common.{arith, drop, take, Some}
 use Rattle.std.specs.Prelude.{slice_get}
 use Rattle.std.proofs.lemmas.Bool.{cases_eq}
@@ -18,9 +18,6 @@ pub record Counting (es : List Event) (n r s : ℕ) (rest : List Event) : Type 0
   pub receipts : r ≡ length (got (take n es))
   pub sendings : s ≡ length (sent (take n es))
   pub left : rest ≡ drop n es
-
-pub counting_none : (es : List Event) → Counting es 0 0 0 es
-counting_none es = record { within = omega arith; receipts = refl; sendings = refl; left = refl }
 
 pub counting_more : (es : List Event) (n r s r' s' : ℕ) (e : Event) (rest rest' : List Event) → Counting es n r s rest
     → rest ≡ e ∷ rest' → r' ≡ r + got_by e → s' ≡ s + sent_by e → Counting es (n + 1) r' s' rest'

@@ -1,5 +1,5 @@
 -- What is kept of the logs, a link more settled.
-use Rattle.std.proofs.Common.{◌≡◌, ◌≢◌, ℕ, ◌+◌, ◌<◌, ◌≤◌, ◌⊎◌, inl, inr, List, ◌++◌, Bool, length, refl, sym, ◌∙◌, ap}
+use Rattle.std.proofs.Common.{◌≡◌, ◌≢◌, ℕ, ◌+◌, ◌<◌, ◌≤◌, ◌⊎◌, inl, inr, List, ◌++◌, Bool, length, sym, ◌∙◌, ap}
 use Rattle.std.proofs.Common.{arith, drop, take, true, false, set, length-set, get_or-set_same, get_or-set_other}
 use Rattle.std.specs.Prelude.{slice_index}
 use Rattle.std.proofs.Math.Seq.{take-append_seam}
@@ -15,19 +15,6 @@ use Rattle.ira_mend.specs.Beginning.{IsGreatestBeginning, receipts_in}
 use Rattle.ira_mend.specs.Longest.{AreBeginnings, BoundsAll, HasSendings, IsBeginning, IsLongestWith, IsSettled}
 use Rattle.ira_mend.specs.Longest.{events_kept, kept_of, nothing}
 use Rattle.ira_mend.specs.declared.beginning.Beginning.{Beginning}
-
--- a link that has its sendings
-pub settled_before : (logs : List Log) (kept : List Beginning) (link : ℕ) → AreBeginnings logs kept
-    → (kept_of kept (next (length logs) link)).receipts ≤ (kept_of kept link).sendings
-    → IsSettled logs link kept kept false
-settled_before logs kept link are few = record {
-  kept = are;
-  bounds = λ bounds. bounds;
-  here = rw are.places few;
-  others = λ i l ne holds. holds;
-  fell = λ e. (let z : ⊥ = cc in absurd z);
-  stayed = λ e. refl;
-}
 
 -- a link whose reader was shortened to this beginning
 module _ (logs : List Log) (kept : List Beginning) (link : ℕ) (b : Beginning) (two : 2

@@ -19,7 +19,6 @@ use Rattle.std.proofs.lemmas.List.{take_all, take-append-le, length_push}
 use Rattle.std.proofs.lemmas.List.Elements.{All-push}
 use Rattle.std.proofs.lemmas.List.Sums.{sum_by_push}
 use Rattle.std.proofs.lemmas.Bool.{ne_eqb, eq-eqb, cases_lt, cases_eq}
-use Rattle.std.proofs.lemmas.Bool.Decides.{nat_tests}
 
 pub rank_le : (h : Event → Option Load) (es : List Event) (n : ℕ) → length (filter_map h (take n es)) ≤ n
 rank_le h es zero = omega arith
@@ -44,10 +43,6 @@ counted_more h es n e is =
     rank_more h es n e (slice_get_within es n e is)
     ∙ ap (λ (x : Event). length (filter_map h (take n es)) + length (cons_option (h x) []))
     (get_or_from_slice_get es n e e is)
-
--- the one link that leads to a node
-pub only_link : (n i j : ℕ) → i < n → j < n → next n j ≡ i → (i ≡ 0 → j ≡ n - 1) × (i ≢ 0 → j ≡ i - 1)
-only_link n i j li lj e = (λ z. grind (arith, nat_tests), λ z. grind (arith, nat_tests))
 
 pub occurrences_push_same : (places : List ℕ) (i : ℕ) → occurrences (places ++ i ∷ []) i ≡ occurrences places i + 1
 occurrences_push_same places i = sum_by_push _ places i ∙ rw (eq-eqb i i refl)

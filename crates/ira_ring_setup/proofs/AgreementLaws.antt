@@ -8,11 +8,8 @@ use Rattle.ira_node.specs.NodeState.{first_state}
 use Rattle.ira_event.specs.Log.{Log}
 use Rattle.ira_order.specs.Ring.{prev, log_of, events_of}
 use Rattle.ira_order.specs.Matching.{sent, got}
-use Rattle.ira_order.specs.Circle.{HasOrder}
-use Rattle.ira_order.specs.Run.{places_of}
-use Rattle.ira_order.specs.RunsOfLogs.{EveryOrderIsRun}
 use Rattle.ira_order.proofs.Runs.{prev_below}
-use Rattle.ira_order.proofs.RunsOfLogs.{run_is_order, every_order_is_run}
+use Rattle.ira_order.proofs.RunsOfLogs.{every_order_is_run}
 use Rattle.ira_ring_setup.specs.declared.node_end.NodeEnd.{NodeEnd}
 use Rattle.ira_ring_setup.specs.declared.node_end.NodeEnd.TheVariants.{Leader, Stopped, DrawsSpent, LogFull, NoStep, Quiet}
 use Rattle.ira_ring_setup.specs.Setup.{Setup, KeepsRules, is_initiator, node_draws}
@@ -28,7 +25,6 @@ use Rattle.ira_ring_setup.proofs.AgreementEnds.{shown_stays, shows_one_end}
 use Rattle.ira_ring_setup.proofs.AgreementRound.{all_round, IsWaiting, no_further}
 use Rattle.ira_ring_setup.proofs.Beginnings.{sends_begin, same_items}
 use Rattle.ira_election.proofs.AnOrder.{local_runs_have_an_order}
-use Rattle.ira_ring_setup.proofs.FullRuns.{full_run_is_run}
 use Rattle.ira_ring_setup.proofs.GoingOn.{full_runs_are_busy, recorded_runs, recording_has_own_end}
 use Rattle.ira_ring_setup.proofs.Places.{get_map, get_within}
 
@@ -69,12 +65,6 @@ full_logs_same s logs a full b =
     (λ i l. sym (b.events i (omega (arith, b.of_setup.number)))
     ∙ full_runs_same s b.run a.run b.end a.end (two s logs a.of_setup) b.full a.full i l
     ∙ a.events i (omega (arith, a.of_setup.number)))
-
--- they have an order, and each is a run
-pub full_logs_ordered : (s : Setup) (logs : List Log) → AreFullLogs s logs → HasOrder logs × EveryOrderIsRun logs
-full_logs_ordered s logs a =
-    let h = run_is_order logs a.run a.of_setup.ring (full_run_is_run s logs a.run a.end a.of_setup a.full) a.events in
-    ((h.0, places_of a.run, h.2), every_order_is_run logs a.of_setup.ring h.0 h.1)
 
 -- so a lone run has the logs of each full run
 pub lone_logs_same : (s : Setup) (run : Run) → IsLoneRun s run → AreOfEachFullRun s run.logs

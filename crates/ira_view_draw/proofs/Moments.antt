@@ -1,12 +1,12 @@
 -- Cuts of moments.
-use Rattle.std.proofs.Common.{◌≡◌, ◌∙◌, ℕ, List, [], Option, Some, None, ap, arith, inl, inr, length, refl, sym}
+use Rattle.std.proofs.Common.{◌≡◌, ◌∙◌, ℕ, List, [], Option, Some, ap, length, refl, sym}
 use Rattle.std.specs.Prelude.{option_map}
 use Rattle.std.specs.Option.{ForSome}
-use Rattle.std.proofs.lemmas.Option.{get_or_from_slice_get, slice_get_cases}
+use Rattle.std.proofs.lemmas.Option.{get_or_from_slice_get}
 use Rattle.ira_event.specs.Log.{Log}
 use Rattle.ira_pred.specs.Case.{Conjunct}
 use Rattle.ira_view_draw.specs.MomentLine.{asked_of, cut_with_line}
-use Rattle.ira_view_moment.specs.ChosenMoment.{HasItsCase, IsMomentOf, case_of, cut_of, numbers_of}
+use Rattle.ira_view_moment.specs.ChosenMoment.{IsMomentOf, case_of, cut_of, numbers_of}
 use Rattle.ira_view_moment.specs.declared.chosen_moment.ChosenMoment.{ChosenMoment}
 use Rattle.ira_view_moment.specs.declared.chosen_moment.ChosenMoment.TheVariants.{AtEnd, AtCut, OfCase, Unmet}
 use Rattle.ira_view_moment.specs.Told.{told_of}
@@ -33,18 +33,6 @@ numbers_have_line logs AtEnd = refl
 numbers_have_line logs (AtCut cut) = refl
 numbers_have_line logs (OfCase question number cut) = refl
 numbers_have_line logs (Unmet number) = refl
-
--- a moment's case is what it asks
-pub asked_nothing : {A : Type 0} (moment : ChosenMoment A) → HasItsCase moment → case_of moment ≡ None
-    → asked_of (told_of moment) ≡ []
-asked_nothing AtEnd has none = refl
-asked_nothing (AtCut cut) has none = refl
-asked_nothing (OfCase question number cut) has none =
-    elim (slice_get_cases question.cases number).1 [
-      | inl some ↦ absurd (let at = some.2 in cc)
-      | inr far ↦ absurd (omega (arith, far.0, has))
-    ]
-asked_nothing (Unmet number) has none = refl
 
 pub asked_case : {A : Type 0} (moment : ChosenMoment A) (case : List Conjunct) → case_of moment ≡ Some case
     → asked_of (told_of moment) ≡ case

@@ -1,7 +1,7 @@
 -- Clauses of a case in the lines of a question's text, one more at a time.
 use Rattle.std.proofs.Common.{◌≡◌, ◌∙◌, ◌<◌, ℕ, ◌+◌, List, [], ◌∷◌, ◌++◌, Option, Some, append_assoc, append-nil, ap}
 use Rattle.std.proofs.Common.{arith}
-use Rattle.std.proofs.Common.{◌≤◌, false, length, nat_le, refl, subst, true}
+use Rattle.std.proofs.Common.{◌≤◌, false, length, nat_le, refl, subst}
 use Rattle.std.proofs.lemmas.Bool.Decides.{nat_tests}
 use Rattle.std.specs.Prelude.{codes}
 use Rattle.std.specs.List.{flat_map}
@@ -50,9 +50,6 @@ all_clauses question cases number n m lines same are =
 
 pub more_clauses : (count : ℕ) → 8 < count → more_clauses_text count ≡ codes ", .."
 more_clauses count many = (let test : nat_le count 8 ≡ false = grind (arith, nat_tests) in rw test refl)
-
-pub no_more_clauses : (count : ℕ) → count ≤ 8 → more_clauses_text count ≡ []
-no_more_clauses count few = (let test : nat_le count 8 ≡ true = grind (arith, nat_tests) in rw test refl)
 
 -- what is scanned after a place is there
 pub placed_there : (line clause : List ℕ) (place : ℕ) → place_at line ≡ Some (place, clause)

@@ -1,23 +1,12 @@
 -- Sections of a certificate that aren't sound.
-use Rattle.std.proofs.Common.{◌≡◌, ◌<◌, ℕ, List, inl, inr, length, subst, sym}
+use Rattle.std.proofs.Common.{◌≡◌, ◌<◌, ℕ, List, length, subst}
 use Rattle.std.proofs.lemmas.Option.{slice_get_within}
 use Rattle.ira_cert.specs.declared.unsound.Unsound.{Unsound}
-use Rattle.ira_cert.specs.declared.section_fault.SectionFault.{SectionFault}
 use Rattle.ira_cert.specs.declared.section_fault.SectionFault.TheVariants as fault
 use Rattle.ira_cert.specs.SectionFault.{IsSectionFault, not_spent, unsound}
 use Rattle.ira_event.specs.Log.{Log}
 use Rattle.ira_pred.specs.Case.{Conjunct}
 use Rattle.ira_cert_text.specs.Certificate.{Section}
-use Rattle.ira_audit.specs.declared.reason.Reason.TheVariants as reason
-use Rattle.ira_audit.specs.Refusal.{IsSectionsRefusal}
-
--- the case of the first one that isn't sound is there
-pub unsound_case : (logs : List Log) (cases : List (List Conjunct)) (sections : List Section) (i : ℕ) (f : SectionFault)
-    → IsSectionsRefusal logs cases sections (reason.Section i f) → i < length cases
-unsound_case logs cases sections i f (inl other) = absurd (let no = other.1 in cc)
-unsound_case logs cases sections i f (inr one) =
-    let same : i ≡ one.1 = (let is = one.3 in cc) in
-    subst (λ k. k < length cases) (sym same) (slice_get_within cases one.1 one.4.case one.4.case_at)
 
 -- the step that a fault names is there
 pub step_within : (logs : List Log) (case : List Conjunct) (section : Section) (number : ℕ) (why : Unsound)

@@ -11,9 +11,6 @@ use Rattle.ira_order.proofs.OrderPrefixes.{counted_more}
 use Rattle.ira_order.proofs.Ranks.{rank_mono}
 use Rattle.ira_view_trail.specs.Right.{HasPicked}
 
-pub none_picked : (h : Event → Option Load) (events : List Event) (row : List ℕ) → HasPicked h events row 0 []
-none_picked h events row = record { count = omega arith; each = λ a e m less at is. absurd (omega (arith, less)) }
-
 one_more : (h : Event → Option Load) (events : List Event) (n : ℕ) (e : Event) (m : Load) → slice_get events n ≡ Some e
     → h e ≡ Some m → length (filter_map h (take (n + 1) events)) ≡ length (filter_map h (take n events)) + 1
 one_more h events n e m at is =

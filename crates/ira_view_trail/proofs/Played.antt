@@ -5,7 +5,7 @@ use Rattle.std.specs.Prelude.{◌-◌, slice_index_or}
 use Rattle.std.proofs.lemmas.Bool.{cases_eq, cases_lt}
 use Rattle.std.proofs.lemmas.List.{get_or_past, take_all, take-append-le}
 use Rattle.std.proofs.lemmas.Grind.{get_or_default_zero}
-use Rattle.std.proofs.lemmas.List.Elements.{All-nil, All-push}
+use Rattle.std.proofs.lemmas.List.Elements.{All-push}
 use Rattle.std.proofs.lemmas.Option.{slice_get-get_or, slice_get_within}
 use Rattle.ira_event.specs.Log.{Log}
 use Rattle.ira_order.specs.Order.{StandsAt, occurrences}
@@ -42,15 +42,6 @@ stands_push order p t j b stands = elim (found_in_push order p t j stands.0) [
 module _ (logs : List Log) (column : ℕ → ℕ → ℕ)
     (own : (i a b : ℕ) → IsEvent logs i b → 1 ≤ a → a < b → column i a < column i b)
     (first : (i a : ℕ) → IsEvent logs i a → 1 ≤ column i a) where
-  pub none_played : IsPlayedTo logs column 1 0 []
-  none_played = record {
-    places = All-nil (λ p. p < length logs);
-    within = λ i l. omega arith;
-    there = λ i a is less. absurd (omega arith);
-    ahead = λ i a is l. (λ q. absurd (omega (arith, q, is.first)), λ q. absurd (omega (arith, q, first i a is)));
-    closed = λ t j b i a stands is less. (let z : ⊥ = cc in absurd z);
-  }
-
   module _ (now p : ℕ) (order : List ℕ) (here : p < length logs) (to : IsPlayedTo logs column now p order) where
     -- the node's next event isn't at this column
     pub played_over : (IsEvent logs p (suc (occurrences order p)) → column p (suc (occurrences order p)) ≢ now)
@@ -149,19 +140,6 @@ module _ (logs : List Log) (column : ℕ → ℕ → ℕ)
                 ])
           ];
         }
-
-  pub next_column : (now : ℕ) (order : List ℕ) → IsPlayedTo logs column now (length logs) order
-      → IsPlayedTo logs column (suc now) 0 order
-  next_column now order to = record {
-    places = to.places;
-    within = to.within;
-    there = λ i a is less. absurd (omega arith);
-    ahead = λ i a is l. (let t = to.there i a is is.place in (
-      λ held. omega (arith, t.0 held),
-      λ low. t.1 (omega (arith, low)),
-    ));
-    closed = to.closed;
-  }
 
   pub all_played : (last : ℕ) (order : List ℕ) → ((i a : ℕ) → IsEvent logs i a → column i a ≤ last)
       → IsPlayedTo logs column (suc last) 0 order → IsPlayed logs column order
