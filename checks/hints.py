@@ -28,7 +28,7 @@ LEAST = {
     'sendings exchanged': 113, 'read backwards': 18, 'sending twice': 77, 'receipt twice': 77, 'sending missing': 77,
     'receipt missing': 69, 'receipt and its sending missing': 49, 'no receipts': 19, 'no resets': 1,
     'too many records': 6, 'log of another run': 20, 'two runs': 5, 'UTF-16': 18, 'NUL bytes': 12, 'place from 1': 6,
-    'hop of a reset': 3,
+    'hop of a reset': 3, 'sent past a node': 33, 'head counted': 12, 'names exchanged': 33,
 }
 FIELD = {1: 'round', 2: 'ID', 3: 'hop', 4: 'bit'}
 
@@ -109,7 +109,7 @@ RECORDS = {
     'sending twice': 'sent twice', 'receipt twice': 'came twice|recorded twice', 'sending missing': UNSENT,
     'receipt missing': 'receipts? (is|are) not recorded|a receipt too|never received',
     'receipt and its sending missing': 'both|(is|are) not recorded',
-    'no receipts': 'no receipt', 'no resets': 'no reset', 'too many records': 'at most 100,000 records',
+    'sent past a node': 'to the wrong node', 'no receipts': 'no receipt', 'no resets': 'no reset', 'too many records': 'at most 100,000 records',
 }
 
 
@@ -126,6 +126,12 @@ def records(logs):
                 yield planted(f'{name} missing', node, events[:at] + events[at + 1:])
             if name == 'receipt' and [e[0] for e in events[at + 1:at + 2]] == ['send']:
                 yield planted('receipt and its sending missing', node, events[:at] + events[at + 2:])
+                number, after = sum(e[0] == 'send' for e in events[:at]), (node + 1) % len(logs)
+                initiator, past = logs[after]
+                for place in [k for k, e in enumerate(past) if e[0] == 'recv'][number:number + 1]:
+                    case = planted('sent past a node', node, events[:at] + events[at + 2:])
+                    case.logs[after] = initiator, [*past[:place], event, *past[place + 1:]]
+                    yield case
         yield planted('no receipts', node, [event for event in events if event[0] != 'recv'])
     yield planted('too many records', 0, [*logs[0][1], *[('draw', '1')] * 100_001])
     rest = [(start, [e for e in events if e[0] != 'yield' and e[1] != 'reset']) for start, events in logs]
@@ -142,15 +148,22 @@ def runs(logs, others):
 
 
 def texts(logs):
-    """A log's text that isn't one: its bytes, or its head; and resets that nobody owes, or with another hop."""
+    """A log's text that isn't one: its bytes, its head, or its end; files with each other's names; and resets that nobody
+    owes, or with another hop."""
     text = log_text(logs[0], 0, len(logs), 1)
     for kind, wrong, right in (
             ('UTF-16', [text.decode().encode(code) for code in ('utf-16', 'utf-16-le', 'utf-16-be')], 'UTF-16'),
             ('NUL bytes', [b'\0' * len(text), b'\0'], 'NUL bytes'),
             ('bytes of no text', [b'a\0b', b'\0a\n', b'\0\0i\0'], NEVER),
+            ('head counted', [re.sub(rb'end \d+', b'end %d' % (len(logs[0][1]) + more), text.replace(b'irlog 1', b'irlog 2'))
+                              for more in (4, 5)], 'head is counted'),
             ('place from 1', [text.replace(b'place 0', b'place %d' % len(logs))], 'count from 0')):
         for changed in wrong:
             yield Case(kind, [changed, *logs[1:]], 0, right)
+    for i, j in itertools.combinations(range(len(logs)), 2):
+        files = [log_text(log, place, len(logs), 2) for place, log in enumerate(logs)]
+        files[i], files[j] = files[j], files[i]
+        yield Case('names exchanged', files, None, "each other's places")
     for node, (initiator, events) in enumerate(logs):
         for at, event in enumerate(events):
             if event[:2] == ('send', 'reset'):

@@ -133,7 +133,7 @@ def check_evidence(names, page, answer):
             step = 'drop {node} {pos} by {other} {other_pos}' if role == 'step' else 'spent {node}'
             assert line == step.format(**value), value
     reason = answer['reason']
-    of_reason = {None: set(), 'log': {'line'}, 'heads': {'head'}, 'link': {'sent', 'received'},
+    of_reason = {None: set(), 'log': {'line'}, 'heads': {'head'}, 'link': {'sent', 'received', 'other'},
                  'circle': {'sent', 'received'}, 'node': {'event', 'other'}, 'question': {'line'},
                  'certificate': {'line'}, 'sections': {'line'}, 'case': {'step', 'spent', 'front'}}
     assert set(roles) <= of_reason[reason] and (reason is None or roles), answer
@@ -145,6 +145,11 @@ def check_evidence(names, page, answer):
         assert ring.got[answer['link']][k - 1] == received['event']
         sent = [value['event'] for value in roles.get('sent', [])]
         assert sent == ring.sent[answer['link']][k - 1:k] and ring.mismatch() is not None
+        stops = {i: len(states) for i, states in enumerate(ring.states) if len(states) <= len(ring.events[i])}
+        before = [i for i, p in ((answer['link'], sent[0] if sent else 0), (received['node'], received['event']))
+                  if stops.get(i, p) < p]
+        told = [(v['node'], v['event'], v['happened_before']) for v in roles.get('other', [])]
+        assert told == [(i, stops[i], i in before) for i in (before or sorted(stops))[:1]], answer
     elif reason == 'circle':
         ring = Ring(names)
         assert [(v['node'], v['event']) for v in roles['received']] == [(i, p + 1) for i, p in enumerate(ring.stuck)]

@@ -69,12 +69,14 @@ def check_rounds(block, ring, at):
     assert ([f'  and {left} more'] if left else []) == block[1 + len(rows):], block
 
 
+def places(named):
+    return ', '.join(map(str, named[:NODES])) + (f' and {len(named) - NODES} more' if len(named) > NODES else '')
+
+
 def round_row(drawn, key, head):
     (term, number), ids = key, drawn[key]
     greatest = max(ids.values())
-    named = [i for i in sorted(ids) if ids[i] == greatest]
-    listed = ', '.join(map(str, named[:NODES])) + (f' and {len(named) - NODES} more' if len(named) > NODES else '')
-    row = [str(number), str(len(ids)), str(greatest), listed]
+    row = [str(number), str(len(ids)), str(greatest), places([i for i in sorted(ids) if ids[i] == greatest])]
     return [str(term), *row] if 'term' in head else row
 
 
@@ -124,9 +126,21 @@ def next_of(ring, at):
             yield i, 'receives ' + first[i]
 
 
+def contenders_of(ring, names, at):
+    """Who begins to choose in the latest term and was outdrawn in no round of it; nobody where none drew there, or its
+    leader yields, or they are all nodes."""
+    drawn, now = draws_of(ring, at), [states[at[i]] for i, states in enumerate(ring.states)]
+    term = max((term for term, _ in drawn), default=None)
+    if term is None or any(state.term > term or state.phase == 'yielding' for state in now):
+        return []
+    out = {i for (t, _), ids in drawn.items() if t == term for i in ids if ids[i] < max(ids.values())}
+    able = [i for i, name in enumerate(names) if i not in out and (term > 1 or read(name)[0])]
+    return able if len(able) < ring.n else []
+
+
 def check_election(block, ring, names, at):
-    """That the election is over just where a node leads, and else what comes next; where a node is an initiator that is
-    something just where none leads."""
+    """That the election is over just where a node leads, and else who can still lead, and what comes next; where a node is
+    an initiator that is something just where none leads."""
     due = [f'  node {i} {what}' for i, what in next_of(ring, at)]
     leads = any(states[at[i]].phase == 'leader' for i, states in enumerate(ring.states))
     started = any(read(name)[0] for name in names)
@@ -134,7 +148,9 @@ def check_election(block, ring, names, at):
     if leads:
         wanted = ['  The election is over.']
     elif due:
-        wanted = ["  The election isn't over. What comes next:", *due]
+        able = contenders_of(ring, names, at)
+        only = f" By the draws none but node{'s' * (len(able) > 1)} {places(able)} can lead in this term." if able else ''
+        wanted = [f"  The election isn't over.{only} What comes next:", *due]
     else:
         wanted = ["  The election isn't over, and nothing comes next: no node is an initiator."]
     assert block == wanted, (block, wanted)

@@ -1,40 +1,60 @@
 -- What comes of some folders, one after another.
-use Rattle.std.proofs.Common.{◌≡◌, ◌∙◌, ◌<◌, ◌+◌, ℕ, zero, suc, List, [], ◌∷◌, ◌++◌, Option, Some, None, IfSome, ap, append-nil, drop}
-use Rattle.std.proofs.Common.{◌≤◌, Err, append_assoc, arith, inl, inr, length, min, refl, subst, sym, take}
+use Rattle.std.proofs.Common.{◌≡◌, ◌∙◌, ◌⊎◌, ◌<◌, ◌+◌, ℕ, Bool, false, true, zero, suc, Some, List, [], ◌∷◌, ◌++◌, ap}
+use Rattle.std.proofs.Common.{◌≤◌, Err, Ok, Result, append-nil, append_assoc, arith, drop, inl, inr, length, min, refl, subst, sym, take}
 use Rattle.std.proofs.Math.Seq.{take-add}
 use Rattle.std.proofs.lemmas.List.{length-take, take_all, take_more}
 use Rattle.std.specs.Borrow.{Bor}
 use Rattle.std.specs.List.{AllZip}
-use Rattle.std.specs.Prelude.{slice_get, slice_index_or}
+use Rattle.std.specs.Prelude.{IfOk, slice_get, slice_index_or}
 use Rattle.ira_event.proofs.Writing.{Appends-nothing, Takes-StopsIn}
 use Rattle.ira_event.specs.Sink.{SinkState, Takes}
-use Rattle.ira_audit.proofs.Zipped.{zipped_more}
-use Rattle.ira_event.specs.Log.{Log}
 use Rattle.ira_audit.specs.Report.{IsReportable}
-use Rattle.ira_audit.specs.declared.answer.Answer.TheVariants as audit
-use Rattle.ira_main_cli.specs.declared.expectation.Expectation.{Expectation}
-use Rattle.ira_main_files.specs.Shelf.{Reading}
-use Rattle.ira_main.specs.Each.{AreAnswersOf, AreTold, FolderTelling, IsAnswerOf, IsFolderAnswer}
-use Rattle.ira_main.specs.Each.{IsUntold, TellsEach}
+use Rattle.ira_commands.specs.declared.expected.Expected.{Expected}
+use Rattle.ira_main.specs.Each.{AreTold, FolderTelling, IsBelow, IsExplained, IsUntold, TellsEach}
 use Rattle.ira_main.specs.Each.TellsEach.{no_memory, stopped}
-use Rattle.ira_main.specs.FolderText.{AreTellable, IsTellable}
-use Rattle.ira_main.specs.JudgedFolder.{IsElectionJudged, IsJudgedOf, answer_of}
+use Rattle.ira_main.specs.Judge.{asked_of, has_reasons}
+use Rattle.ira_main_cli.specs.declared.folder_detail.FolderDetail.{FolderDetail}
+use Rattle.ira_main_cli.specs.declared.folder_detail.FolderDetail.TheVariants.{Line, Reasons}
+use Rattle.ira_main.specs.JudgedFolder.{IsJudgedOf}
 use Rattle.ira_main.specs.JudgedFolder.IsJudgedOf.{good, no}
 use Rattle.ira_main.specs.Outcome.{Outcome}
-use Rattle.ira_main.specs.declared.program_fault.ProgramFault.{ProgramFault}
-use Rattle.ira_main.specs.declared.program_fault.ProgramFault.TheVariants.{CannotRead, CannotReadSome, CannotWrite, CannotWriteAnswer}
-use Rattle.ira_main.specs.declared.program_fault.ProgramFault.TheVariants.{CannotWriteLog, OtherEnding, OutOfMemory, Refused, WordIsNoText}
-use Rattle.ira_main.specs.declared.program_fault.ProgramFault.TheVariants.{NoPlaceInLine, Words, WouldOverwrite}
-use Rattle.ira_main.specs.declared.folder_answer.FolderAnswer.{FolderAnswer}
-use Rattle.ira_main.specs.declared.folder_answer.FolderAnswer.TheVariants.{Judged, Unread}
+use Rattle.ira_main.specs.ProgramFault.{show_fault}
+use Rattle.ira_view.specs.declared.form.Form.{Form}
+use Rattle.ira_view_page.specs.declared.show_fault.ShowFault.{ShowFault}
+use Rattle.ira_view_page.specs.declared.show_fault.ShowFault.TheVariants.{OutOfMemory, WrongColumns, Write}
+use Rattle.ira_main.specs.FolderText.{FolderAnswer}
 use Rattle.ira_main.specs.declared.judged_folder.JudgedFolder.{JudgedFolder}
 
--- what came of one folder more, by its number
-pub next_zipped : {X Y : Type 0} (R : X → Y → Type 0) (xs : List X) (i : ℕ) (d : X) (ys : List Y) (y : Y)
-    → i < length xs → AllZip R (take i xs) ys → R (slice_index_or xs i d) y
-    → AllZip R (take (i + 1) xs) (ys ++ y ∷ [])
-next_zipped R xs i d ys y lt are is =
-    rw (take_more xs i d lt) (zipped_more R (take i xs) ys (slice_index_or xs i d) y are is)
+-- what came of the first
+at_first : {X T E : Type 0} (R : X → T → Type 0) (x : X) (y : Result T E)
+    → IfOk y (λ t. (x' : X) → Some x ≡ Some x' → R x' t) → IfOk y (R x)
+at_first R x (Ok t) came = came x refl
+at_first R x (Err e) came = tt
+
+-- what came of each, by its number
+pub zipped_each : {X T E : Type 0} (R : X → T → Type 0) (xs : List X) (ys : List (Result T E)) → length ys ≡ length xs
+    → ((i : ℕ) (d : Result T E) → i < length xs
+    → IfOk (slice_index_or ys i d) (λ t. (x : X) → slice_get xs i ≡ Some x → R x t))
+    → AllZip (λ x y. IfOk y (R x)) xs ys
+zipped_each R [] [] same each = tt
+zipped_each R [] (y ∷ ys) same each = absurd (omega (arith, same))
+zipped_each R (x ∷ xs) [] same each = absurd (omega (arith, same))
+zipped_each R (x ∷ xs) (y ∷ ys) same each = (
+  at_first R x y (each 0 y (omega arith)),
+  zipped_each R xs ys (omega (arith, same)) (λ i d lt. each (suc i) d (omega (arith, lt))),
+)
+
+-- what came of those left, the first of which comes next
+pub zipped_next : {X Y : Type 0} (R : X → Y → Type 0) (xs : List X) (n : ℕ) (y : Y) (ys : List Y)
+    → AllZip R (drop n xs) (y ∷ ys)
+    → (n < length xs) × ((d : X) → R (slice_index_or xs n d) y) × AllZip R (drop (n + 1) xs) ys
+zipped_next R [] zero y ys are = absurd are
+zipped_next R [] (suc n) y ys are = absurd are
+zipped_next R (x ∷ xs) zero y ys are = (omega arith, λ d. are.0, are.1)
+zipped_next R (x ∷ xs) (suc n) y ys are =
+    let on = zipped_next R xs n y ys are in
+    let more : suc (n + 1) ≡ suc n + 1 = omega arith in
+    (omega (arith, on.0), on.1, subst (λ (k : ℕ). AllZip R (drop k (x ∷ xs)) ys) more on.2)
 
 -- what is told of some folders and of more
 told_both : (Told : FolderTelling) (folders more : List (Bor (List ℕ))) (answers others : List FolderAnswer)
@@ -52,15 +72,13 @@ told_both Told (f ∷ folders) more (a ∷ answers) others text rest are is = (
 )
 
 -- what is told of one folder more, by its number
-pub next_text : (Told : FolderTelling) (folders : List (Bor (List ℕ))) (answers : List FolderAnswer) (i : ℕ)
-    (df : Bor (List ℕ)) (da : FolderAnswer) (text line : List ℕ) → i < length folders → i < length answers
-    → AreTold Told (take i folders) (take i answers) text
-    → Told (slice_index_or folders i df) (slice_index_or answers i da) line
-    → AreTold Told (take (i + 1) folders) (take (i + 1) answers) (text ++ line)
-next_text Told folders answers i df da text line lf la are is =
-    rw (take_more folders i df lf, take_more answers i da la) (told_both Told (take i folders)
-    (slice_index_or folders i df ∷ []) (take i answers) (slice_index_or answers i da ∷ []) text line are
-    (line, [], sym (append-nil line), is, refl))
+pub told_more : (Told : FolderTelling) (folders : List (Bor (List ℕ))) (n : ℕ) (d : Bor (List ℕ))
+    (answers : List FolderAnswer) (answer : FolderAnswer) (text line : List ℕ) → n < length folders
+    → AreTold Told (take n folders) answers text → Told (slice_index_or folders n d) answer line
+    → AreTold Told (take (n + 1) folders) (answers ++ answer ∷ []) (text ++ line)
+told_more Told folders n d answers answer text line few are is =
+    rw (take_more folders n d few) (told_both Told (take n folders) (slice_index_or folders n d ∷ []) answers
+    (answer ∷ []) text line are (line, [], sym (append-nil line), is, refl))
 
 -- each folder that is told of has an answer
 told_many : (Told : FolderTelling) (folders : List (Bor (List ℕ))) (answers : List FolderAnswer) (text : List ℕ)
@@ -69,16 +87,6 @@ told_many Told [] [] text are = refl
 told_many Told [] (a ∷ answers) text are = absurd are
 told_many Told (f ∷ folders) [] text are = absurd are
 told_many Told (f ∷ folders) (a ∷ answers) text are = ap suc (told_many Told folders answers are.1 are.4)
-
--- what comes of each folder, and its line
-pub both_told : (Is : Bor (List ℕ) → FolderAnswer → Type 0) (Told : FolderTelling) (folders : List (Bor (List ℕ)))
-    (answers : List FolderAnswer) (text : List ℕ) → AllZip Is folders answers → AreTold Told folders answers text
-    → AreTold (λ folder answer line. Is folder answer × Told folder answer line) folders answers text
-both_told Is Told [] [] text is are = are
-both_told Is Told [] (a ∷ answers) text is are = absurd are
-both_told Is Told (f ∷ folders) [] text is are = absurd are
-both_told Is Told (f ∷ folders) (a ∷ answers) text is are =
-    (are.0, are.1, are.2, (is.0, are.3), both_told Is Told folders answers are.1 is.1 are.4)
 
 -- nothing was told yet
 pub told_none : (Told : FolderTelling) (folders : List (Bor (List ℕ))) (out : SinkState)
@@ -108,30 +116,21 @@ module _ (Told : FolderTelling) (folders : List (Bor (List ℕ))) (answers : Lis
       subst (λ (fs : List (Bor (List ℕ))). AreTold Told fs answers text) whole are
 
   -- the output stopped within the next ones, or there was no memory for them
-  pub stops_next : (size here : ℕ) (some : List (Bor (List ℕ)))
-      (out out' out'' : SinkState) (f : ProgramFault) (outcome : Outcome) → here ≡ length answers → length answers < length folders
+  pub stops_next : {A : Type 0} (size here : ℕ) (some : List (Bor (List ℕ)))
+      (out out' out'' : SinkState) (f : ShowFault) (outcome : Outcome A) → here ≡ length answers → length answers < length folders
       → some ≡ take size (drop here folders) → Takes text out out' → IsUntold Told some out' out'' f
-      → outcome ≡ Err f → TellsEach Told folders out out'' outcome
+      → outcome ≡ Err (show_fault f) → TellsEach Told folders out out'' outcome
   stops_next size here some out out' out'' f outcome same few are_some took stops is =
       stops_by f (subst (λ (fs : List (Bor (List ℕ))). IsUntold Told fs out' out'' f)
       (are_some ∙ ap (λ (n : ℕ). take size (drop n folders)) same) stops) is
     where
-      stops_by : (f : ProgramFault) → IsUntold Told (take size (drop (length answers) folders)) out' out'' f
-          → outcome ≡ Err f → TellsEach Told folders out out'' outcome
-      stops_by CannotWriteAnswer stops is =
+      stops_by : (f : ShowFault) → IsUntold Told (take size (drop (length answers) folders)) out' out'' f
+          → outcome ≡ Err (show_fault f) → TellsEach Told folders out out'' outcome
+      stops_by Write stops is =
           stopped (first + size) (answers ++ stops.0) (text ++ stops.1) (told_next size stops.0 stops.1 few stops.2)
           (Takes-StopsIn _ _ _ _ _ took stops.3) is
       stops_by OutOfMemory same is = no_memory first answers text are (subst (Takes text out) (sym same) took) is
-      stops_by (Words t) stops is = absurd stops
-      stops_by WordIsNoText stops is = absurd stops
-      stops_by (CannotRead name) stops is = absurd stops
-      stops_by (CannotReadSome names) stops is = absurd stops
-      stops_by (NoPlaceInLine line name) stops is = absurd stops
-      stops_by (Refused fault) stops is = absurd stops
-      stops_by (CannotWriteLog folder place) stops is = absurd stops
-      stops_by (OtherEnding name) stops is = absurd stops
-      stops_by (WouldOverwrite name) stops is = absurd stops
-      stops_by (CannotWrite name) stops is = absurd stops
+      stops_by WrongColumns stops is = absurd stops
 
   -- as many more as there is room for
   pub more_told : (size : ℕ) (more : List FolderAnswer) (rest : List ℕ)
@@ -139,52 +138,27 @@ module _ (Told : FolderTelling) (folders : List (Bor (List ℕ))) (answers : Lis
       → length more ≡ min size (length (drop (length answers) folders))
   more_told size more rest is = told_many Told _ _ _ is ∙ length-take size (drop (length answers) folders)
 
--- of good logs it is a yes
-election_yes : (expected : Expectation) (read : List ℕ) (logs : List Log) (judged : JudgedFolder)
-    → IsElectionJudged expected read logs judged → answer_of judged ≡ audit.Yes
-election_yes expected read logs judged (asked, by, inl met) = ap answer_of met.1
-election_yes expected read logs judged (asked, by, inr unmet) = ap answer_of unmet.2
+-- an answer that was given can be told
+pub judged_tellable : (expected : Expected) (texts : List (List ℕ)) (judged : JudgedFolder)
+    → IsJudgedOf expected texts judged → IsReportable judged.answer
+judged_tellable expected texts judged (good logs unmet are runs is same) =
+    subst (λ (j : JudgedFolder). IsReportable j.answer) (sym same) tt
+judged_tellable expected texts judged (no reason is same) =
+    subst (λ (j : JudgedFolder). IsReportable j.answer) (sym same) is.1
 
--- answers that were given can be told
-judged_tellable : (expected : Expectation) (read : List ℕ) (texts : List (List ℕ)) (judged : JudgedFolder)
-    → IsJudgedOf expected read texts judged → IsReportable (answer_of judged)
-judged_tellable expected read texts judged (good logs are runs is) =
-    subst IsReportable (sym (election_yes expected read logs judged is)) tt
-judged_tellable expected read texts judged (no reason is same) =
-    subst (λ j. IsReportable (answer_of j)) (sym same) is.1
+-- nothing stands below the line of a folder where no reasons are due
+pub none_below : (A : Type 0) (form : Form) (asked : Expected) (names texts : List (List ℕ)) (due is_no : Bool)
+    → (due ≡ false) ⊎ (is_no ≡ false) → IsBelow A form due is_no asked names texts []
+none_below A form asked names texts false is_no why = refl
+none_below A form asked names texts true false why = refl
+none_below A form asked names texts true true (inl why) = cc
+none_below A form asked names texts true true (inr why) = cc
 
-tellable : {S : Type 0} (reads : Reading S) (expected : Expectation) (shelf : S) (folder : Bor (List ℕ))
-    (answer : FolderAnswer) → IsFolderAnswer reads expected shelf folder answer → IsTellable answer
-tellable reads expected shelf folder (Judged judged) is = judged_tellable expected is.read is.texts judged is.is
-tellable reads expected shelf folder (Unread name) is = tt
-
-pub all_tellable : {S : Type 0} (reads : Reading S) (expected : Expectation) (shelf : S)
-    (folders : List (Bor (List ℕ))) (answers : List FolderAnswer)
-    → AllZip (IsFolderAnswer reads expected shelf) folders answers → AreTellable answers
-all_tellable reads expected shelf [] [] are i answer at = absurd cc
-all_tellable reads expected shelf [] (a ∷ answers) are i answer at = absurd are
-all_tellable reads expected shelf (f ∷ folders) [] are i answer at = absurd are
-all_tellable reads expected shelf (f ∷ folders) (a ∷ answers) are zero answer at =
-    let same : a ≡ answer = cc in
-    subst IsTellable same (tellable reads expected shelf f a are.0)
-all_tellable reads expected shelf (f ∷ folders) (a ∷ answers) are (suc i) answer at =
-    all_tellable reads expected shelf folders answers are.1 i answer at
-
--- the answer of a folder, where it is known
-pub known_answer : {S : Type 0} (reads : Reading S) (expected : Expectation) (shelf : S)
-    (folders : List (Bor (List ℕ))) (answers : List (Option JudgedFolder)) (i : ℕ) (folder : Bor (List ℕ))
-    (answer : Option JudgedFolder) → AreAnswersOf reads expected shelf folders answers
-    → slice_get answers i ≡ Some answer → slice_get folders i ≡ Some folder
-    → IfSome answer (IsAnswerOf reads expected shelf folder)
-known_answer reads expected shelf folders answers i folder None are at there = tt
-known_answer reads expected shelf folders answers i folder (Some answer) are at there = are i answer at folder there
-
--- what was lent whole and is back
-pub lent_whole : {X : Type 0} (n : ℕ) (news olds : List X) → n ≡ length olds → length news ≡ length olds
-    → take n (news ++ drop (length news) olds) ≡ news
-lent_whole zero [] olds many same = refl
-lent_whole (suc n) [] olds many same = absurd (omega (arith, many, same))
-lent_whole n (y ∷ ys) [] many same = absurd (omega (arith, same))
-lent_whole zero (y ∷ ys) (x ∷ xs) many same = absurd (omega (arith, many))
-lent_whole (suc n) (y ∷ ys) (x ∷ xs) many same =
-    ap (λ zs. y ∷ zs) (lent_whole n ys xs (omega (arith, many)) (omega (arith, same)))
+-- but what is explained does, below that of a no where they are
+pub some_below : (A : Type 0) (form : Form) (detail : FolderDetail) (asked : Expected) (names texts : List (List ℕ))
+    (is_no : Bool) (why : List ℕ) → has_reasons detail ≡ true → is_no ≡ true
+    → IsExplained A (asked_of detail form asked.is_over asked.leaders) names texts why
+    → IsBelow A form (has_reasons detail) is_no asked names texts why
+some_below A form Line asked names texts is_no why due says is = cc
+some_below A form Reasons asked names texts true why due says is = is
+some_below A form Reasons asked names texts false why due says is = cc

@@ -1,44 +1,40 @@
--- What is read for a command, and why it isn't.
-use Rattle.std.proofs.Common.{◌≡◌, ◌≢◌, ℕ, List, Option, inl, inr, refl, true}
-use Rattle.std.specs.Prelude.{codes}
+-- What was read for a command.
+use Rattle.std.proofs.Common.{◌≡◌, ℕ, ◌≢◌, Bool, Err, List, Option, Result, refl}
 use Rattle.std.specs.Borrow.{Bor}
+use Rattle.ira_commands.specs.Given.{Given}
+use Rattle.ira_commands.specs.Reply.{Reply}
 use Rattle.ira_main_cli.specs.declared.log_source.LogSource.{LogSource}
-use Rattle.ira_main_cli.specs.declared.mend_request.MendRequest.{MendRequest}
-use Rattle.ira_main_cli.specs.declared.log_source.LogSource.TheVariants.{Files, Folder}
-use Rattle.ira_main_files.specs.CountingReader.{Reads}
-use Rattle.ira_main_files.specs.FileName.{file_name}
 use Rattle.ira_main_files.specs.Shelf.{Reading}
-use Rattle.ira_main_files.specs.declared.file_name.FileName.{FileName}
 use Rattle.ira_main_files.specs.declared.shelf_fault.ShelfFault.{ShelfFault}
-use Rattle.ira_main_files.specs.declared.shelf_fault.ShelfFault.TheVariants as shelf
-use Rattle.ira_main.specs.ProgramFault.{read_fault}
-use Rattle.ira_main.specs.Serve.{IsInputFault}
-use Rattle.ira_main.specs.Given.{IsUnread}
-use Rattle.ira_main.specs.LeftFiles.{IsLeftNamesFault}
-use Rattle.ira_main.specs.Mend.{IsUnmended}
-use Rattle.ira_main.specs.declared.program_fault.ProgramFault.{ProgramFault}
-use Rattle.ira_main.specs.declared.program_fault.ProgramFault.TheVariants.{OutOfMemory}
+use Rattle.ira_main_files.specs.declared.shelf_fault.ShelfFault.TheVariants as fault
+use Rattle.ira_main.specs.Given.{HasGiven, OfFiles, named_file}
+use Rattle.ira_main.specs.declared.given.Given as read
 
--- memory may run out
-pub no_memory : {S : Type 0} (reads : Reading S) (made question certificate : Option (Bor (List ℕ))) (source : LogSource)
-    (shelf : S) (f : ProgramFault) → f ≡ OutOfMemory → IsUnread reads made question certificate source shelf f
-no_memory reads made question certificate (Files words) shelf f is = inl (inr is)
-no_memory reads made question certificate (Folder folder) shelf f is = inl (inr is)
+-- a read that failed, of an input that is there, and not for want of memory
+pub input_failed : {T P : Type 0} (r : Result T ShelfFault) (f : ShelfFault) → r ≡ Err f → f ≢ fault.OutOfMemory
+    → (r ≡ Err fault.Device → P) → r ≢ Err fault.NotFound → P
+input_failed r fault.Device is full failed found = failed is
+input_failed r fault.NotFound is full failed found = absurd (found is)
+input_failed r fault.OutOfMemory is full failed found = absurd (full refl)
 
--- why the input isn't judged
-pub input_fault : (name : FileName) (why : ShelfFault) (f : ProgramFault) (new : Reads) → f ≡ read_fault name why
-    → file_name name ≡ codes "-" → (why ≡ shelf.Device → (new.has_failed ≡ true) × (new.is_over ≡ true))
-    → why ≢ shelf.NotFound → IsInputFault new f
-input_fault name shelf.NotFound f new is dash failed found = absurd (found refl)
-input_fault name shelf.Device f new is dash failed found = inl (name, dash, (failed refl).0, (failed refl).1, is)
-input_fault name shelf.OutOfMemory f new is dash failed found = inr is
-
--- memory may run out where what is left is read
-pub left_no_memory : {S : Type 0} (reads : Reading S) (mend : MendRequest) (shelf : S) (f : ProgramFault) → f ≡ OutOfMemory
-    → IsUnmended reads mend shelf f
-left_no_memory reads mend shelf f is = inl (names_no_memory reads mend.logs shelf f is)
-  where
-    names_no_memory : {S : Type 0} (reads : Reading S) (source : LogSource) (shelf : S) (f : ProgramFault) → f ≡ OutOfMemory
-        → IsLeftNamesFault reads shelf source f
-    names_no_memory reads (Files words) shelf f is = inr is
-    names_no_memory reads (Folder folder) shelf f is = inr is
+-- the reply to what was read
+pub of_given : {A S : Type 0} (reads : Reading S) (made question certificate : Option (Bor (List ℕ))) (source : LogSource)
+    (shelf : S) (keep : Bool) (given : read.Given A) (IsReply : Given → Reply → Type 0) (reply : Reply)
+    (h : HasGiven reads made question certificate source shelf keep given)
+    → IsReply (record {
+      question = named_file question given.question;
+      certificate = named_file certificate given.certificate;
+      names = given.names.items;
+      texts = h.texts;
+    }) reply
+    → OfFiles reads made question certificate source shelf IsReply reply
+of_given reads made question certificate source shelf keep given IsReply reply h is = record {
+  names = given.names.items;
+  names_are = h.names_are;
+  kept = h.kept;
+  asked = given.question;
+  certified = given.certificate;
+  texts = h.texts;
+  given = h.all;
+  reply_is = is;
+}

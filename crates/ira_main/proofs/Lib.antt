@@ -5,7 +5,6 @@ pub mod GivenFiles
 pub mod InputAudits
 pub mod LeftLogs
 pub mod LogFiles
-pub mod NamedFiles
 pub mod PartsAt
 pub mod Reporting
 pub mod Shares

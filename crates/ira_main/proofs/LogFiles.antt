@@ -52,8 +52,8 @@ named_more writes (x ∷ xs) file a b c (between, first, more) named =
     (between, first, named_more writes xs file between b c more named)
 
 -- the logs were written, and what comes of naming their files is what comes of all
-pub named_or_not : {S : Type 0} (writes : Writing S) (folder : Bor (List ℕ)) (logs : List Log)
-    (files : List writes.Written) (a b c : S) (result : Result (Unit {0}) ProgramFault)
+pub named_or_not : {A S : Type 0} (writes : Writing S) (folder : Bor (List ℕ)) (logs : List Log)
+    (files : List writes.Written) (a b c : S) (result : Result (Unit {0}) (ProgramFault A))
     → DraftsLogs writes folder.now logs files a b
     → MatchResult result (λ _. NamesAll writes files b c) (StopsNaming writes folder files b c)
     → MatchResult result (λ _. WritesLogs writes folder.now logs a c) (StopsInLogs writes folder logs a c)

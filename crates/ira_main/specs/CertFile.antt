@@ -8,14 +8,14 @@ use Rattle.ira_main_files.specs.declared.shelf_fault.ShelfFault.{ShelfFault}
 use Rattle.ira_main.specs.Outcome.{Outcome}
 use Rattle.ira_main.specs.ProgramFault.{write_fault}
 use Rattle.ira_commands.specs.declared.command_fault.CommandFault.TheVariants.{CertificatePastLimits}
-use Rattle.ira_main.specs.declared.program_fault.ProgramFault.TheVariants.{Refused}
+use Rattle.ira_main.specs.declared.program_fault.ProgramFault.TheVariants.{Command}
 use Rattle.ira_view.specs.declared.status.Status.TheVariants.{Yes}
 
 -- what comes of keeping a certificate on a shelf, in a new file of this name: nothing is done where its text is past
 -- the limits; else its text is written, and a fault of that is the outcome
-pub data KeepsCertificate {S : Type 0} (writes : Writing S) (c : Certificate) (name : Bor (List ℕ)) (old new : S)
-    (outcome : Outcome) : Type 0 where
-  past_limits : ¬ (IsCertText (cert_text c) c) → new ≡ old → outcome ≡ Err (Refused CertificatePastLimits)
+pub data KeepsCertificate {A S : Type 0} (writes : Writing S) (c : Certificate) (name : Bor (List ℕ)) (old new : S)
+    (outcome : Outcome A) : Type 0 where
+  past_limits : ¬ (IsCertText (cert_text c) c) → new ≡ old → outcome ≡ Err (Command CertificatePastLimits)
       → KeepsCertificate writes c name old new outcome
   kept : IsCertText (cert_text c) c → MakesFile writes name.now (cert_text c) old new (Ok tt) → outcome ≡ Ok Yes
       → KeepsCertificate writes c name old new outcome

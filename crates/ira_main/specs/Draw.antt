@@ -13,8 +13,8 @@ use Rattle.ira_main_cli.specs.declared.draw_request.DrawRequest.{DrawRequest}
 use Rattle.ira_main_files.specs.Shelf.{Reading}
 use Rattle.ira_main.specs.Given.{IsUnread, OfFiles}
 use Rattle.ira_main.specs.Moment.{IsMomentOf, question_of}
-use Rattle.ira_main.specs.declared.program_fault.ProgramFault.{ProgramFault}
-use Rattle.ira_main.specs.declared.program_fault.ProgramFault.TheVariants.{OtherEnding}
+use Rattle.ira_main.specs.declared.file_fault.FileFault.{FileFault}
+use Rattle.ira_main.specs.declared.file_fault.FileFault.TheVariants.{OtherEnding}
 use Rattle.ira_view_picture.specs.declared.column_range.ColumnRange.{ColumnRange}
 
 -- after the last dot of the name stands this, in letters of any case
@@ -38,9 +38,9 @@ abbrev pub HasOtherEnding : List ℕ → Type 0
 HasOtherEnding name = (path_extension name ≢ None) × ¬ (HasEnding name (codes "html")) × ¬ (HasEnding name (codes "svg"))
 
 -- why nothing comes of the files: that, and nothing was read; or what was to be read wasn't
-abbrev pub IsUndrawn : {S : Type 0} → Reading S → DrawRequest → S → ProgramFault → Type 0
-IsUndrawn reads draw shelf f = (HasOtherEnding draw.picture.now × (f ≡ OtherEnding draw.picture))
-    ⊎ IsUnread reads (Some draw.picture) (question_of draw.moment) None draw.logs shelf f
+abbrev pub IsUndrawn : {A S : Type 0} → Reading S → DrawRequest → S → FileFault A → Type 0
+IsUndrawn reads draw shelf fault = (HasOtherEnding draw.picture.now × (fault ≡ OtherEnding draw.picture.now))
+    ⊎ IsUnread reads (Some draw.picture) (question_of draw.moment) None draw.logs shelf fault
 
 -- words ask to draw a ring
 abbrev pub AsksToDraw : DrawRequest → LogsCommand → Type 0

@@ -1,81 +1,81 @@
 -- What the program does that is asked to judge the logs in each of some folders.
-use Rattle.std.specs.Prelude.{◌≡◌, ◌≢◌, ◌⊎◌, ℕ, List, [], ◌∷◌, ◌++◌, Option, Some, None, Result, Ok, Err}
-use Rattle.std.specs.Prelude.{if◌then◌else◌, slice_get, take}
+use Rattle.std.specs.Prelude.{◌≡◌, ◌≢◌, ◌⊎◌, ℕ, Bool, List, [], ◌∷◌, ◌++◌, None, Ok, Err, true}
+use Rattle.std.specs.Prelude.{if◌then◌else◌, take}
 use Rattle.std.specs.Borrow.{Bor}
 use Rattle.std.specs.List.{filter_map, list_any}
+use Rattle.std.specs.Result.{result_err}
 use Rattle.ira_event.specs.Sink.{SinkState, StopsIn, Takes}
+use Rattle.ira_commands.specs.Answers.{Answers}
+use Rattle.ira_commands.specs.Output.{IsPrinted}
+use Rattle.ira_commands.specs.Reply.{Reply}
+use Rattle.ira_commands.specs.declared.expected.Expected.{Expected}
+use Rattle.ira_commands.specs.declared.logs_command.LogsCommand.{LogsCommand}
 use Rattle.ira_view.specs.declared.form.Form.{Form}
 use Rattle.ira_main_cli.specs.declared.expectation.Expectation.{Expectation}
 use Rattle.ira_main_cli.specs.declared.folder_detail.FolderDetail.{FolderDetail}
-use Rattle.ira_main_cli.specs.declared.folder_detail.FolderDetail.TheVariants.{Line, Reasons}
+use Rattle.ira_main_cli.specs.declared.folder_detail.FolderDetail.TheVariants.{Reasons}
 use Rattle.ira_main_cli.specs.declared.log_source.LogSource.TheVariants.{Folder}
 use Rattle.ira_main_files.specs.Shelf.{Reading}
-use Rattle.ira_main_files.specs.declared.file_name.FileName.{FileName}
-use Rattle.ira_main.specs.FilesRead.{HasTakenFiles, IsFilesFault, ReadsFiles, names_of}
-use Rattle.ira_main.specs.FolderReasons.{IsExplained}
-use Rattle.ira_main.specs.FolderText.{IsFolderText, is_no}
+use Rattle.ira_main.specs.FilesRead.{HasTakenFiles, ReadsFiles, Stops}
+use Rattle.ira_main.specs.FolderText.{FolderAnswer, IsFolderText, is_no}
+use Rattle.ira_main.specs.Judge.{IsExpectedBy, asked_of, has_reasons}
 use Rattle.ira_main.specs.JudgedFolder.{IsJudgedOf}
 use Rattle.ira_main.specs.LeadersFile.{HasLeadersIn, IsNoLeaders}
 use Rattle.ira_main.specs.Outcome.{Outcome}
 use Rattle.ira_main.specs.SourceNames.{HasNames, IsNamesFault}
-use Rattle.ira_main.specs.declared.folder_answer.FolderAnswer.{FolderAnswer}
-use Rattle.ira_main.specs.declared.folder_answer.FolderAnswer.TheVariants.{Judged, Unread}
 use Rattle.ira_main.specs.declared.folder_answer.FolderTexts.{FolderTexts}
 use Rattle.ira_main.specs.declared.judged_folder.JudgedFolder.{JudgedFolder}
-use Rattle.ira_main.specs.declared.program_fault.ProgramFault.{ProgramFault}
-use Rattle.ira_main.specs.declared.program_fault.ProgramFault.TheVariants.{CannotRead, CannotReadSome, CannotWriteAnswer}
-use Rattle.ira_main.specs.declared.program_fault.ProgramFault.TheVariants.{NoPlaceInLine, OutOfMemory}
+use Rattle.ira_main.specs.declared.file_fault.FileFault.{FileFault}
+use Rattle.ira_main.specs.FileFault.{name_of}
+use Rattle.ira_main.specs.declared.program_fault.ProgramFault.TheVariants.{CannotReadSome, CannotWriteAnswer, OutOfMemory}
+use Rattle.ira_view_page.specs.declared.show_fault.ShowFault.{ShowFault}
+use Rattle.ira_view_page.specs.declared.show_fault.ShowFault.TheVariants as show
 use Rattle.ira_view.specs.declared.status.Status.{Status}
 use Rattle.ira_view.specs.declared.status.Status.TheVariants as status
 
--- why the texts of a folder aren't judged: there are no leaders in the file of these, if one is named; or the first log wasn't
--- read, or one of those that it names, or memory ran out
-abbrev pub IsFolderFault : {S : Type 0} → Reading S → Expectation → S → Bor (List ℕ) → ProgramFault → Type 0
-IsFolderFault reads expected shelf folder f =
-    IsNoLeaders reads shelf (Folder folder) expected.leaders f
-    ⊎ (IsNamesFault reads shelf (Folder folder) f
-    ⊎ ((names : List FileName) × HasNames reads shelf (Folder folder) names × IsFilesFault reads (names_of names) shelf f))
+-- why the texts of a folder aren't judged: there are no leaders in the file of these, if one is named; or a log can't be read
+abbrev pub IsFolderFault : {A S : Type 0} → Reading S → Expectation → S → Bor (List ℕ) → FileFault A → Type 0
+IsFolderFault reads expected shelf folder fault =
+    IsNoLeaders reads shelf (Folder folder) expected.leaders fault
+    ⊎ (IsNamesFault reads shelf (Folder folder) fault
+    ⊎ ((names : List (List ℕ)) × HasNames reads shelf (Folder folder) names × Stops reads shelf names fault))
 
--- the file of leaders was read, if one is named, and the texts of a folder's logs were taken; or why they weren't
-abbrev pub IsFolderAudit : {A S : Type 0} → Reading S → Expectation → S → Bor (List ℕ)
-    → Result (FolderTexts A) ProgramFault → Type 0
-IsFolderAudit reads expected shelf folder (Ok taken) =
+-- the file of leaders was read, if one is named, and the texts of a folder's logs were taken, and kept where that is asked
+abbrev pub HasFolderTexts : {A S : Type 0} → Reading S → Expectation → Bool → S → Bor (List ℕ) → FolderTexts A → Type 0
+HasFolderTexts reads expected keep shelf folder taken =
     HasLeadersIn reads shelf (Folder folder) expected.leaders taken.leaders.items
-    × (names : List FileName) × HasNames reads shelf (Folder folder) names
-    × HasTakenFiles reads (names_of names) shelf taken.audit
-IsFolderAudit reads expected shelf folder (Err f) = IsFolderFault reads expected shelf folder f
+    × HasNames reads shelf (Folder folder) taken.names.items
+    × HasTakenFiles reads shelf keep taken.names.items taken.logs
 
--- the file of leaders, if one is named, and those of a folder's logs were read, and the logs are judged so
-pub record IsAnswerOf {S : Type 0} (reads : Reading S) (expected : Expectation) (shelf : S) (folder : Bor (List ℕ))
-    (judged : JudgedFolder) : Type 0 where
-  pub read : List ℕ
-  pub leaders : HasLeadersIn reads shelf (Folder folder) expected.leaders read
-  pub names : List FileName
-  pub names_are : HasNames reads shelf (Folder folder) names
-  pub texts : List (List ℕ)
-  pub given : ReadsFiles reads (names_of names) shelf texts
-  pub is : IsJudgedOf expected read texts judged
+-- what `explain` prints of logs in files of these names, which gave these texts: nothing where that is refused, since one of
+-- those who are to lead is no node of the ring
+abbrev pub IsExplained : Type 0 → LogsCommand → List (List ℕ) → List (List ℕ) → List ℕ → Type 0
+IsExplained A command names texts why = (reply : Reply) × Answers A command (record {
+  question = record { name = []; text = [] };
+  certificate = record { name = []; text = [] };
+  names = names;
+  texts = texts;
+}) reply × (((reply.fault ≡ None) × IsPrinted reply.out why) ⊎ ((reply.fault ≢ None) × (why ≡ [])))
 
--- the folder of this number is judged so
-abbrev pub IsAnswerAt : {S : Type 0} → Reading S → Expectation → S → List (Bor (List ℕ)) → ℕ → JudgedFolder → Type 0
-IsAnswerAt reads expected shelf folders i judged =
-    (folder : Bor (List ℕ)) → slice_get folders i ≡ Some folder → IsAnswerOf reads expected shelf folder judged
+-- that is printed below the line of a no where reasons are asked for
+abbrev pub IsBelow : Type 0 → Form → Bool → Bool → Expected → List (List ℕ) → List (List ℕ) → List ℕ → Type 0
+IsBelow A form true true asked names texts why =
+    IsExplained A (asked_of Reasons form asked.is_over asked.leaders) names texts why
+IsBelow A form _ _ asked names texts why = why ≡ []
 
--- each folder that is judged is judged so
-abbrev pub AreAnswersOf : {S : Type 0} → Reading S → Expectation → S → List (Bor (List ℕ))
-    → List (Option JudgedFolder) → Type 0
-AreAnswersOf reads expected shelf folders answers = (i : ℕ) (judged : JudgedFolder)
-    → slice_get answers i ≡ Some (Some judged) → IsAnswerAt reads expected shelf folders i judged
-
--- this file wasn't read, or has no leaders
-abbrev pub NamesFile : ProgramFault → FileName → Type 0
-NamesFile f name = (f ≡ CannotRead name) ⊎ ((line : ℕ) × (f ≡ NoPlaceInLine line name))
-
--- what comes of a folder: its logs are judged, or a file wasn't read
-abbrev pub IsFolderAnswer : {S : Type 0} → Reading S → Expectation → S → Bor (List ℕ) → FolderAnswer → Type 0
-IsFolderAnswer reads expected shelf folder (Judged judged) = IsAnswerOf reads expected shelf folder judged
-IsFolderAnswer reads expected shelf folder (Unread name) =
-    (f : ProgramFault) × IsFolderFault reads expected shelf folder f × NamesFile f name
+-- the logs in a folder gave these texts, and are judged so: its line is printed, and what stands below it
+pub record TellsJudged (A : Type 0) (form : Form) (expected : Expectation) (detail : FolderDetail) (leaders : List ℕ)
+    (names texts : List (List ℕ)) (folder : List ℕ) (answer : FolderAnswer) (text : List ℕ) : Type 0 where
+  pub asked : Expected
+  pub asked_is : IsExpectedBy expected leaders asked
+  pub judged : JudgedFolder
+  pub judged_is : IsJudgedOf asked texts judged
+  pub answer_is : answer ≡ Ok judged
+  pub line : List ℕ
+  pub line_is : IsFolderText form folder answer line
+  pub why : List ℕ
+  pub why_is : IsBelow A form (has_reasons detail) (is_no answer) asked names texts why
+  pub text_is : text ≡ line ++ why
 
 -- what is told of a folder: what comes of it, and its line
 abbrev pub FolderTelling : Type 1
@@ -88,27 +88,23 @@ AreTold Told (folder ∷ folders) (answer ∷ answers) text =
     (line : List ℕ) × (rest : List ℕ) × (text ≡ line ++ rest) × Told folder answer line × AreTold Told folders answers rest
 AreTold Told folders answers text = ⊥
 
--- the file that wasn't read, if there is one
-abbrev pub unread_name : FolderAnswer → Option FileName
-unread_name (Unread name) = Some name
-unread_name (Judged judged) = None
-
-abbrev pub unread_names : List FolderAnswer → List FileName
-unread_names answers = filter_map unread_name answers
+-- the files that weren't read
+abbrev pub unread_names : List FolderAnswer → List (List ℕ)
+unread_names answers = filter_map result_err answers
 
 -- the status of answers: no where one is no, else yes
 abbrev pub each_status : List FolderAnswer → Status
 each_status answers = if list_any is_no answers then status.No else status.Yes
 
 -- what the program ends with: where files weren't read these, else the status of the answers
-abbrev pub IsEachOutcome : List FolderAnswer → Outcome → Type 0
+abbrev pub IsEachOutcome : {A : Type 0} → List FolderAnswer → Outcome A → Type 0
 IsEachOutcome answers (Ok s) = (unread_names answers ≡ []) × (s ≡ each_status answers)
 IsEachOutcome answers (Err (CannotReadSome names)) = (names.items ≡ unread_names answers) × (names.items ≢ [])
 IsEachOutcome answers (Err other) = ⊥
 
 -- this was told of the folders in their order; or the output stopped within what is told of a first part of them, or
 -- memory ran out after that was printed
-pub data TellsEach (Told : FolderTelling) (folders : List (Bor (List ℕ))) (out out' : SinkState) (outcome : Outcome)
+pub data TellsEach {A : Type 0} (Told : FolderTelling) (folders : List (Bor (List ℕ))) (out out' : SinkState) (outcome : Outcome A)
     : Type 0 where
   told : (answers : List FolderAnswer) (text : List ℕ) → AreTold Told folders answers text
       → Takes text out out' → IsEachOutcome answers outcome → TellsEach Told folders out out' outcome
@@ -119,22 +115,23 @@ pub data TellsEach (Told : FolderTelling) (folders : List (Bor (List ℕ))) (out
       → AreTold Told (take first folders) answers text → Takes text out out'
       → outcome ≡ Err OutOfMemory → TellsEach Told folders out out' outcome
 
--- what is printed of a folder: its line, or why it is so as well
-abbrev pub IsDetailed : Type 0 → {S : Type 0} → Reading S → Form → Expectation → FolderDetail → S → FolderTelling
-IsDetailed A reads form expected Line shelf folder answer text = IsFolderText form folder.now answer text
-IsDetailed A reads form expected Reasons shelf folder answer text =
-    IsExplained A reads form expected shelf folder answer text
-
--- a folder was judged, and this is printed of it
-abbrev pub IsJudgedLine : Type 0 → {S : Type 0} → Reading S → Form → Expectation → FolderDetail → S → FolderTelling
-IsJudgedLine A reads form expected detail shelf folder answer text =
-    IsFolderAnswer reads expected shelf folder answer × IsDetailed A reads form expected detail shelf folder answer text
+-- the file of leaders, if one is named, and those of a folder's logs were read, and the logs are judged; or a file can't be
+-- read, and the line of the folder says so
+pub data IsTold (A : Type 0) {S : Type 0} (reads : Reading S) (form : Form) (expected : Expectation) (detail : FolderDetail)
+    (shelf : S) (folder : Bor (List ℕ)) (answer : FolderAnswer) (text : List ℕ) : Type 0 where
+  judged : (leaders : List ℕ) (names texts : List (List ℕ))
+      → HasLeadersIn reads shelf (Folder folder) expected.leaders leaders
+      → HasNames reads shelf (Folder folder) names → ReadsFiles reads shelf names texts None
+      → TellsJudged A form expected detail leaders names texts folder.now answer text
+      → IsTold A reads form expected detail shelf folder answer text
+  unread : (fault : FileFault A) → IsFolderFault reads expected shelf folder fault → answer ≡ Err (name_of fault)
+      → IsFolderText form folder.now answer text → IsTold A reads form expected detail shelf folder answer text
 
 -- each of the folders was judged for itself, and this printed of it
-abbrev pub JudgesEach : Type 0 → {S : Type 0} → Reading S → Form → Expectation → FolderDetail
-    → List (Bor (List ℕ)) → S → SinkState → SinkState → Outcome → Type 0
+abbrev pub JudgesEach : (A : Type 0) → {S : Type 0} → Reading S → Form → Expectation → FolderDetail
+    → List (Bor (List ℕ)) → S → SinkState → SinkState → Outcome A → Type 0
 JudgesEach A reads form expected detail folders shelf out out' outcome =
-    TellsEach (IsJudgedLine A reads form expected detail shelf) folders out out' outcome
+    TellsEach (IsTold A reads form expected detail shelf) folders out out' outcome
 
 -- ---- Helpers, no definitions.
 
@@ -143,8 +140,8 @@ abbrev pub TellsSome : FolderTelling → List (Bor (List ℕ)) → SinkState →
 TellsSome Told folders out out' answers = (text : List ℕ) × AreTold Told folders answers text × Takes text out out'
 
 -- why it wasn't: the output stopped within it; or memory ran out, and nothing was printed
-abbrev pub IsUntold : FolderTelling → List (Bor (List ℕ)) → SinkState → SinkState → ProgramFault → Type 0
-IsUntold Told folders out out' CannotWriteAnswer =
+abbrev pub IsUntold : FolderTelling → List (Bor (List ℕ)) → SinkState → SinkState → ShowFault → Type 0
+IsUntold Told folders out out' show.Write =
     (answers : List FolderAnswer) × (text : List ℕ) × AreTold Told folders answers text × StopsIn text out out'
-IsUntold Told folders out out' OutOfMemory = out' ≡ out
-IsUntold Told folders out out' other = ⊥
+IsUntold Told folders out out' show.OutOfMemory = out' ≡ out
+IsUntold Told folders out out' show.WrongColumns = ⊥

@@ -1,51 +1,49 @@
 -- How the texts of files are read.
-use Rattle.std.specs.Prelude.{◌≡◌, ◌⊎◌, ℕ, ◌≤◌, List, ◌∷◌, ◌++◌, Result, Ok, Err, MatchResult, length, map, take}
-use Rattle.std.specs.List.{AllZip}
-use Rattle.ira_audit.specs.RingAudit.{HasTaken, RingAudit}
-use Rattle.ira_main_files.specs.FileName.{file_name}
+use Rattle.std.specs.Prelude.{◌≡◌, ◌⊎◌, ◌≤◌, ⊤, ℕ, Bool, true, List, [], ◌∷◌, None, Option, Some, Result, Ok, Err, IfOk, MatchResult}
+use Rattle.std.specs.Prelude.{length, map, take}
+use Rattle.ira_event.specs.declared.out_of_memory.OutOfMemory.{OutOfMemory}
+use Rattle.ira_audit.specs.RingAudit.{HasTaken}
 use Rattle.ira_main_files.specs.Shelf.{Reading}
-use Rattle.ira_main_files.specs.declared.file_name.FileName.{FileName}
-use Rattle.ira_main_files.specs.declared.shelf_fault.ShelfFault.{ShelfFault}
-use Rattle.ira_main.specs.ProgramFault.{read_fault}
-use Rattle.ira_main.specs.declared.program_fault.ProgramFault.{ProgramFault}
-use Rattle.ira_main.specs.declared.program_fault.ProgramFault.TheVariants.{OutOfMemory}
+use Rattle.ira_main_files.specs.declared.shelf_fault.ShelfFault.TheVariants.{Device, NotFound}
+use Rattle.ira_main.specs.declared.file_fault.FileFault.{FileFault}
+use Rattle.ira_main.specs.declared.file_fault.FileFault.TheVariants.{Unread}
+use Rattle.ira_main.specs.declared.read_files.FoundLogs.{FoundLogs}
 
--- the names, whole
-abbrev pub names_of : List FileName → List (List ℕ)
-names_of names = map file_name names
+-- each of these gave the text at its place, up to the first that failed
+abbrev pub Gathers : {X : Type 0} → (X → List ℕ → Type 0) → (X → Type 0) → List X → List (List ℕ) → Option X → Type 0
+Gathers Gives Fails [] [] None = ⊤
+Gathers Gives Fails (x ∷ xs) (text ∷ texts) failed = Gives x text × Gathers Gives Fails xs texts failed
+Gathers Gives Fails (x ∷ xs) [] (Some failed) = (failed ≡ x) × Fails x
+Gathers Gives Fails xs texts failed = ⊥
 
--- the files of these names were read and gave these texts, each name's file the text at its place
-abbrev pub ReadsFiles : {S : Type 0} → Reading S → List (List ℕ) → S → List (List ℕ) → Type 0
-ReadsFiles reads names shelf texts = AllZip (λ name text. reads.text shelf name (Ok text)) names texts
+-- the file of this name can't be read
+abbrev pub CannotRead : {S : Type 0} → Reading S → S → List ℕ → Type 0
+CannotRead reads shelf name = reads.text shelf name (Err Device) ⊎ reads.text shelf name (Err NotFound)
 
--- the files before one were read, and that one gave a fault, of which the program's fault tells. Files after it may
--- have been read too, which changes nothing
-pub record StopsReading {S : Type 0} (reads : Reading S) (names : List (List ℕ)) (shelf : S) (f : ProgramFault)
-    : Type 0 where
-  pub front : List (List ℕ)
-  pub name : FileName
-  pub back : List (List ℕ)
-  pub parts : front ++ file_name name ∷ back ≡ names
-  pub texts : List (List ℕ)
-  pub given : ReadsFiles reads front shelf texts
-  pub why : ShelfFault
-  pub unread : reads.text shelf (file_name name) (Err why)
-  pub told : f ≡ read_fault name why
+-- the files of these names were read and gave these texts, up to the first that can't be, which has this name. Files after
+-- it may have been read too, which changes nothing
+abbrev pub ReadsFiles : {S : Type 0} → Reading S → S → List (List ℕ) → List (List ℕ) → Option (List ℕ) → Type 0
+ReadsFiles reads shelf names texts unread =
+    Gathers (λ name text. reads.text shelf name (Ok text)) (CannotRead reads shelf) names texts unread
 
--- why the texts in the files of these names aren't judged: a file of theirs wasn't read, or memory ran out
-abbrev pub IsFilesFault : {S : Type 0} → Reading S → List (List ℕ) → S → ProgramFault → Type 0
-IsFilesFault reads names shelf f = StopsReading reads names shelf f ⊎ (f ≡ OutOfMemory)
+-- there is such a value, or a fault of this kind in its place; or memory ran out
+abbrev pub Gives : {T A : Type 0} → Result (Result T (FileFault A)) OutOfMemory → (T → Type 0) → (FileFault A → Type 0) → Type 0
+Gives result IsValue IsWhy = IfOk result (λ found. MatchResult found IsValue IsWhy)
+
+-- the first of these files that can't be read is named
+abbrev pub Stops : {A S : Type 0} → Reading S → S → List (List ℕ) → FileFault A → Type 0
+Stops reads shelf names fault =
+    (texts : List (List ℕ)) × (name : List ℕ) × ReadsFiles reads shelf names texts (Some name) × (fault ≡ Unread name)
+
+-- the texts were taken, and kept where that is asked for
+abbrev pub HasFound : {A : Type 0} → Bool → FoundLogs A → List (List ℕ) → Type 0
+HasFound keep found texts = HasTaken found.audit texts × (keep ≡ true → map (λ text. text.items) found.texts.items ≡ texts)
 
 -- the files of these names were read, and their texts were taken
-abbrev pub HasTakenFiles : {S : Type 0} → Reading S → List (List ℕ) → S → RingAudit → Type 0
-HasTakenFiles reads names shelf audit = (texts : List (List ℕ)) × HasTaken audit texts
-    × ReadsFiles reads names shelf texts
+abbrev pub HasTakenFiles : {A S : Type 0} → Reading S → S → Bool → List (List ℕ) → FoundLogs A → Type 0
+HasTakenFiles reads shelf keep names found =
+    (texts : List (List ℕ)) × HasFound keep found texts × ReadsFiles reads shelf names texts None
 
--- what comes of taking the texts of the files of these names: an audit that has, or why it hasn't
-abbrev pub IsFilesAudit : {S : Type 0} → Reading S → List (List ℕ) → S → Result RingAudit ProgramFault → Type 0
-IsFilesAudit reads names shelf result = MatchResult result (HasTakenFiles reads names shelf)
-    (IsFilesFault reads names shelf)
-
--- so many of the files of these names were read, the first ones, and their texts were taken
-abbrev pub HasRead : {S : Type 0} → Reading S → List (List ℕ) → S → ℕ → RingAudit → Type 0
-HasRead reads names shelf n audit = (n ≤ length names) × HasTakenFiles reads (take n names) shelf audit
+-- so many of them were, the first ones
+abbrev pub HasRead : {A S : Type 0} → Reading S → S → Bool → List (List ℕ) → ℕ → FoundLogs A → Type 0
+HasRead reads shelf keep names n found = (n ≤ length names) × HasTakenFiles reads shelf keep (take n names) found

@@ -1,5 +1,5 @@
 -- What words ask for that judge the logs of a ring.
-use Rattle.std.specs.Prelude.{◌≡◌, ◌⊎◌, ℕ, Bool, List, None, false}
+use Rattle.std.specs.Prelude.{◌≡◌, ◌⊎◌, ℕ, Bool, List, None, false, true}
 use Rattle.ira_commands.specs.Answers.{Answers}
 use Rattle.ira_commands.specs.Reply.{Reply}
 use Rattle.ira_commands.specs.declared.expected.Expected.{Expected}
@@ -16,12 +16,17 @@ use Rattle.ira_main_files.specs.Shelf.{Reading}
 use Rattle.ira_main.specs.Given.{IsUnread, OfFiles}
 use Rattle.ira_main.specs.LeadersFile.{HasLeadersIn, IsNoLeaders}
 use Rattle.ira_main.specs.Show.{AreLeadersOf}
-use Rattle.ira_main.specs.declared.program_fault.ProgramFault.{ProgramFault}
+use Rattle.ira_main.specs.declared.file_fault.FileFault.{FileFault}
 
 -- what is expected of an election by the words: whether it is to be over, and who is to lead
 abbrev pub IsExpectedBy : Expectation → List ℕ → Expected → Type 0
 IsExpectedBy expectation read asked =
     (asked.is_over ≡ expectation.is_over) × AreLeadersOf expectation.leaders read asked.leaders
+
+-- whether reasons are asked for as well
+abbrev pub has_reasons : FolderDetail → Bool
+has_reasons Line = false
+has_reasons Reasons = true
 
 -- what is asked of logs, where nothing is expected of their election: their answer, or why it is so as well
 abbrev pub asked_alone : FolderDetail → Form → LogsCommand
@@ -46,6 +51,6 @@ JudgesFiles A reads detail form expectation logs shelf reply =
     × OfFiles reads None None None logs shelf (Answers A (asked_of detail form expected.is_over expected.leaders)) reply
 
 -- why they aren't
-abbrev pub IsUnjudged : {S : Type 0} → Reading S → Expectation → LogSource → S → ProgramFault → Type 0
-IsUnjudged reads expectation logs shelf f =
-    IsNoLeaders reads shelf logs expectation.leaders f ⊎ IsUnread reads None None None logs shelf f
+abbrev pub IsUnjudged : {A S : Type 0} → Reading S → Expectation → LogSource → S → FileFault A → Type 0
+IsUnjudged reads expectation logs shelf fault =
+    IsNoLeaders reads shelf logs expectation.leaders fault ⊎ IsUnread reads None None None logs shelf fault

@@ -1,52 +1,45 @@
 -- What the logs in a folder are judged to be, where something may be expected of their election.
-use Rattle.std.specs.Prelude.{◌≡◌, ◌⊎◌, ℕ, List, codes}
+use Rattle.std.specs.Prelude.{◌≡◌, ℕ, List, MatchOption, None, Option, Some, codes}
 use Rattle.ira_event.specs.Log.{Log}
 use Rattle.ira_audit.specs.GoodLogs.{AreGoodLogs}
 use Rattle.ira_audit.specs.Refusal.{IsLogsReason}
 use Rattle.ira_audit.specs.Report.{report_line}
 use Rattle.ira_audit.specs.TextRuns.{AreTextsOfRuns}
 use Rattle.ira_audit.specs.declared.answer.Answer.{Answer}
-use Rattle.ira_audit.specs.declared.answer.Answer.TheVariants as audit
+use Rattle.ira_audit.specs.declared.answer.Answer.TheVariants.{No, Yes}
 use Rattle.ira_audit.specs.declared.reason.Reason.{Reason}
 use Rattle.ira_commands.specs.Expected.{IsMet, IsUnmet}
 use Rattle.ira_commands.specs.declared.expected.Expected.{Expected}
-use Rattle.ira_commands.specs.declared.expected.Unmet as commands
+use Rattle.ira_commands.specs.declared.expected.Unmet.{Unmet}
 use Rattle.ira_commands.specs.declared.expected.Unmet.TheVariants.{NoLeader, NotOver, OtherLeaders}
-use Rattle.ira_main_cli.specs.declared.expectation.Expectation.{Expectation}
 use Rattle.ira_view.specs.Status.{answer_status}
 use Rattle.ira_view.specs.declared.status.Status.{Status}
 use Rattle.ira_view.specs.declared.status.Status.TheVariants as status
-use Rattle.ira_main.specs.Judge.{IsExpectedBy}
 use Rattle.ira_main.specs.declared.judged_folder.JudgedFolder.{JudgedFolder}
-use Rattle.ira_main.specs.declared.judged_folder.JudgedFolder.TheVariants.{Answered, Unmet}
 
--- the answer of the logs: a yes where only their election isn't as expected
-abbrev pub answer_of : JudgedFolder → Answer
-answer_of (Answered answer) = answer
-answer_of other = audit.Yes
+-- the status that goes with an answer, and with what isn't as expected
+abbrev pub status_with : Answer → Option Unmet → Status
+status_with answer None = answer_status answer
+status_with answer (Some unmet) = status.No
 
--- the status that goes with it
 abbrev pub judged_status : JudgedFolder → Status
-judged_status (Answered answer) = answer_status answer
-judged_status other = status.No
+judged_status judged = status_with judged.answer judged.unmet
 
--- its line
+-- the line of these: the answer, or what isn't as expected
+abbrev pub line_with : Answer → Option Unmet → List ℕ
+line_with answer None = report_line answer
+line_with answer (Some NotOver) = codes "yes, not over\n"
+line_with answer (Some NoLeader) = codes "yes, no leader\n"
+line_with answer (Some OtherLeaders) = codes "yes, other leaders\n"
+
 abbrev pub judged_line : JudgedFolder → List ℕ
-judged_line (Answered answer) = report_line answer
-judged_line (Unmet NotOver) = codes "yes, not over\n"
-judged_line (Unmet NoLeader) = codes "yes, no leader\n"
-judged_line (Unmet OtherLeaders) = codes "yes, other leaders\n"
+judged_line judged = line_with judged.answer judged.unmet
 
--- good logs are judged so: a yes where all is as expected of their election; or else what isn't
-abbrev pub IsElectionJudged : Expectation → List ℕ → List Log → JudgedFolder → Type 0
-IsElectionJudged expectation read logs judged = (asked : Expected) × IsExpectedBy expectation read asked
-    × ((IsMet logs asked × (judged ≡ Answered audit.Yes))
-    ⊎ ((unmet : commands.Unmet) × IsUnmet logs asked unmet × (judged ≡ Unmet unmet)))
-
--- that is told of the texts of good logs, which are those of runs; or the reason against others
-pub data IsJudgedOf (expected : Expectation) (read : List ℕ) (texts : List (List ℕ)) (judged : JudgedFolder)
-    : Type 0 where
-  good : (logs : List Log) → AreGoodLogs texts logs → AreTextsOfRuns texts → IsElectionJudged expected read logs judged
-      → IsJudgedOf expected read texts judged
-  no : (reason : Reason) → IsLogsReason texts reason → judged ≡ Answered (audit.No reason)
-      → IsJudgedOf expected read texts judged
+-- the texts of good logs, which are those of runs, are judged so: a yes, and where not all is as expected of their
+-- election what isn't; or others, with the reason against them
+pub data IsJudgedOf (expected : Expected) (texts : List (List ℕ)) (judged : JudgedFolder) : Type 0 where
+  good : (logs : List Log) (unmet : Option Unmet) → AreGoodLogs texts logs → AreTextsOfRuns texts
+      → MatchOption unmet (IsMet logs expected) (IsUnmet logs expected)
+      → judged ≡ record { answer = Yes; unmet = unmet } → IsJudgedOf expected texts judged
+  no : (reason : Reason) → IsLogsReason texts reason → judged ≡ record { answer = No reason; unmet = None }
+      → IsJudgedOf expected texts judged

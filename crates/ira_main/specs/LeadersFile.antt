@@ -1,20 +1,18 @@
 -- The file of those who are to lead, where one is named.
-use Rattle.std.specs.Prelude.{◌≡◌, ◌⊎◌, ◌==◌, ℕ, Bool, false, true, List, [], ◌∷◌, None, Option, Some, Ok}
+use Rattle.std.specs.Prelude.{◌≡◌, ◌⊎◌, ◌==◌, ℕ, Bool, false, true, List, [], ◌∷◌, Option, Some, Ok}
 use Rattle.std.specs.Borrow.{Bor}
 use Rattle.std.specs.List.{list_any}
 use Rattle.ira_main_cli.specs.declared.asked_leaders.AskedLeaders.{AskedLeaders}
-use Rattle.ira_main_cli.specs.declared.asked_leaders.AskedLeaders.TheVariants.{Any, File, Places}
+use Rattle.ira_main_cli.specs.declared.asked_leaders.AskedLeaders.TheVariants.{File}
 use Rattle.ira_main_cli.specs.declared.log_source.LogSource.{LogSource}
 use Rattle.ira_main_cli.specs.declared.log_source.LogSource.TheVariants.{Files, Folder}
-use Rattle.ira_main_files.specs.FileName.{file_name}
+use Rattle.ira_main_files.specs.FileName.{name_in}
 use Rattle.ira_main_files.specs.LeadersText.{AreLeaders, IsBadLine}
 use Rattle.ira_main_files.specs.Shelf.{Reading}
-use Rattle.ira_main_files.specs.declared.file_name.FileName.{FileName}
-use Rattle.ira_main_files.specs.declared.file_name.FileName.TheVariants.{Given, InFolder}
-use Rattle.ira_main.specs.FilesRead.{IsFilesFault}
+use Rattle.ira_main.specs.FilesRead.{Stops}
 use Rattle.ira_main.specs.SourceNames.{AreFileNames, IsLoneFolder}
-use Rattle.ira_main.specs.declared.program_fault.ProgramFault.{ProgramFault}
-use Rattle.ira_main.specs.declared.program_fault.ProgramFault.TheVariants.{NoPlaceInLine, OutOfMemory}
+use Rattle.ira_main.specs.declared.file_fault.FileFault.{FileFault}
+use Rattle.ira_main.specs.declared.file_fault.FileFault.TheVariants.{NoPlaceInLine}
 
 -- the logs come from this folder, or from no folder
 abbrev pub ComesFromFolder : {S : Type 0} → Reading S → S → LogSource → Bor (List ℕ) → Type 0
@@ -30,24 +28,24 @@ abbrev pub has_slash : List ℕ → Bool
 has_slash name = list_any (λ byte. byte == 47) name
 
 -- a name without a slash is that of a file in the folder that the logs come from, if they come from one
-abbrev pub IsLeadersFile : {S : Type 0} → Reading S → S → LogSource → Bor (List ℕ) → FileName → Type 0
+abbrev pub IsLeadersFile : {S : Type 0} → Reading S → S → LogSource → List ℕ → List ℕ → Type 0
 IsLeadersFile reads shelf source name file =
-    ((has_slash name.now ≡ false) × (folder : Bor (List ℕ)) × ComesFromFolder reads shelf source folder
-    × (file ≡ InFolder folder name))
-    ⊎ ((ComesFromNoFolder reads shelf source ⊎ (has_slash name.now ≡ true)) × (file ≡ Given name))
+    ((has_slash name ≡ false) × (folder : Bor (List ℕ)) × ComesFromFolder reads shelf source folder
+    × (file ≡ name_in folder.now name))
+    ⊎ ((ComesFromNoFolder reads shelf source ⊎ (has_slash name ≡ true)) × (file ≡ name))
 
 -- the file of leaders, if one is named, was read, and these are the places in it
 abbrev pub HasLeadersIn : {S : Type 0} → Reading S → S → LogSource → Option AskedLeaders → List ℕ → Type 0
 HasLeadersIn reads shelf source (Some (File name)) places =
-    (file : FileName) × IsLeadersFile reads shelf source name file
-    × (text : List ℕ) × reads.text shelf (file_name file) (Ok text) × AreLeaders text places
+    (file : List ℕ) × IsLeadersFile reads shelf source name.now file
+    × (text : List ℕ) × reads.text shelf file (Ok text) × AreLeaders text places
 HasLeadersIn reads shelf source named places = places ≡ []
 
--- why there are none: it wasn't read, or a line of it is that of no place; or memory ran out
-abbrev pub IsNoLeaders : {S : Type 0} → Reading S → S → LogSource → Option AskedLeaders → ProgramFault → Type 0
-IsNoLeaders reads shelf source (Some (File name)) f =
-    (file : FileName) × IsLeadersFile reads shelf source name file
-    × (IsFilesFault reads (file_name file ∷ []) shelf f
-    ⊎ ((text : List ℕ) × (line : ℕ) × reads.text shelf (file_name file) (Ok text) × IsBadLine text line
-    × (f ≡ NoPlaceInLine line file)))
-IsNoLeaders reads shelf source named f = f ≡ OutOfMemory
+-- why there are none: it can't be read, or a line of it is that of no place
+abbrev pub IsNoLeaders : {A S : Type 0} → Reading S → S → LogSource → Option AskedLeaders → FileFault A → Type 0
+IsNoLeaders reads shelf source (Some (File name)) fault =
+    (file : List ℕ) × IsLeadersFile reads shelf source name.now file
+    × (Stops reads shelf (file ∷ []) fault
+    ⊎ ((text : List ℕ) × (line : ℕ) × reads.text shelf file (Ok text) × IsBadLine text line
+    × (fault ≡ NoPlaceInLine line file)))
+IsNoLeaders reads shelf source named fault = ⊥

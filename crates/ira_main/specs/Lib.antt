@@ -5,8 +5,8 @@ pub mod Delivery
 pub mod Draw
 pub mod Each
 pub mod Explain
+pub mod FileFault
 pub mod FilesRead
-pub mod FolderReasons
 pub mod FolderText
 pub mod Given
 pub mod Guide
@@ -18,7 +18,6 @@ pub mod LeftFiles
 pub mod LogFiles
 pub mod Mend
 pub mod Moment
-pub mod NamedFile
 pub mod Outcome
 pub mod Overwriting
 pub mod ProgramFault

@@ -29,8 +29,8 @@ pub record WritesLogs {S : Type 0} (writes : Writing S) (folder : List ℕ) (log
 
 -- the logs before one were written, and that one wasn't, or there was no memory for the name of its file: no file got its
 -- name
-pub record StopsDrafting {S : Type 0} (writes : Writing S) (folder : Bor (List ℕ)) (logs : List Log)
-    (old new : S) (f : ProgramFault) : Type 0 where
+pub record StopsDrafting {A S : Type 0} (writes : Writing S) (folder : Bor (List ℕ)) (logs : List Log)
+    (old new : S) (f : ProgramFault A) : Type 0 where
   pub front : List Log
   pub log : Log
   pub back : List Log
@@ -44,8 +44,8 @@ pub record StopsDrafting {S : Type 0} (writes : Writing S) (folder : Bor (List �
   pub told : f ≡ write_log_fault folder log.place why
 
 -- the files before that of a place got their names, and that one didn't
-pub record StopsNaming {S : Type 0} (writes : Writing S) (folder : Bor (List ℕ)) (files : List writes.Written)
-    (old new : S) (f : ProgramFault) : Type 0 where
+pub record StopsNaming {A S : Type 0} (writes : Writing S) (folder : Bor (List ℕ)) (files : List writes.Written)
+    (old new : S) (f : ProgramFault A) : Type 0 where
   pub front : List writes.Written
   pub file : writes.Written
   pub back : List writes.Written
@@ -58,8 +58,8 @@ pub record StopsNaming {S : Type 0} (writes : Writing S) (folder : Bor (List ℕ
 
 -- why the logs weren't all written: there was no memory for the list of their files; or one wasn't written, and then all
 -- old files have their names; or all were, and one didn't get its name
-pub data StopsInLogs {S : Type 0} (writes : Writing S) (folder : Bor (List ℕ)) (logs : List Log) (old new : S)
-    (f : ProgramFault) : Type 0 where
+pub data StopsInLogs {A S : Type 0} (writes : Writing S) (folder : Bor (List ℕ)) (logs : List Log) (old new : S)
+    (f : ProgramFault A) : Type 0 where
   no_room : new ≡ old → f ≡ fault.OutOfMemory → StopsInLogs writes folder logs old new f
   undrafted : StopsDrafting writes folder logs old new f → StopsInLogs writes folder logs old new f
   unnamed : (files : List writes.Written) (between : S) → DraftsLogs writes folder.now logs files old between

@@ -2,15 +2,11 @@
 use Rattle.std.specs.Prelude.{◌≡◌, ◌≢◌, ◌<◌, ℕ, All, List, ◌∷◌, Option, Some, None, codes, length, slice_get}
 use Rattle.std.specs.Borrow.{Bor}
 use Rattle.ira_event.specs.Limits.{MAX_NODES}
-use Rattle.ira_main_files.specs.FileName.{file_name, log_name}
+use Rattle.ira_main_files.specs.FileName.{log_name}
 use Rattle.ira_main_files.specs.Shelf.{Reading}
 use Rattle.ira_main_files.specs.declared.file_entry.FileEntry.{FileEntry}
 use Rattle.ira_main_files.specs.declared.file_entry.FileEntry.TheVariants.{File}
 use Rattle.ira_main_files.specs.declared.file_entry.FileId.{FileId}
-use Rattle.ira_main_files.specs.declared.file_name.FileName.{FileName}
-use Rattle.ira_main.specs.FilesRead.{names_of}
-use Rattle.ira_main.specs.declared.program_fault.ProgramFault.{ProgramFault}
-use Rattle.ira_main.specs.declared.program_fault.ProgramFault.TheVariants.{WouldOverwrite}
 
 -- two names lead to one file
 abbrev pub IsSameFile : {S : Type 0} → Reading S → S → List ℕ → List ℕ → Type 0
@@ -47,20 +43,16 @@ KeepsInput reads shelf folder names =
     (place : ℕ) → place < length names → place < MAX_NODES → ReplacesNone reads shelf (log_name folder place) names
 
 -- the names of the files that are read: the question's, if there is one, and the logs'
-abbrev pub input_names : Option (Bor (List ℕ)) → List FileName → List (List ℕ)
-input_names (Some question) logs = question.now ∷ names_of logs
-input_names None logs = names_of logs
+abbrev pub input_names : Option (Bor (List ℕ)) → List (List ℕ) → List (List ℕ)
+input_names (Some question) logs = question.now ∷ logs
+input_names None logs = logs
 
 -- the new file, if there is one, and not the output in its place, would be written over none of these
 abbrev pub KeepsFiles : {S : Type 0} → Reading S → S → Option (Bor (List ℕ)) → List (List ℕ) → Type 0
 KeepsFiles reads shelf written names =
     (file : Bor (List ℕ)) → written ≡ Some file → file.now ≢ codes "-" → ReplacesNone reads shelf file.now names
 
--- it would be written over one of these, and the fault names this one
-pub record IsReplacing {S : Type 0} (reads : Reading S) (shelf : S) (written : Option (Bor (List ℕ)))
-    (names : List (List ℕ)) (f : ProgramFault) : Type 0 where
-  pub file : Bor (List ℕ)
-  pub wanted : written ≡ Some file
-  pub name : FileName
-  pub replaced : Replaces reads shelf file.now names (file_name name)
-  pub told : f ≡ WouldOverwrite name
+-- it would be written over this one of these
+abbrev pub ReplacesInput : {S : Type 0} → Reading S → S → Option (Bor (List ℕ)) → List (List ℕ) → List ℕ → Type 0
+ReplacesInput reads shelf written names name =
+    (file : Bor (List ℕ)) × (written ≡ Some file) × Replaces reads shelf file.now names name

@@ -19,8 +19,8 @@ pub record IsUntouched {S : Type 0} (input input' : Reads) (shelf shelf' : S) (o
 
 -- what the words ask for was done; or they ask for a check, for the evidence of one, or for a run with a thread for
 -- each node, and nothing was
-abbrev pub ServesOrLeaves : Type 0 → {S : Type 0} → Reading S → Writing S → List (List ℕ) → Reads → Reads → S → S
-    → SinkState → SinkState → Progress → Type 0
+abbrev pub ServesOrLeaves : (A : Type 0) → {S : Type 0} → Reading S → Writing S → List (List ℕ) → Reads → Reads → S → S
+    → SinkState → SinkState → Progress A → Type 0
 ServesOrLeaves A reads writes words input input' shelf shelf' out out' (Ended outcome) =
     Serves A reads writes words input input' shelf shelf' out out' outcome
 ServesOrLeaves A reads writes words input input' shelf shelf' out out' (Check check) =

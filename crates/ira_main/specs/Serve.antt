@@ -36,17 +36,15 @@ use Rattle.ira_main_cli.specs.declared.run_request.RunRequest.{RunRequest}
 use Rattle.ira_main_cli.specs.declared.show_request.ShowRequest.{ShowRequest}
 use Rattle.ira_main_cli.specs.declared.words_fault.WordsFault.{WordsFault}
 use Rattle.ira_main_files.specs.CountingReader.{Reads}
-use Rattle.ira_main_files.specs.FileName.{file_name}
 use Rattle.ira_main_files.specs.ReadText.{IsReadTo}
 use Rattle.ira_main_files.specs.Shelf.{Reading, Writing}
-use Rattle.ira_main_files.specs.declared.file_name.FileName.{FileName}
 use Rattle.ira_main.specs.Ask.{AsksOf, IsUnasked}
 use Rattle.ira_main.specs.AskedRun.{run_of}
 use Rattle.ira_main.specs.Delivery.{Tells, TellsAndKeeps, TellsAndRecords}
 use Rattle.ira_main.specs.Draw.{DrawsFiles, IsUndrawn}
 use Rattle.ira_main.specs.Each.{JudgesEach}
 use Rattle.ira_main.specs.Explain.{ExplainsInput}
-use Rattle.ira_main.specs.Given.{IsNoMemory, IsUnread, OfFiles}
+use Rattle.ira_main.specs.Given.{HasNoFault, IsUnread, OfFiles}
 use Rattle.ira_main.specs.Guide.{guide_text}
 use Rattle.ira_main.specs.Mend.{IsUnmended, MendsLogs}
 use Rattle.ira_main.specs.Outcome.{Outcome, PrintsLine}
@@ -55,32 +53,29 @@ use Rattle.ira_main.specs.Judge.{IsUnjudged, JudgesFiles}
 use Rattle.ira_main.specs.Show.{IsUnshown, ShowsFiles}
 use Rattle.ira_main.specs.SourceNames.{AreSeveralFolders, IsOfOneRing}
 use Rattle.ira_main.specs.Version.{version_line}
-use Rattle.ira_main.specs.declared.program_fault.ProgramFault.{ProgramFault}
-use Rattle.ira_main.specs.declared.program_fault.ProgramFault.TheVariants.{CannotRead, OutOfMemory}
+use Rattle.ira_main.specs.declared.file_fault.FileFault.{FileFault}
+use Rattle.ira_main.specs.declared.file_fault.FileFault.TheVariants.{Unread}
 use Rattle.ira_view.specs.declared.status.Status.TheVariants.{Yes}
 
 -- the input had this text left, and such a reply comes of it
 abbrev pub OfInput : (List ℕ → Reply → Type 0) → Reads → Reads → Reply → Type 0
 OfInput IsReply old new reply = (text : List ℕ) × IsReadTo (MAX_TEXT + 1) old new text × IsReply text reply
 
--- why none comes of it: a read failed, or memory ran out
-abbrev pub IsInputFault : Reads → ProgramFault → Type 0
-IsInputFault new f =
-    ((name : FileName) × (file_name name ≡ codes "-") × (new.has_failed ≡ true) × (new.is_over ≡ true)
-    × (f ≡ CannotRead name))
-    ⊎ (f ≡ OutOfMemory)
+-- why none comes of it: a read failed
+abbrev pub IsInputFault : {A : Type 0} → Reads → FileFault A → Type 0
+IsInputFault new fault = (new.has_failed ≡ true) × (new.is_over ≡ true) × (fault ≡ Unread (codes "-"))
 
 -- what comes of a command on files that are read is told
-abbrev pub TellsOfLogs : Type 0 → {S : Type 0} → Reading S → Option (Bor (List ℕ)) → Option (Bor (List ℕ)) → LogSource → S
-    → SinkState → SinkState → Outcome → LogsCommand → Type 0
+abbrev pub TellsOfLogs : (A : Type 0) → {S : Type 0} → Reading S → Option (Bor (List ℕ)) → Option (Bor (List ℕ)) → LogSource → S
+    → SinkState → SinkState → Outcome A → LogsCommand → Type 0
 TellsOfLogs A reads question certificate source shelf out out' outcome command =
     Tells (OfFiles reads None question certificate source shelf (Answers A command))
     (IsUnread reads None question certificate source shelf) out out' outcome
 
 -- logs were judged, of whose election this is expected, or those of each of some folders, which may stand in place of
 -- files
-abbrev pub AnswersLogs : Type 0 → {S : Type 0} → Reading S → FolderDetail → Form → Expectation → LogSource → S → SinkState
-    → SinkState → Outcome → Type 0
+abbrev pub AnswersLogs : (A : Type 0) → {S : Type 0} → Reading S → FolderDetail → Form → Expectation → LogSource → S → SinkState
+    → SinkState → Outcome A → Type 0
 AnswersLogs A reads detail form expected source shelf out out' outcome =
     (IsOfOneRing reads shelf source
     × Tells (JudgesFiles A reads detail form expected source shelf) (IsUnjudged reads expected source shelf) out out'
@@ -89,8 +84,8 @@ AnswersLogs A reads detail form expected source shelf out out' outcome =
     × JudgesEach A reads form expected detail folders shelf out out' outcome)
 
 -- the answer that is asked for was explained; that of one log is none of these, since it comes of the input
-abbrev pub ExplainsAnswer : Type 0 → Form → {S : Type 0} → Reading S → ExplainedAnswer → S → SinkState → SinkState
-    → Outcome → Type 0
+abbrev pub ExplainsAnswer : (A : Type 0) → Form → {S : Type 0} → Reading S → ExplainedAnswer → S → SinkState → SinkState
+    → Outcome A → Type 0
 ExplainsAnswer A form reads OneLog shelf out out' outcome = ⊥
 ExplainsAnswer A form reads (Logs expected source) shelf out out' outcome =
     AnswersLogs A reads Reasons form expected source shelf out out' outcome
@@ -108,7 +103,7 @@ ExplainsAnswer A form reads (Certificate question certificate source) shelf out 
 -- shelf is as it was but for the files of a run, of upgraded or mended logs, of a certificate and of a picture
 pub data CommandOutcome (A : Type 0) {S : Type 0} (reads : Reading S) (writes : Writing S)
     (words : List (List ℕ)) (shelf shelf' : S) (out out' : SinkState)
-    (outcome : Outcome) : Type 0 where
+    (outcome : Outcome A) : Type 0 where
   refused : (fault : WordsFault) → MayBeRefused words fault → shelf' ≡ shelf → out' ≡ out
       → outcome ≡ Err (words_fault fault)
       → CommandOutcome A reads writes words shelf shelf' out out' outcome
@@ -139,13 +134,13 @@ pub data CommandOutcome (A : Type 0) {S : Type 0} (reads : Reading S) (writes : 
       (IsUnread reads decide.certificate (Some decide.question) None decide.logs shelf)
       shelf shelf' out out' outcome
       → CommandOutcome A reads writes words shelf shelf' out out' outcome
-  pairs : (nodes : ℕ) → IsPairsLine words nodes → shelf' ≡ shelf → Tells (AsksPairs nodes) IsNoMemory out out' outcome
+  pairs : (nodes : ℕ) → IsPairsLine words nodes → shelf' ≡ shelf → Tells (AsksPairs nodes) HasNoFault out out' outcome
       → CommandOutcome A reads writes words shelf shelf' out out' outcome
   asked : (ask : AskRequest) → IsAskLine words ask → shelf' ≡ shelf
       → Tells (AsksOf reads ask shelf) (IsUnasked reads ask.size shelf) out out' outcome
       → CommandOutcome A reads writes words shelf shelf' out out' outcome
   recorded : (request : RunRequest) → IsRunLine words request
-      → TellsAndRecords writes request.folder (RunsRing request.is_alone (run_of request)) IsNoMemory
+      → TellsAndRecords writes request.folder (RunsRing request.is_alone (run_of request)) HasNoFault
       shelf shelf' out out' outcome
       → CommandOutcome A reads writes words shelf shelf' out out' outcome
   upgraded : (upgrade : RewriteRequest) → IsUpgradeLine words upgrade
@@ -167,7 +162,7 @@ pub data CommandOutcome (A : Type 0) {S : Type 0} (reads : Reading S) (writes : 
 -- log; with other words the input isn't read, and what they ask for is done
 pub data Serves (A : Type 0) {S : Type 0} (reads : Reading S) (writes : Writing S)
     (words : List (List ℕ)) (input input' : Reads) (shelf shelf' : S)
-    (out out' : SinkState) (outcome : Outcome) : Type 0 where
+    (out out' : SinkState) (outcome : Outcome A) : Type 0 where
   without_words : words ≡ [] → shelf' ≡ shelf
       → Tells (OfInput (JudgesLog Reports) input input') (IsInputFault input') out out' outcome
       → Serves A reads writes words input input' shelf shelf' out out' outcome

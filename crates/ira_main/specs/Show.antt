@@ -18,7 +18,7 @@ use Rattle.ira_main_files.specs.Shelf.{Reading}
 use Rattle.ira_main.specs.Given.{IsUnread, OfFiles}
 use Rattle.ira_main.specs.LeadersFile.{HasLeadersIn, IsNoLeaders}
 use Rattle.ira_main.specs.Moment.{IsMomentOf, question_of}
-use Rattle.ira_main.specs.declared.program_fault.ProgramFault.{ProgramFault}
+use Rattle.ira_main.specs.declared.file_fault.FileFault.{FileFault}
 
 -- who is to lead: the nodes at these places
 abbrev pub AreAt : List ℕ → RingLeaders → Type 0
@@ -52,7 +52,7 @@ ShowsFiles A reads show shelf reply =
     × OfFiles reads None (question_of show.moment) None show.logs shelf (Answers A asked) reply
 
 -- why it isn't
-abbrev pub IsUnshown : {S : Type 0} → Reading S → ShowRequest → S → ProgramFault → Type 0
-IsUnshown reads show shelf f =
-    IsNoLeaders reads shelf show.logs show.leads f
-    ⊎ IsUnread reads None (question_of show.moment) None show.logs shelf f
+abbrev pub IsUnshown : {A S : Type 0} → Reading S → ShowRequest → S → FileFault A → Type 0
+IsUnshown reads show shelf fault =
+    IsNoLeaders reads shelf show.logs show.leads fault
+    ⊎ IsUnread reads None (question_of show.moment) None show.logs shelf fault

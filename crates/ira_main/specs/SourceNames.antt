@@ -11,11 +11,8 @@ use Rattle.ira_main_files.specs.FileName.{log_name}
 use Rattle.ira_main_files.specs.Shelf.{Reading}
 use Rattle.ira_main_files.specs.declared.file_entry.FileEntry.{FileEntry}
 use Rattle.ira_main_files.specs.declared.file_entry.FileEntry.TheVariants as entry
-use Rattle.ira_main_files.specs.declared.file_name.FileName.{FileName}
-use Rattle.ira_main_files.specs.declared.file_name.FileName.TheVariants.{Given, Log}
-use Rattle.ira_main.specs.FilesRead.{IsFilesFault}
-use Rattle.ira_main.specs.declared.program_fault.ProgramFault.{ProgramFault}
-use Rattle.ira_main.specs.declared.program_fault.ProgramFault.TheVariants.{OutOfMemory}
+use Rattle.ira_main.specs.FilesRead.{Stops}
+use Rattle.ira_main.specs.declared.file_fault.FileFault.{FileFault}
 
 -- how many logs the text of the first says that there are: as many as the ring of its head has nodes; this one alone
 -- where it is too long or begins with no head
@@ -64,22 +61,24 @@ abbrev pub SaysLogsIn : {S : Type 0} → Reading S → S → Bor (List ℕ) → 
 SaysLogsIn reads shelf folder number =
     (text : List ℕ) × reads.text shelf (log_name folder.now 0) (Ok text) × SaysLogs text number
 
--- the names of these
-abbrev pub HasFolderNames : {S : Type 0} → Reading S → S → Bor (List ℕ) → List FileName → Type 0
-HasFolderNames reads shelf folder names = (number : ℕ) × SaysLogsIn reads shelf folder number
-    × (names ≡ map (λ place. Log folder place) (range_with_len 0 number))
+-- the names of the first logs in a folder
+abbrev pub names_in : List ℕ → ℕ → List (List ℕ)
+names_in folder number = map (λ place. log_name folder place) (range_with_len 0 number)
+
+-- the names of the logs in a folder
+abbrev pub HasFolderNames : {S : Type 0} → Reading S → S → Bor (List ℕ) → List (List ℕ) → Type 0
+HasFolderNames reads shelf folder names =
+    (number : ℕ) × SaysLogsIn reads shelf folder number × (names ≡ names_in folder.now number)
 
 -- the names of the logs of a source: those that are given, or those in a folder
-abbrev pub HasNames : {S : Type 0} → Reading S → S → LogSource → List FileName → Type 0
+abbrev pub HasNames : {S : Type 0} → Reading S → S → LogSource → List (List ℕ) → Type 0
 HasNames reads shelf (Files words) names =
-    (AreFileNames reads shelf words.items × (names ≡ map (λ word. Given word) words.items))
+    (AreFileNames reads shelf words.items × (names ≡ map (λ word. word.now) words.items))
     ⊎ ((folder : Bor (List ℕ)) × IsLoneFolder reads shelf words.items folder × HasFolderNames reads shelf folder names)
 HasNames reads shelf (Folder folder) names = HasFolderNames reads shelf folder names
 
--- why there are none: the first log of a folder wasn't read, or memory ran out
-abbrev pub IsNamesFault : {S : Type 0} → Reading S → S → LogSource → ProgramFault → Type 0
-IsNamesFault reads shelf (Files words) f =
-    ((folder : Bor (List ℕ)) × IsLoneFolder reads shelf words.items folder
-    × IsFilesFault reads (log_name folder.now 0 ∷ []) shelf f)
-    ⊎ (f ≡ OutOfMemory)
-IsNamesFault reads shelf (Folder folder) f = IsFilesFault reads (log_name folder.now 0 ∷ []) shelf f
+-- why there are none: the first log of a folder can't be read
+abbrev pub IsNamesFault : {A S : Type 0} → Reading S → S → LogSource → FileFault A → Type 0
+IsNamesFault reads shelf (Files words) fault = (folder : Bor (List ℕ)) × IsLoneFolder reads shelf words.items folder
+    × Stops reads shelf (log_name folder.now 0 ∷ []) fault
+IsNamesFault reads shelf (Folder folder) fault = Stops reads shelf (log_name folder.now 0 ∷ []) fault

@@ -3,14 +3,14 @@ use Rattle.std.specs.Prelude.{◌≡◌, ◌⊎◌, ◌==◌, ◌&&◌, ◌||◌
 use Rattle.std.specs.List.{ends_with}
 use Rattle.std.specs.Str.{bytes_eq}
 use Rattle.ira_event.specs.Sink.{SinkState, StopsIn, Takes}
-use Rattle.ira_main_files.specs.FileName.{file_name}
 use Rattle.ira_main_files.specs.Shelf.{Reading}
 use Rattle.ira_main_files.specs.declared.file_entry.FileEntry.{FileEntry}
 use Rattle.ira_main_files.specs.declared.file_entry.FileEntry.TheVariants.{Folder, Missing}
 use Rattle.ira_view_json.specs.FolderValue.{unread_value}
 use Rattle.ira_view_json.specs.Line.{IsLineOf}
 use Rattle.ira_main.specs.Outcome.{Outcome}
-use Rattle.ira_main.specs.declared.program_fault.ProgramFault.TheVariants.{CannotRead, CannotWrite, CannotWriteLog}
+use Rattle.ira_main.specs.declared.program_fault.ProgramFault.TheVariants.{CannotWrite, CannotWriteLog, File}
+use Rattle.ira_main.specs.declared.file_fault.FileFault.TheVariants.{Unread}
 
 -- `--json` is one of the words, and `--` doesn't stand before it
 abbrev pub wants_json : List (List ℕ) → Bool
@@ -20,9 +20,9 @@ wants_json (word ∷ words) =
 
 -- a file that can't be read was printed as JSON, where that is wanted, whole or to where the output stopped; or nothing,
 -- where memory ran out
-abbrev pub TellsUnread : Bool → Outcome → SinkState → SinkState → Type 0
-TellsUnread true (Err (CannotRead name)) out out' =
-    ((line : List ℕ) × IsLineOf (unread_value None (file_name name) 2) line
+abbrev pub TellsUnread : {A : Type 0} → Bool → Outcome A → SinkState → SinkState → Type 0
+TellsUnread true (Err (File (Unread name))) out out' =
+    ((line : List ℕ) × IsLineOf (unread_value None name 2) line
     × (Takes line out out' ⊎ StopsIn line out out'))
     ⊎ (out' ≡ out)
 TellsUnread wants outcome out out' = out' ≡ out
@@ -40,10 +40,9 @@ abbrev pub unwritten_why : List ℕ
 unwritten_why = codes "  it is a folder, its folder isn't there or can't be written in, or the disk is full\n"
 
 -- the line after that of an outcome: of a file that wasn't read or written this, if one; of others none
-abbrev pub IsWhy : {S : Type 0} → Reading S → S → Outcome → List ℕ → Type 0
-IsWhy reads shelf (Err (CannotRead name)) line =
-    ((entry : FileEntry) × reads.entry shelf (file_name name) entry × (line ≡ entry_text (file_name name) entry))
-    ⊎ (line ≡ [])
+abbrev pub IsWhy : {A S : Type 0} → Reading S → S → Outcome A → List ℕ → Type 0
+IsWhy reads shelf (Err (File (Unread name))) line =
+    ((entry : FileEntry) × reads.entry shelf name entry × (line ≡ entry_text name entry)) ⊎ (line ≡ [])
 IsWhy reads shelf (Err (CannotWrite name)) line = line ≡ unwritten_why
 IsWhy reads shelf (Err (CannotWriteLog folder place)) line = line ≡ unwritten_why
 IsWhy reads shelf outcome line = line ≡ []

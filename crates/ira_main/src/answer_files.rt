@@ -1,20 +1,19 @@
-ghost use Rattle.std.specs.Prelude.{◌≡◌, ℕ, IfOk, List, MatchResult, false, length};
-ghost use Rattle.ira_audit.specs.RingAudit.{HasTaken};
+ghost use Rattle.std.specs.Prelude.{◌≡◌, ℕ, IfOk, List, length, map, true};
+ghost use Rattle.ira_audit.specs.Judged.{IsJudged};
 ghost use Rattle.ira_commands.specs.Answers.{Answers};
 ghost use Rattle.ira_commands.specs.Given.{file_of};
 ghost use Rattle.ira_commands.specs.LogsCommand.{needs_texts};
+ghost use Rattle.ira_main.specs.FilesRead.{Gives};
 ghost use Rattle.ira_main.specs.Given.{IsUnread, OfFiles, named_file};
-ghost use Rattle.ira_main.specs.NamedFile.{names_in, texts_in};
 
-use crate::given::{First, Given, GivenTexts, Inputs, read_given, read_given_texts};
-use crate::named_file::{NamedFile, named_texts};
-use crate::program_fault::ProgramFault;
+use crate::file_fault::Answered;
+use crate::given::{Inputs, read_given};
+use crate::read_files::{FoundLogs, named_texts};
 use crate::source_names::paths;
-use ira_audit::RingAudit;
+use ira_audit::Judged;
 use ira_commands::{GivenFiles, LogsCommand, Reply, answer};
 use ira_event::OutOfMemory;
-use ira_main_files::TextSource;
-use ira_view::judge_texts;
+use ira_main_files::{FileName, TextSource};
 use ira_view_page::NamedText;
 use std::alloc::Allocator;
 use std::thread::Threads;
@@ -23,88 +22,68 @@ use std::thread::Threads;
 fn named_file<'f>(name: Option<&'f str>, text: &'f [u8]) -> NamedText<'f>
     ensures { file_of result ≡ named_file name.entry text.now }
 {
-    match name {
-        Some(name) => NamedText { name, text },
-        None => NamedText { name: "", text },
-    }
+    let name = name.unwrap_or("");
+    NamedText { name, text }
 }
 
-/// What comes of a command on logs that an audit has taken, whose texts it doesn't need.
-fn answer_taken<A: Allocator + Clone>(
+/// The reply to a command on files that were read: logs in files of these names, which were judged, with these texts where
+/// they were kept, a question and a certificate.
+pub(crate) fn answer_read<A: Allocator + Clone>(
     alloc: A,
     command: LogsCommand<'_>,
-    inputs: Inputs<'_, '_>,
-    first: &First<'_, A>,
-    audit: RingAudit<A>,
+    question: NamedText<'_>,
+    certificate: NamedText<'_>,
+    names: &[FileName<A>],
+    texts: &[Vec<u8, A>],
+    judged: Judged<A>,
 ) -> Result<Reply<A>, OutOfMemory>
-    requires command { needs_texts command ≡ false }
-    requires taken { (texts : List (List ℕ)) × HasTaken audit texts × (length first.now.names.items ≡ length texts) }
-    ensures { (names texts : List (List ℕ)) → HasTaken audit texts → IfOk result (Answers A command.entry (record {
-      question = named_file inputs.entry.question first.now.question;
-      certificate = named_file inputs.entry.certificate first.now.certificate;
-      names = names;
-      texts = texts;
-    })) }
+    requires { (given : List (List ℕ)) × IsJudged given judged × (length given ≡ length names.now)
+        × (needs_texts command ≡ true → map (λ text. text.items) texts.now ≡ given) }
+    ensures { (given : List (List ℕ)) → IsJudged given judged
+        → (needs_texts command.entry ≡ true → map (λ text. text.items) texts.now ≡ given)
+        → IfOk result (Answers A command.entry (record {
+          question = file_of question.entry;
+          certificate = file_of certificate.entry;
+          names = names.now;
+          texts = given;
+        })) }
 {
-    let judged = audit.judge()?;
-    let given = GivenFiles {
-        question: named_file(inputs.question, first.question.bytes()),
-        certificate: named_file(inputs.certificate, first.certificate.bytes()),
-        names: paths(&alloc, &first.names)?,
-        logs: &[],
-    };
-    answer(alloc, command, given, judged)
-}
-
-/// What comes of a command on logs in files that were read.
-fn answer_read<A: Allocator + Clone>(
-    alloc: A,
-    command: LogsCommand<'_>,
-    inputs: Inputs<'_, '_>,
-    first: &First<'_, A>,
-    logs: &[NamedFile<A>],
-) -> Result<Reply<A>, OutOfMemory>
-    requires { length first.now.names.items ≡ length logs.now }
-    ensures { IfOk result (Answers A command.entry (record {
-      question = named_file inputs.entry.question first.now.question;
-      certificate = named_file inputs.entry.certificate first.now.certificate;
-      names = names_in logs.now;
-      texts = texts_in logs.now;
-    })) }
-{
-    let logs = named_texts(alloc.clone()?, logs)?;
-    let judged = judge_texts(alloc.clone()?, &logs)?;
-    let given = GivenFiles {
-        question: named_file(inputs.question, first.question.bytes()),
-        certificate: named_file(inputs.certificate, first.certificate.bytes()),
-        names: paths(&alloc, &first.names)?,
+    let logs = named_texts(alloc.clone()?, names, texts)?;
+    let files = GivenFiles {
+        question,
+        certificate,
+        names: paths(&alloc, names)?,
         logs: &logs,
     };
-    answer(alloc, command, given, judged)
+    answer(alloc, command, files, judged)
 }
 
 /// What comes of a command on the files that it asks for. The texts of logs are kept only where it needs them.
-pub(crate) fn answer_files<'a, R, A, F>(
+pub(crate) fn answer_files<R, A, F>(
     rt: &R,
     alloc: A,
     command: LogsCommand<'_>,
-    inputs: Inputs<'_, 'a>,
+    inputs: Inputs<'_, '_>,
     shelf: &F,
-) -> Result<Reply<A>, ProgramFault<'a>>
+) -> Result<Answered<A>, OutOfMemory>
 where
     R: Threads + Sync,
     A: Allocator + Clone + Send + Sync,
     F: TextSource + Sync,
-    ensures { MatchResult result
+    ensures { Gives result
         (OfFiles F.reads inputs.entry.made inputs.entry.question inputs.entry.certificate inputs.entry.logs.now shelf.now
         (Answers A command.entry))
         (IsUnread F.reads inputs.entry.made inputs.entry.question inputs.entry.certificate inputs.entry.logs.now
         shelf.now) }
 {
-    if command.needs_texts() {
-        let GivenTexts { first, logs } = read_given_texts(&alloc, inputs, shelf)?;
-        return Ok(answer_read(alloc, command, inputs, &first, &logs)?);
+    match read_given(rt, &alloc, inputs, command.needs_texts(), shelf)? {
+        Ok(given) => {
+            let FoundLogs { audit, texts } = given.logs;
+            let question = named_file(inputs.question, given.question.bytes());
+            let certificate = named_file(inputs.certificate, given.certificate.bytes());
+            let (names, judged) = (&given.names, audit.judge()?);
+            Ok(Ok(answer_read(alloc, command, question, certificate, names, &texts, judged)?))
+        }
+        Err(fault) => Ok(Err(fault)),
     }
-    let Given { first, audit } = read_given(rt, &alloc, inputs, shelf)?;
-    Ok(answer_taken(alloc, command, inputs, &first, audit)?)
 }

@@ -2,13 +2,13 @@ ghost use Rattle.ira_main.specs.Serve.{AnswersLogs};
 
 use crate::delivery::deliver;
 use crate::judge_each::judge_each;
-use crate::judge_files::judge_logs;
+use crate::judge_files::{AskedLogs, judge_logs};
 use crate::program_fault::ProgramFault;
 use crate::source_names::several_folders;
 use ira_event::Sink;
-use ira_main_cli::{Expectation, FolderDetail, LogSource};
+use ira_main_cli::LogSource;
 use ira_main_files::Shelf;
-use ira_view::{Form, Status};
+use ira_view::Status;
 use std::alloc::Allocator;
 use std::thread::Threads;
 
@@ -17,25 +17,21 @@ use std::thread::Threads;
 pub(crate) fn answer_logs<'a, R, A, F, W>(
     rt: &R,
     alloc: A,
-    detail: FolderDetail,
-    form: Form,
-    expected: &Expectation<'a>,
-    logs: &LogSource<'a>,
+    asked: AskedLogs<'_, '_>,
+    logs: &LogSource<'_>,
     shelf: &F,
     out: &mut W,
-) -> Result<Status, ProgramFault<'a>>
+) -> Result<Status, ProgramFault<'a, A>>
 where
-    R: AllocGlobal + Threads + Sync,
+    R: Threads + Sync,
     A: Allocator + Clone + Send + Sync,
     F: Shelf + Sync,
     W: Sink,
-    ensures { AnswersLogs A F.reads detail form expected.now logs.now shelf.now (W.state out.old) (W.state out.new) result }
+    ensures { AnswersLogs A F.reads asked.entry.detail asked.entry.form asked.entry.expected.now logs.now shelf.now
+        (W.state out.old) (W.state out.new) result }
 {
     if let Some(folders) = several_folders(logs, shelf) {
-        return judge_each(rt, alloc, form, expected, detail, folders, shelf, out);
+        return judge_each(rt, alloc, asked, folders, shelf, out);
     }
-    deliver(
-        judge_logs(rt, alloc, detail, form, expected, logs, shelf),
-        out,
-    )
+    deliver(judge_logs(rt, alloc, asked, logs, shelf), out)
 }

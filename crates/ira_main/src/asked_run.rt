@@ -1,10 +1,12 @@
-ghost use Rattle.std.specs.Prelude.{◌≡◌, MatchResult, false, true};
+ghost use Rattle.std.specs.Prelude.{◌≡◌, false, true};
 ghost use Rattle.ira_commands.specs.Run.{RunsRing};
 ghost use Rattle.ira_main.specs.AskedRun.{run_of};
-ghost use Rattle.ira_main.specs.Given.{IsNoMemory};
+ghost use Rattle.ira_main.specs.FilesRead.{Gives};
+ghost use Rattle.ira_main.specs.Given.{HasNoFault};
 
-use crate::program_fault::ProgramFault;
-use ira_commands::{AskedRun, Reply, run_asked, run_asked_on_threads};
+use crate::file_fault::Answered;
+use ira_commands::{AskedRun, run_asked, run_asked_on_threads};
+use ira_event::OutOfMemory;
 use ira_main_cli::RunRequest;
 use std::alloc::Allocator;
 use std::sync::Wait;
@@ -26,27 +28,27 @@ fn run_of(request: &RunRequest<'_>) -> AskedRun
 }
 
 /// Runs the ring that is asked for on one thread.
-pub(crate) fn record_run_alone<'a, A: Allocator + Clone>(
+pub(crate) fn record_run_alone<A: Allocator + Clone>(
     alloc: &A,
-    request: &RunRequest<'a>,
-) -> Result<Reply<A>, ProgramFault<'a>>
+    request: &RunRequest<'_>,
+) -> Result<Answered<A>, OutOfMemory>
     requires { request.now.is_alone ≡ true }
-    ensures { MatchResult result (RunsRing request.now.is_alone (run_of request.now)) IsNoMemory }
+    ensures { Gives result (RunsRing request.now.is_alone (run_of request.now)) HasNoFault }
 {
-    Ok(run_asked(alloc.clone()?, &run_of(request))?)
+    Ok(Ok(run_asked(alloc.clone()?, &run_of(request))?))
 }
 
 /// Runs the ring that is asked for with a thread for each node.
-pub(crate) fn record_run_on_threads<'a, R, A>(
+pub(crate) fn record_run_on_threads<R, A>(
     rt: &R,
     alloc: &A,
-    request: &RunRequest<'a>,
-) -> Result<Reply<A>, ProgramFault<'a>>
+    request: &RunRequest<'_>,
+) -> Result<Answered<A>, OutOfMemory>
 where
     R: Threads + Wait + Clock + Sync,
     A: Allocator + Clone + Send + Sync,
     requires { request.now.is_alone ≡ false }
-    ensures { MatchResult result (RunsRing request.now.is_alone (run_of request.now)) IsNoMemory }
+    ensures { Gives result (RunsRing request.now.is_alone (run_of request.now)) HasNoFault }
 {
-    Ok(run_asked_on_threads(rt, alloc.clone()?, &run_of(request))?)
+    Ok(Ok(run_asked_on_threads(rt, alloc.clone()?, &run_of(request))?))
 }

@@ -33,12 +33,12 @@ fn keep<'a, A: Allocator, F: Shelf>(
     certificate: &Certificate<A>,
     name: &'a str,
     shelf: &mut F,
-) -> Result<Status, ProgramFault<'a>>
+) -> Result<Status, ProgramFault<'a, A>>
     ensures { KeepsCertificate (writing_by F.creates F.closes F.keeps F.Out.state) certificate.now name.entry
         shelf.old shelf.new result }
 {
     if !certificate.readable() {
-        return Err(ProgramFault::Refused(CommandFault::CertificatePastLimits));
+        return Err(ProgramFault::Command(CommandFault::CertificatePastLimits));
     }
     match write_new(certificate, name, shelf) {
         Ok(()) => Ok(Status::Yes),
@@ -55,7 +55,7 @@ pub fn keep_cert<A: Allocator, F: Shelf, V: Sink>(
     shelf: &mut F,
     err: &mut V,
 ) -> u8
-    ensures { (outcome : Outcome)
+    ensures { (outcome : Outcome A)
         × KeepsCertificate (writing_by F.creates F.closes F.keeps F.Out.state) certificate.now name.entry
         shelf.old shelf.new outcome
         × (result ≡ outcome_number outcome) × ReportsOutcome outcome [] (V.state err.old) (V.state err.new) }

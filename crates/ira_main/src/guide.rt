@@ -8,6 +8,7 @@ use crate::program_fault::ProgramFault;
 use ira_event::Sink;
 use ira_main_cli::GuideTopic;
 use ira_view::Status;
+use std::alloc::Allocator;
 
 // Made of the command line by checks/command_words.py.
 const COMMANDS_GUIDE: &[u8] = b"\
@@ -143,10 +144,10 @@ fn guide_text(topic: GuideTopic) -> &'static [u8]
 }
 
 /// Prints what is said on a topic.
-pub(crate) fn print_guide<'a, W: Sink>(
+pub(crate) fn print_guide<'a, A: Allocator, W: Sink>(
     topic: GuideTopic,
     out: &mut W,
-) -> Result<Status, ProgramFault<'a>>
+) -> Result<Status, ProgramFault<'a, A>>
     ensures { PrintsLine (guide_text topic) Yes (W.state out.old) (W.state out.new) result }
 {
     print_text(guide_text(topic), Status::Yes, out)

@@ -20,7 +20,7 @@ fn write_file<A: Allocator, B: Allocator, F: Shelf>(
         (log_text log.now) shelf.old result shelf.new
         ⊎ ((shelf.new ≡ shelf.old) × (result ≡ Err ShelfFault.OutOfMemory)) }
 {
-    let name = FileName::Log(folder, log.place()).path(alloc)?;
+    let name = FileName::log(alloc, folder, log.place())?;
     let mut file = shelf.create(name.as_str())?;
     write_log(log, &mut file)?;
     shelf.close(file)
@@ -31,7 +31,7 @@ fn keep_files<'a, A: Allocator, F: Shelf>(
     folder: &'a str,
     files: Vec<F::Written, A>,
     shelf: &mut F,
-) -> Result<(), ProgramFault<'a>>
+) -> Result<(), ProgramFault<'a, A>>
     requires { length files.items ≤ MAX_NODES }
     ensures { MatchResult result
         (λ _. NamesAll (writing_by F.creates F.closes F.keeps F.Out.state) files.items shelf.old shelf.new)
@@ -48,19 +48,19 @@ fn keep_files<'a, A: Allocator, F: Shelf>(
 }
 
 /// Writes the logs, each to a file of its own, in the order of the places. No file gets its name before all are written.
-pub(crate) fn write_files<'a, A: Allocator, B: Allocator, F: Shelf>(
-    alloc: A,
+pub(crate) fn write_files<'a, A: Allocator + Clone, B: Allocator, F: Shelf>(
+    alloc: &A,
     folder: &'a str,
     logs: &Logs<B>,
     shelf: &mut F,
-) -> Result<(), ProgramFault<'a>>
+) -> Result<(), ProgramFault<'a, A>>
     ensures { MatchResult result
         (λ _. WritesLogs (writing_by F.creates F.closes F.keeps F.Out.state) folder.now logs.now shelf.old shelf.new)
         (StopsInLogs (writing_by F.creates F.closes F.keeps F.Out.state) folder.entry logs.now shelf.old shelf.new) }
 {
-    let mut files = Vec::with_capacity(&alloc, usize::from(logs.size().get()))?;
+    let mut files = Vec::with_capacity(alloc.clone()?, usize::from(logs.size().get()))?;
     for place in 0..logs.size().get() {
-        match write_file(&alloc, folder, logs.log(place), shelf) {
+        match write_file(alloc, folder, logs.log(place), shelf) {
             Ok(file) => files.push_reserved(file),
             Err(fault) => return Err(ProgramFault::cannot_write_log(folder, place, fault)),
         }

@@ -1,16 +1,12 @@
-ghost use Rattle.std.specs.Prelude.{◌≡◌, ◌⊎◌, ◌↔◌, IfOk, IsTrue, MatchOption, MatchResult};
+ghost use Rattle.std.specs.Prelude.{◌≡◌, ◌↔◌, IfOk, IsTrue, MatchOption};
 ghost use Rattle.ira_main_files.specs.declared.file_entry.FileEntry.TheVariants.{File};
 ghost use Rattle.ira_main_files.specs.declared.file_entry.FileId.{FileId};
-ghost use Rattle.ira_main_files.specs.FileName.{file_name};
-ghost use Rattle.ira_main.specs.FilesRead.{names_of};
-ghost use Rattle.ira_main.specs.Overwriting.{IsReplacing, KeepsFiles, KeepsInput, Overwrites, Replaces, ReplacesNone, input_names};
-ghost use Rattle.ira_main.specs.declared.program_fault.ProgramFault.TheVariants.{OutOfMemory};
+ghost use Rattle.ira_main.specs.Overwriting.{KeepsFiles, KeepsInput, Overwrites, Replaces, ReplacesInput, ReplacesNone, input_names};
 
 use crate::delivery::OUTPUT;
-use crate::program_fault::ProgramFault;
-use ira_event::MAX_NODES;
+use ira_event::{MAX_NODES, OutOfMemory};
 use ira_main_files::{FileEntry, FileName, TextSource};
-use std::alloc::{AllocError, Allocator};
+use std::alloc::Allocator;
 
 /// Whether both are one file.
 fn is_same_file(entry: FileEntry, other: FileEntry) -> bool
@@ -23,44 +19,43 @@ fn is_same_file(entry: FileEntry, other: FileEntry) -> bool
 }
 
 /// The first of the names that leads to the file of this name, if that leads to one.
-fn replaced<'a, A: Allocator, F: TextSource>(
-    alloc: &A,
+fn replaced<'t, A: Allocator, F: TextSource>(
     written: &str,
-    names: &[FileName<'a>],
+    names: &'t [FileName<A>],
     shelf: &F,
-) -> Result<Option<FileName<'a>>, AllocError>
-    ensures { IfOk result (λ found. MatchOption found
-        (ReplacesNone F.reads shelf.now written.now (names_of names.now))
-        (λ name. Replaces F.reads shelf.now written.now (names_of names.now) (file_name name))) }
+) -> Option<&'t str>
+    ensures { MatchOption result
+        (ReplacesNone F.reads shelf.now written.now names.now)
+        (λ name. Replaces F.reads shelf.now written.now names.now name.now) }
 {
     let file = shelf.look_up(written);
     if !matches!(file, FileEntry::File(_)) {
-        return Ok(None);
+        return None;
     }
     for name in names {
-        let path = name.path(alloc)?;
-        if is_same_file(file, shelf.look_up(path.as_str())) {
-            return Ok(Some(*name));
+        let path = name.as_str();
+        if is_same_file(file, shelf.look_up(path)) {
+            return Some(path);
         }
     }
-    Ok(None)
+    None
 }
 
 /// A name that leads to the file which one of the logs would be written to, where there is a log for each of the names.
-pub(crate) fn overwritten<'a, A: Allocator, F: TextSource>(
+pub(crate) fn overwritten<'t, A: Allocator + Clone, F: TextSource>(
     alloc: &A,
     folder: &str,
-    names: &[FileName<'a>],
+    names: &'t [FileName<A>],
     shelf: &F,
-) -> Result<Option<FileName<'a>>, AllocError>
+) -> Result<Option<&'t str>, OutOfMemory>
     ensures { IfOk result (λ found. MatchOption found
-        (KeepsInput F.reads shelf.now folder.now (names_of names.now))
-        (λ name. Overwrites F.reads shelf.now folder.now (names_of names.now) (file_name name))) }
+        (KeepsInput F.reads shelf.now folder.now names.now)
+        (λ name. Overwrites F.reads shelf.now folder.now names.now name.now)) }
 {
     let places = names.len().min(MAX_NODES);
     for place in 0..places {
-        let log = FileName::Log(folder, place as u8).path(alloc)?;
-        if let Some(name) = replaced(alloc, log.as_str(), names, shelf)? {
+        let log = FileName::log(alloc.clone()?, folder, place as u8)?;
+        if let Some(name) = replaced(log.as_str(), names, shelf) {
             return Ok(Some(name));
         }
     }
@@ -68,46 +63,41 @@ pub(crate) fn overwritten<'a, A: Allocator, F: TextSource>(
 }
 
 /// The name of the question, if there is one, or of a log, that leads to the file of this name.
-fn replaced_input<'a, A: Allocator, F: TextSource>(
-    alloc: &A,
+fn replaced_input<'t, A: Allocator, F: TextSource>(
     written: &str,
-    question: Option<&'a str>,
-    logs: &[FileName<'a>],
+    question: Option<&'t str>,
+    logs: &'t [FileName<A>],
     shelf: &F,
-) -> Result<Option<FileName<'a>>, AllocError>
-    ensures { IfOk result (λ found. MatchOption found
+) -> Option<&'t str>
+    ensures { MatchOption result
         (ReplacesNone F.reads shelf.now written.now (input_names question.entry logs.now))
-        (λ name. Replaces F.reads shelf.now written.now (input_names question.entry logs.now) (file_name name))) }
+        (λ name. Replaces F.reads shelf.now written.now (input_names question.entry logs.now) name.now) }
 {
     let Some(question) = question else {
-        return replaced(alloc, written, logs, shelf);
+        return replaced(written, logs, shelf);
     };
-    match replaced(alloc, written, &[FileName::Given(question)], shelf)? {
-        Some(name) => Ok(Some(name)),
-        None => replaced(alloc, written, logs, shelf),
+    if is_same_file(shelf.look_up(written), shelf.look_up(question)) {
+        return Some(question);
     }
+    replaced(written, logs, shelf)
 }
 
-/// Sees that the new file, if one is wanted, is none of those that are read: the question, if there is one, and the logs.
-pub(crate) fn keep_inputs<'a, A: Allocator, F: TextSource>(
-    alloc: &A,
-    written: Option<&'a str>,
-    question: Option<&'a str>,
-    logs: &[FileName<'a>],
+/// The name of a file that is read, and that a new file would be written over, if one is wanted.
+pub(crate) fn overwritten_input<'t, A: Allocator, F: TextSource>(
+    made: Option<&str>,
+    question: Option<&'t str>,
+    logs: &'t [FileName<A>],
     shelf: &F,
-) -> Result<(), ProgramFault<'a>>
-    ensures { MatchResult result
-        (λ _. KeepsFiles F.reads shelf.now written.entry (input_names question.entry logs.now))
-        (λ f. IsReplacing F.reads shelf.now written.entry (input_names question.entry logs.now) f ⊎ (f ≡ OutOfMemory)) }
+) -> Option<&'t str>
+    ensures { MatchOption result
+        (KeepsFiles F.reads shelf.now made.entry (input_names question.entry logs.now))
+        (λ name. ReplacesInput F.reads shelf.now made.entry (input_names question.entry logs.now) name.now) }
 {
-    let Some(written) = written else {
-        return Ok(());
+    let Some(made) = made else {
+        return None;
     };
-    if written == OUTPUT {
-        return Ok(());
+    if made == OUTPUT {
+        return None;
     }
-    match replaced_input(alloc, written, question, logs, shelf)? {
-        Some(name) => Err(ProgramFault::WouldOverwrite(name)),
-        None => Ok(()),
-    }
+    replaced_input(made, question, logs, shelf)
 }

@@ -1,8 +1,9 @@
-ghost use Rattle.std.specs.Prelude.{◌≡◌, ◌≤◌, ◌+◌, ℕ, List, MatchResult, map};
+ghost use Rattle.std.specs.Prelude.{◌≡◌, ◌≤◌, ◌+◌, ℕ, List, map};
 ghost use Rattle.ira_event.specs.Sink.{SinkState};
 ghost use Rattle.ira_commands.specs.Pairs.{AsksPairs};
 ghost use Rattle.ira_main_files.specs.Shelf.{writing_by};
-ghost use Rattle.ira_main.specs.Given.{IsNoMemory};
+ghost use Rattle.ira_main.specs.FilesRead.{Gives};
+ghost use Rattle.ira_main.specs.Given.{HasNoFault};
 ghost use Rattle.ira_main.specs.Outcome.{Outcome, ReportsOutcome, outcome_number};
 ghost use Rattle.ira_main.specs.Progress.{ServesOrLeaves};
 ghost use Rattle.ira_main.specs.Unread.{IsWhy, TellsUnread, wants_json};
@@ -15,10 +16,11 @@ use crate::asked_run::{record_run_alone, record_run_on_threads};
 use crate::delivery::{deliver, deliver_and_keep, record_and_deliver};
 use crate::draw_files::draw_files;
 use crate::explain_files::{explain_check_files, explain_input};
+use crate::file_fault::Answered;
 use crate::given::Inputs;
 use crate::guide::print_guide;
 use crate::judge_each::judge_each;
-use crate::judge_files::{check_files, judge_input};
+use crate::judge_files::{AskedLogs, check_files, judge_input};
 use crate::mend_files::mend_files;
 use crate::program_fault::{ProgramFault, report_outcome};
 use crate::progress::Progress;
@@ -27,8 +29,8 @@ use crate::tell_unread::tell_unread;
 use crate::tell_why::why_unread;
 use crate::upgrade_files::upgrade_files;
 use crate::version::print_version;
-use ira_commands::{LogsCommand, Reply, ask_pairs};
-use ira_event::{MAX_TEXT, Sink};
+use ira_commands::{LogsCommand, ask_pairs};
+use ira_event::{MAX_TEXT, OutOfMemory, Sink};
 use ira_main_cli::{
     CaseSelection, EachRequest, ExplainRequest, ExplainedAnswer, FolderDetail, LogsRequest,
     Request, read_words,
@@ -42,10 +44,10 @@ use std::thread::Threads;
 use std::time::Clock;
 
 // The question whether two nodes of a ring of so many ever lead at once.
-fn pairs<'a, A: Allocator + Clone>(alloc: A, nodes: u64) -> Result<Reply<A>, ProgramFault<'a>>
-    ensures { MatchResult result (AsksPairs nodes) IsNoMemory }
+fn pairs<A: Allocator + Clone>(alloc: A, nodes: u64) -> Result<Answered<A>, OutOfMemory>
+    ensures { Gives result (AsksPairs nodes) HasNoFault }
 {
-    Ok(ask_pairs(alloc, nodes)?)
+    Ok(Ok(ask_pairs(alloc, nodes)?))
 }
 
 /// Does what the words ask for, unless that waits: it leaves a check, the evidence of one, and a run with a thread for
@@ -57,7 +59,7 @@ pub fn serve_without_wait<'a, R, A, I, F, W>(
     input: &mut CountingReader<I>,
     shelf: &mut F,
     out: &mut W,
-) -> Progress<'a>
+) -> Progress<'a, A>
 where
     R: AllocGlobal + Threads + Sync,
     A: Allocator + Clone + Send + Sync,
@@ -82,9 +84,12 @@ where
                 logs,
             },
         ) => {
-            let (detail, form) = (FolderDetail::Line, Form::of_json(is_json));
-            let asked = &expected;
-            Progress::Ended(answer_logs(rt, alloc, detail, form, asked, &logs, shelf, out))
+            let asked = AskedLogs {
+                form: Form::of_json(is_json),
+                expected: &expected,
+                detail: FolderDetail::Line,
+            };
+            Progress::Ended(answer_logs(rt, alloc, asked, &logs, shelf, out))
         }
         Request::Each(
             EachRequest {
@@ -94,9 +99,12 @@ where
                 folders,
             },
         ) => {
-            let form = Form::of_json(is_json);
-            let asked = &expected;
-            Progress::Ended(judge_each(rt, alloc, form, asked, detail, &folders, shelf, out))
+            let asked = AskedLogs {
+                form: Form::of_json(is_json),
+                expected: &expected,
+                detail,
+            };
+            Progress::Ended(judge_each(rt, alloc, asked, &folders, shelf, out))
         }
         Request::Explain(ExplainRequest { answer, is_json }) => {
             let form = Form::of_json(is_json);
@@ -105,8 +113,12 @@ where
                     Progress::Ended(deliver(explain_input(alloc, form, input), out))
                 }
                 ExplainedAnswer::Logs { expected, logs } => {
-                    let (detail, asked) = (FolderDetail::Reasons, &expected);
-                    Progress::Ended(answer_logs(rt, alloc, detail, form, asked, &logs, shelf, out))
+                    let asked = AskedLogs {
+                        form,
+                        expected: &expected,
+                        detail: FolderDetail::Reasons,
+                    };
+                    Progress::Ended(answer_logs(rt, alloc, asked, &logs, shelf, out))
                 }
                 ExplainedAnswer::Findings { asked, logs } => {
                     let CaseSelection { question, case } = asked;
@@ -175,7 +187,7 @@ fn execute<'a, R, A, I, F, W>(
     input: &mut CountingReader<I>,
     shelf: &mut F,
     out: &mut W,
-) -> Result<Status, ProgramFault<'a>>
+) -> Result<Status, ProgramFault<'a, A>>
 where
     R: AllocGlobal + Threads + Wait + Clock + Sync,
     A: Allocator + Clone + Send + Sync,
@@ -232,7 +244,7 @@ where
     V: Sink,
     ensures status { result ≤ 3 }
     ensures reads { input.new.reads ≤ input.old.reads + (MAX_TEXT + 1) }
-    ensures served { (outcome : Outcome) × (told : SinkState)
+    ensures served { (outcome : Outcome A) × (told : SinkState)
         × Serves A F.reads (writing_by F.creates F.closes F.keeps F.Out.state)
         (map (λ word. word.now) words.now) input.old input.new shelf.old shelf.new
         (W.state out.old) told outcome
@@ -242,7 +254,7 @@ where
         × ReportsOutcome outcome why (V.state err.old) (V.state err.new) }
 {
     let outcome = execute(rt, &alloc, words, input, shelf, out);
-    let why = why_unread(&alloc, &outcome, shelf);
+    let why = why_unread(&outcome, shelf);
     tell_unread(alloc, words, &outcome, out);
     report_outcome(outcome, why, err)
 }

@@ -2,63 +2,50 @@ ghost use Rattle.std.specs.Prelude.{◌≡◌, ◌++◌, codes, decimal};
 ghost use Rattle.std.specs.List.{flat_map};
 ghost use Rattle.ira_event.specs.Sink.{Wrote};
 ghost use Rattle.ira_main_files.specs.FileName.{slash_after};
-ghost use Rattle.ira_view_page.specs.Printable.{shown};
-ghost use Rattle.ira_main.specs.ProgramFault.{no_place_text, printed_name, program_fault_text, unread_text, read_fault, write_fault, write_log_fault};
+ghost use Rattle.ira_main.specs.FileFault.{unread_text};
 ghost use Rattle.ira_main.specs.Outcome.{ReportsOutcome, outcome_number};
-ghost use Rattle.ira_main.specs.ProgramFault.{program_fault_status};
+ghost use Rattle.ira_main.specs.ProgramFault.{program_fault_status, program_fault_text, show_fault, unwritten_text, words_fault};
+ghost use Rattle.ira_main.specs.ProgramFault.{write_fault, write_log_fault};
+ghost use Rattle.ira_main.specs.declared.program_fault.ProgramFault.TheVariants as fault;
 
+use crate::file_fault::{FileFault, write_naming};
 use crate::shown_name::write_shown;
 use ira_commands::CommandFault;
 use ira_event::{Line, OutOfMemory, Sink, WriteFault, write_bytes};
 use ira_main_cli::WordsFault;
 use ira_main_files::{FileName, ShelfFault, slash_after};
 use ira_view::Status;
-use std::alloc::{AllocError, AllocFailed};
+use ira_view_page::ShowFault;
+use std::alloc::{AllocError, AllocFailed, Allocator};
 
 /// Why the program ends with neither yes nor no.
 #[derive(Drop)]
-pub enum ProgramFault<'a> {
+pub enum ProgramFault<'a, A: Allocator> {
     /// The words were refused, with this text.
     Words(String),
     /// A word isn't UTF-8.
     WordIsNoText,
-    /// The file of this name can't be read.
-    CannotRead(FileName<'a>),
+    /// What is asked for is refused for a file.
+    File(FileFault<A>),
     /// These files can't be read, each of a folder whose logs were to be judged.
-    CannotReadSome(Vec<FileName<'a>>),
-    /// The line of this number of the file of this name isn't that of a place, as those of leaders are.
-    NoPlaceInLine(u32, FileName<'a>),
+    CannotReadSome(Vec<FileName<A>, A>),
     /// What is asked for is refused.
-    Refused(CommandFault),
+    Command(CommandFault),
     /// The log of the node at this place can't be written to its file in this folder.
     CannotWriteLog(&'a str, u8),
-    /// A picture or a page was to be drawn into the file of this name, which ends as neither does.
-    OtherEnding(&'a str),
-    /// A new file would be written over the one of this name, which is one of the input.
-    WouldOverwrite(FileName<'a>),
     /// A certificate or a picture can't be written to the file of this name.
     CannotWrite(&'a str),
     CannotWriteAnswer,
     OutOfMemory,
 }
 
-impl<'a> ProgramFault<'a> {
-    /// The file of this name, or standard input, wasn't read.
-    pub(crate) fn cannot_read(name: FileName<'a>, fault: ShelfFault) -> ProgramFault<'a>
-        ensures { result ≡ read_fault name.entry fault }
-    {
-        match fault {
-            ShelfFault::Device | ShelfFault::NotFound => ProgramFault::CannotRead(name),
-            ShelfFault::OutOfMemory => ProgramFault::OutOfMemory,
-        }
-    }
-
+impl<'a, A: Allocator> ProgramFault<'a, A> {
     /// The log of the node at this place wasn't written to its file in this folder.
     pub(crate) fn cannot_write_log(
         folder: &'a str,
         place: u8,
         fault: ShelfFault,
-    ) -> ProgramFault<'a>
+    ) -> ProgramFault<'a, A>
         ensures { result ≡ write_log_fault folder.entry place fault }
     {
         match fault {
@@ -70,7 +57,7 @@ impl<'a> ProgramFault<'a> {
     }
 
     /// A certificate or a picture wasn't written to the file of this name.
-    pub(crate) fn cannot_write(name: &'a str, fault: ShelfFault) -> ProgramFault<'a>
+    pub(crate) fn cannot_write(name: &'a str, fault: ShelfFault) -> ProgramFault<'a, A>
         ensures { result ≡ write_fault name.entry fault }
     {
         match fault {
@@ -96,25 +83,11 @@ impl<'a> ProgramFault<'a> {
         match self {
             ProgramFault::Words(text) => write_bytes(text.as_bytes(), err),
             ProgramFault::WordIsNoText => write_bytes(b"ira: a word is not UTF-8\n", err),
-            ProgramFault::CannotRead(name) => write_file_named(b"ira: cannot read ", *name, err),
+            ProgramFault::File(fault) => fault.write(err),
             ProgramFault::CannotReadSome(names) => write_unread(names, err),
-            ProgramFault::NoPlaceInLine(line, name) => write_no_place(*line, *name, err),
-            ProgramFault::Refused(fault) => fault.write(err),
-            ProgramFault::CannotWriteLog(folder, place) => {
-                write_file_named(b"ira: cannot write ", FileName::Log(folder, *place), err)
-            }
-            ProgramFault::OtherEnding(name) => write_named(
-                b"ira: --out ends in neither .svg nor .html: ",
-                name,
-                &line_feed(),
-                err,
-            ),
-            ProgramFault::WouldOverwrite(name) => {
-                write_file_named(b"ira: would overwrite ", *name, err)
-            }
-            ProgramFault::CannotWrite(name) => {
-                write_named(b"ira: cannot write ", name, &line_feed(), err)
-            }
+            ProgramFault::Command(fault) => fault.write(err),
+            ProgramFault::CannotWriteLog(folder, place) => write_unwritten(folder, *place, err),
+            ProgramFault::CannotWrite(name) => write_naming(b"ira: cannot write ", name, err),
             ProgramFault::CannotWriteAnswer => write_bytes(b"ira: cannot write the answer\n", err),
             ProgramFault::OutOfMemory => write_bytes(b"ira: out of memory\n", err),
         }
@@ -130,15 +103,6 @@ impl<'a> ProgramFault<'a> {
     }
 }
 
-// The end of a line that names a file.
-fn line_feed() -> Line
-    ensures { result ≡ codes "\n" }
-{
-    let mut line = Line::new();
-    line.add(b"\n");
-    line
-}
-
 // The end of a line that names a folder: the name of the log of a place in it.
 fn log_in_folder(folder: &str, place: u8) -> Line
     ensures { result ≡ slash_after folder.now ++ decimal place ++ codes ".log\n" }
@@ -150,91 +114,30 @@ fn log_in_folder(folder: &str, place: u8) -> Line
     line
 }
 
-/// A line that names a file which is read.
-pub(crate) fn write_file_named<V: Sink>(
-    before: &[u8],
-    name: FileName<'_>,
-    err: &mut V,
-) -> Result<(), WriteFault>
-    ensures { Wrote result (before.now ++ printed_name name.entry ++ codes "\n") (V.state err.old) (V.state err.new) }
-{
-    match name {
-        FileName::Given(name) => write_named(before, name, &line_feed(), err),
-        FileName::Log(folder, place) => {
-            write_named(before, folder, &log_in_folder(folder, place), err)
-        }
-        FileName::InFolder(folder, name) => write_in_folder(before, folder, name, err),
-    }
-}
-
-// A line that names a file in a folder.
 #[tactic(auto, using(ira_event::proofs::Writing::writes))]
-fn write_in_folder<V: Sink>(
-    before: &[u8],
-    folder: &str,
-    name: &str,
-    err: &mut V,
-) -> Result<(), WriteFault>
-    ensures { Wrote result
-        (before.now ++ (shown folder.now ++ (slash_after folder.now ++ (shown name.now ++ codes "\n"))))
-        (V.state err.old) (V.state err.new) }
+fn write_unwritten<V: Sink>(folder: &str, place: u8, err: &mut V) -> Result<(), WriteFault>
+    ensures { Wrote result (unwritten_text folder.now place) (V.state err.old) (V.state err.new) }
 {
-    write_bytes(before, err)?;
+    write_bytes(b"ira: cannot write ", err)?;
     write_shown(folder, err)?;
-    write_bytes(slash_after(folder).as_bytes(), err)?;
-    write_shown(name, err)?;
-    write_bytes(b"\n", err)
-}
-
-// The beginning of a line that names a line of a file.
-fn no_place_in(line: u32) -> Line
-    ensures { result ≡ codes "ira: no place in line " ++ decimal line ++ codes " of " }
-{
-    let mut before = Line::new();
-    before.add(b"ira: no place in line ");
-    before.add_number(line);
-    before.add(b" of ");
-    before
-}
-
-/// The line of a file that names no place in a line.
-#[tactic(auto, using(ira_event::proofs::Writing::writes))]
-fn write_no_place<V: Sink>(line: u32, name: FileName<'_>, err: &mut V) -> Result<(), WriteFault>
-    ensures { Wrote result (no_place_text line name.entry) (V.state err.old) (V.state err.new) }
-{
-    no_place_in(line).write(err)?;
-    write_file_named(b"", name, err)
+    log_in_folder(folder, place).write(err)
 }
 
 // A line for each file that isn't read.
-fn write_unread<V: Sink>(names: &[FileName<'_>], err: &mut V) -> Result<(), WriteFault>
+fn write_unread<A: Allocator, V: Sink>(names: &[FileName<A>], err: &mut V) -> Result<(), WriteFault>
     ensures { Wrote result (flat_map unread_text names.now) (V.state err.old) (V.state err.new) }
 {
     for name in names {
-        write_file_named(b"ira: cannot read ", *name, err)?;
+        write_naming(b"ira: cannot read ", name.as_str(), err)?;
     }
     Ok(())
-}
-
-#[tactic(auto, using(ira_event::proofs::Writing::writes))]
-fn write_named<V: Sink>(
-    before: &[u8],
-    name: &str,
-    rest: &Line,
-    err: &mut V,
-) -> Result<(), WriteFault>
-    ensures { Wrote result (before.now ++ shown name.now ++ rest.now) (V.state err.old) (V.state err.new) }
-{
-    write_bytes(before, err)?;
-    write_shown(name, err)?;
-    rest.write(err)
 }
 
 /// The number of the status that the program ends with. A fault is written to `err`, and what is told after it; where
 /// `err` fails the status stays.
 #[tactic(auto, using(crate::proofs::Reporting::reported))]
-pub(crate) fn report_outcome<V: Sink>(
-    outcome: Result<Status, ProgramFault<'_>>,
+pub(crate) fn report_outcome<A: Allocator, V: Sink>(
+    outcome: Result<Status, ProgramFault<'_, A>>,
     more: &[u8],
     err: &mut V,
 ) -> u8
@@ -250,46 +153,54 @@ pub(crate) fn report_outcome<V: Sink>(
     }
 }
 
-impl<'a> From<OutOfMemory> for ProgramFault<'a> {
-    ghost use Rattle.std.specs.Prelude.{◌≡◌};
-    ghost use Rattle.ira_main.specs.declared.program_fault.ProgramFault.TheVariants as program;
+impl<'a, A: Allocator> From<FileFault<A>> for ProgramFault<'a, A> {
+    ghost from_gives = { λ f c. c ≡ fault.File f };
 
-    ghost from_gives = { λ _ c. c ≡ program.OutOfMemory };
+    fn from(fault: FileFault<A>) -> ProgramFault<'a, A> {
+        ProgramFault::File(fault)
+    }
+}
 
-    fn from(_refused: OutOfMemory) -> ProgramFault<'a> {
+impl<'a, A: Allocator> From<ShowFault> for ProgramFault<'a, A> {
+    ghost from_gives = { λ f c. c ≡ show_fault f };
+
+    fn from(fault: ShowFault) -> ProgramFault<'a, A> {
+        match fault {
+            ShowFault::Write => ProgramFault::CannotWriteAnswer,
+            ShowFault::WrongColumns => ProgramFault::Command(CommandFault::WrongColumns),
+            ShowFault::OutOfMemory => ProgramFault::OutOfMemory,
+        }
+    }
+}
+
+impl<'a, A: Allocator> From<OutOfMemory> for ProgramFault<'a, A> {
+    ghost from_gives = { λ _ c. c ≡ fault.OutOfMemory };
+
+    fn from(_refused: OutOfMemory) -> ProgramFault<'a, A> {
         ProgramFault::OutOfMemory
     }
 }
 
-impl<'a> From<AllocError> for ProgramFault<'a> {
-    ghost use Rattle.std.specs.Prelude.{◌≡◌};
-    ghost use Rattle.ira_main.specs.declared.program_fault.ProgramFault.TheVariants as program;
+impl<'a, A: Allocator> From<AllocError> for ProgramFault<'a, A> {
+    ghost from_gives = { λ _ c. c ≡ fault.OutOfMemory };
 
-    ghost from_gives = { λ _ c. c ≡ program.OutOfMemory };
-
-    fn from(_refused: AllocError) -> ProgramFault<'a> {
+    fn from(_refused: AllocError) -> ProgramFault<'a, A> {
         ProgramFault::OutOfMemory
     }
 }
 
-impl<'a, T: Drop> From<AllocFailed<T>> for ProgramFault<'a> {
-    ghost use Rattle.std.specs.Prelude.{◌≡◌};
-    ghost use Rattle.ira_main.specs.declared.program_fault.ProgramFault.TheVariants as program;
+impl<'a, A: Allocator, T: Drop> From<AllocFailed<T>> for ProgramFault<'a, A> {
+    ghost from_gives = { λ _ c. c ≡ fault.OutOfMemory };
 
-    ghost from_gives = { λ _ c. c ≡ program.OutOfMemory };
-
-    fn from(_refused: AllocFailed<T>) -> ProgramFault<'a> {
+    fn from(_refused: AllocFailed<T>) -> ProgramFault<'a, A> {
         ProgramFault::OutOfMemory
     }
 }
 
-impl<'a> From<WordsFault> for ProgramFault<'a> {
-    ghost use Rattle.std.specs.Prelude.{◌≡◌};
-    ghost use Rattle.ira_main.specs.ProgramFault.{words_fault};
-
+impl<'a, A: Allocator> From<WordsFault> for ProgramFault<'a, A> {
     ghost from_gives = { λ f c. c ≡ words_fault f };
 
-    fn from(fault: WordsFault) -> ProgramFault<'a> {
+    fn from(fault: WordsFault) -> ProgramFault<'a, A> {
         match fault {
             WordsFault::Refused(text) => ProgramFault::Words(text),
             WordsFault::OutOfMemory => ProgramFault::OutOfMemory,

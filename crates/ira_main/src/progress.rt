@@ -1,12 +1,13 @@
 use crate::program_fault::ProgramFault;
 use ira_main_cli::{CheckRequest, LogSource, RunRequest};
 use ira_view::{Form, Status};
+use std::alloc::Allocator;
 
 /// How far the program comes without waiting.
 #[derive(Drop)]
-pub enum Progress<'a> {
+pub enum Progress<'a, A: Allocator> {
     /// All was done that the words ask for.
-    Ended(Result<Status, ProgramFault<'a>>),
+    Ended(Result<Status, ProgramFault<'a, A>>),
     /// They ask for a check, of which nothing was done.
     Check(CheckRequest<'a>),
     /// They ask for the evidence of a check, of which nothing was done.

@@ -1,12 +1,14 @@
-ghost use Rattle.std.specs.Prelude.{◌≡◌, MatchResult};
+ghost use Rattle.std.specs.Prelude.{◌≡◌};
+ghost use Rattle.ira_main.specs.FilesRead.{Gives};
 ghost use Rattle.ira_main.specs.Moment.{IsMomentOf, question_of};
 ghost use Rattle.ira_main.specs.Show.{AreLeadersOf, AreLinesOf, AsksToShow, IsUnshown, ShowsFiles};
 
 use crate::answer_files::answer_files;
+use crate::file_fault::Answered;
 use crate::given::Inputs;
 use crate::leaders_file::leaders_in;
-use crate::program_fault::ProgramFault;
-use ira_commands::{LinesForm, LogsCommand, Reply, RingForm, RingLeaders, RingMoment};
+use ira_commands::{LinesForm, LogsCommand, RingForm, RingLeaders, RingMoment};
+use ira_event::OutOfMemory;
 use ira_main_cli::{AskedLeaders, AskedMoment, ShowRequest};
 use ira_main_files::TextSource;
 use ira_view::Form;
@@ -71,19 +73,22 @@ fn show_command<'t>(show: &'t ShowRequest<'_>, read: &'t [u64]) -> LogsCommand<'
 }
 
 /// Shows logs, with those who are to lead, in the files that are named.
-pub(crate) fn show_files<'a, R, A, F>(
+pub(crate) fn show_files<R, A, F>(
     rt: &R,
     alloc: A,
-    show: &ShowRequest<'a>,
+    show: &ShowRequest<'_>,
     shelf: &F,
-) -> Result<Reply<A>, ProgramFault<'a>>
+) -> Result<Answered<A>, OutOfMemory>
 where
     R: Threads + Sync,
     A: Allocator + Clone + Send + Sync,
     F: TextSource + Sync,
-    ensures { MatchResult result (ShowsFiles A F.reads show.now shelf.now) (IsUnshown F.reads show.now shelf.now) }
+    ensures { Gives result (ShowsFiles A F.reads show.now shelf.now) (IsUnshown F.reads show.now shelf.now) }
 {
-    let read = leaders_in(&alloc, &show.leads, &show.logs, shelf)?;
+    let read = match leaders_in(&alloc, &show.leads, &show.logs, shelf)? {
+        Ok(places) => places,
+        Err(fault) => return Ok(Err(fault)),
+    };
     let inputs = Inputs::asked(question_of(&show.moment), &show.logs, None);
     answer_files(rt, alloc, show_command(show, &read), inputs, shelf)
 }

@@ -1,17 +1,15 @@
-ghost use Rattle.std.specs.Prelude.{◌≡◌, [], ◌∷◌, IfOk, MatchBool, MatchOption, MatchResult, length, map};
-ghost use Rattle.std.specs.List.{range_with_len};
-ghost use Rattle.ira_main_files.specs.declared.file_name.FileName.TheVariants.{Given, Log};
+ghost use Rattle.std.specs.Prelude.{◌≡◌, [], ◌∷◌, IfOk, MatchBool, MatchOption, length, map};
 ghost use Rattle.ira_main_files.specs.FileName.{log_name};
-ghost use Rattle.ira_main.specs.FilesRead.{IsFilesFault};
+ghost use Rattle.ira_main.specs.FilesRead.{Gives, Stops};
 ghost use Rattle.ira_main.specs.SourceNames.{AreFileNames, AreFolders, AreSeveralFolders, HasFolderNames, HasNames, HasNoFolder};
-ghost use Rattle.ira_main.specs.SourceNames.{IsLoneFolder, IsNamesFault, IsOfOneRing, SaysLogs, SaysLogsIn};
+ghost use Rattle.ira_main.specs.SourceNames.{IsLoneFolder, IsNamesFault, IsOfOneRing, SaysLogs, SaysLogsIn, names_in};
 
-use crate::program_fault::ProgramFault;
-use crate::read_files::read_file;
-use ira_event::open_log;
+use crate::file_fault::FileFault;
+use crate::read_files::read_into;
+use ira_event::{OutOfMemory, open_log};
 use ira_main_cli::LogSource;
-use ira_main_files::{FileEntry, FileName, TextSource};
-use std::alloc::{AllocError, Allocator};
+use ira_main_files::{FileEntry, FileName, TextBuffer, TextSource};
+use std::alloc::Allocator;
 
 /// How many logs there are, by the text of one; one where it has no head.
 pub(crate) fn number_of_logs(text: &[u8]) -> u8
@@ -24,42 +22,43 @@ pub(crate) fn number_of_logs(text: &[u8]) -> u8
 }
 
 /// The names that words give.
-pub(crate) fn given_names<'a, A: Allocator>(
-    alloc: A,
-    words: &[&'a str],
-) -> Result<Vec<FileName<'a>, A>, AllocError>
-    ensures { IfOk result (λ names. names.items ≡ map (λ word. Given word) words.now) }
+pub(crate) fn given_names<A: Allocator + Clone>(
+    alloc: &A,
+    words: &[&str],
+) -> Result<Vec<FileName<A>, A>, OutOfMemory>
+    ensures { IfOk result (λ names. names.items ≡ map (λ word. word.now) words.now) }
 {
-    words
-        .iter()
-        .map(|word| FileName::Given(word))
-        .collect(alloc)
+    let mut names = Vec::with_capacity(alloc.clone()?, words.len())?;
+    for word in words {
+        names.push(FileName::given(alloc.clone()?, word)?)?;
+    }
+    Ok(names)
 }
 
 /// The names of the first logs in a folder.
-pub(crate) fn names_in_folder<'a, A: Allocator>(
-    alloc: A,
-    folder: &'a str,
+pub(crate) fn names_in_folder<A: Allocator + Clone>(
+    alloc: &A,
+    folder: &str,
     number: u8,
-) -> Result<Vec<FileName<'a>, A>, AllocError>
-    ensures { IfOk result
-        (λ names. names.items ≡ map (λ place. Log folder.entry place) (range_with_len 0 number)) }
+) -> Result<Vec<FileName<A>, A>, OutOfMemory>
+    ensures { IfOk result (λ names. names.items ≡ names_in folder.now number) }
 {
-    (0..number)
-        .map(|place| FileName::Log(folder, place))
-        .collect(alloc)
+    let mut names = Vec::with_capacity(alloc.clone()?, usize::from(number))?;
+    for place in 0..number {
+        names.push(FileName::log(alloc.clone()?, folder, place)?)?;
+    }
+    Ok(names)
 }
 
-/// The names, whole.
 pub(crate) fn paths<A: Allocator + Clone>(
     alloc: &A,
-    names: &[FileName<'_>],
-) -> Result<Vec<String<A>, A>, AllocError>
+    names: &[FileName<A>],
+) -> Result<Vec<String<A>, A>, OutOfMemory>
     ensures { IfOk result (λ paths. length paths.items ≡ length names.now) }
 {
     let mut paths = Vec::with_capacity(alloc.clone()?, names.len())?;
     for name in names {
-        paths.push(name.path(alloc.clone()?)?)?;
+        paths.push(String::from_str(alloc.clone()?, name.as_str())?)?;
     }
     Ok(paths)
 }
@@ -105,44 +104,51 @@ pub(crate) fn several_folders<'t, 'a, F: TextSource>(
 }
 
 /// How many logs there are in a folder, as the first says, which is read.
-pub(crate) fn logs_in<'a, A: Allocator + Clone, F: TextSource>(
+pub(crate) fn logs_in<A: Allocator + Clone, F: TextSource>(
     alloc: &A,
-    folder: &'a str,
+    folder: &str,
     shelf: &F,
-) -> Result<u8, ProgramFault<'a>>
-    ensures { MatchResult result (SaysLogsIn F.reads shelf.now folder.entry)
-        (IsFilesFault F.reads (log_name folder.now 0 ∷ []) shelf.now) }
+) -> Result<Result<u8, FileFault<A>>, OutOfMemory>
+    ensures { Gives result (SaysLogsIn F.reads shelf.now folder.entry)
+        (Stops F.reads shelf.now (log_name folder.now 0 ∷ [])) }
 {
-    let first = read_file(alloc, FileName::Log(folder, 0), shelf)?;
-    Ok(number_of_logs(first.bytes()))
+    let first = FileName::log(alloc.clone()?, folder, 0)?;
+    let mut text = TextBuffer::new(alloc.clone()?);
+    if read_into(first.as_str(), &mut text, shelf)? {
+        Ok(Ok(number_of_logs(text.bytes())))
+    } else {
+        Ok(Err(FileFault::Unread(first)))
+    }
 }
 
 /// The names of the logs in a folder. The first is read again with the others.
-fn folder_names<'a, A: Allocator + Clone, F: TextSource>(
+fn folder_names<A: Allocator + Clone, F: TextSource>(
     alloc: &A,
-    folder: &'a str,
+    folder: &str,
     shelf: &F,
-) -> Result<Vec<FileName<'a>, A>, ProgramFault<'a>>
-    ensures { MatchResult result (λ names. HasFolderNames F.reads shelf.now folder.entry names.items)
-        (IsFilesFault F.reads (log_name folder.now 0 ∷ []) shelf.now) }
+) -> Result<Result<Vec<FileName<A>, A>, FileFault<A>>, OutOfMemory>
+    ensures { Gives result (λ names. HasFolderNames F.reads shelf.now folder.entry names.items)
+        (Stops F.reads shelf.now (log_name folder.now 0 ∷ [])) }
 {
-    let number = logs_in(alloc, folder, shelf)?;
-    Ok(names_in_folder(alloc.clone()?, folder, number)?)
+    match logs_in(alloc, folder, shelf)? {
+        Ok(number) => Ok(Ok(names_in_folder(alloc, folder, number)?)),
+        Err(fault) => Ok(Err(fault)),
+    }
 }
 
 /// The names of the files that logs come from.
-pub(crate) fn source_names<'a, A: Allocator + Clone, F: TextSource>(
+pub(crate) fn source_names<A: Allocator + Clone, F: TextSource>(
     alloc: &A,
-    source: &LogSource<'a>,
+    source: &LogSource<'_>,
     shelf: &F,
-) -> Result<Vec<FileName<'a>, A>, ProgramFault<'a>>
-    ensures { MatchResult result (λ names. HasNames F.reads shelf.now source.now names.items)
+) -> Result<Result<Vec<FileName<A>, A>, FileFault<A>>, OutOfMemory>
+    ensures { Gives result (λ names. HasNames F.reads shelf.now source.now names.items)
         (IsNamesFault F.reads shelf.now source.now) }
 {
     match source {
         LogSource::Files(words) => match lone_folder(words, shelf) {
             Some(folder) => folder_names(alloc, folder, shelf),
-            None => Ok(given_names(alloc.clone()?, words)?),
+            None => Ok(Ok(given_names(alloc, words)?)),
         },
         LogSource::Folder(folder) => folder_names(alloc, folder, shelf),
     }

@@ -14,7 +14,7 @@ use std::thread::Threads;
 use std::time::Clock;
 
 // The words after the program's name.
-fn words_given<R: AllocGlobal + Env>(rt: &R) -> Result<Vec<String>, ProgramFault<'static>> {
+fn words_given<R: AllocGlobal + Env>(rt: &R) -> Result<Vec<String>, ProgramFault<'static, Global>> {
     match std::env::args(rt) {
         Ok(words) => Ok(words.skip(1).collect(rt.alloc())?),
         Err(error) if error.kind() == ErrorKind::OutOfMemory => Err(ProgramFault::OutOfMemory),
@@ -35,7 +35,7 @@ fn serve_system<R, I, W, V>(
     input: I,
     out: W,
     err: &mut V,
-) -> Result<u8, ProgramFault<'static>>
+) -> Result<u8, ProgramFault<'static, Global>>
 where
     R: AllocGlobal + Env + Files + Threads + Wait + Clock + Sync,
     R::File: Send + Sync,

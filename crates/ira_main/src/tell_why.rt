@@ -1,6 +1,7 @@
 ghost use Rattle.std.specs.Prelude.{◌≡◌};
 ghost use Rattle.ira_main.specs.Unread.{IsWhy, entry_text};
 
+use crate::file_fault::FileFault;
 use crate::program_fault::ProgramFault;
 use ira_main_files::{FileEntry, TextSource};
 use ira_view::Status;
@@ -23,19 +24,15 @@ fn entry_text(name: &str, entry: FileEntry) -> &'static [u8]
 
 /// The line after that of a file that wasn't read or written: none of other outcomes, and of standard input.
 pub(crate) fn why_unread<A: Allocator, F: TextSource>(
-    alloc: A,
-    outcome: &Result<Status, ProgramFault<'_>>,
+    outcome: &Result<Status, ProgramFault<'_, A>>,
     shelf: &F,
 ) -> &'static [u8]
     ensures { IsWhy F.reads shelf.now outcome.now result.now }
 {
     match outcome {
-        Err(ProgramFault::CannotRead(name)) => match name.path(alloc) {
-            Ok(path) if path.as_str() != "-" => {
-                entry_text(path.as_str(), shelf.look_up(path.as_str()))
-            }
-            _ => b"",
-        },
+        Err(ProgramFault::File(FileFault::Unread(name))) if name.as_str() != "-" => {
+            entry_text(name.as_str(), shelf.look_up(name.as_str()))
+        }
         Err(ProgramFault::CannotWrite(_) | ProgramFault::CannotWriteLog(_, _)) => {
             b"  it is a folder, its folder isn't there or can't be written in, or the disk is full\n"
         }

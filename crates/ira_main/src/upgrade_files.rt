@@ -1,35 +1,38 @@
-ghost use Rattle.std.specs.Prelude.{MatchResult, None};
+ghost use Rattle.std.specs.Prelude.{None};
 ghost use Rattle.ira_commands.specs.Upgrade.{UpgradesTexts};
+ghost use Rattle.ira_main.specs.FilesRead.{Gives};
 ghost use Rattle.ira_main.specs.Given.{IsUnread, OfFiles};
 
-use crate::given::{Given, Inputs, read_given};
-use crate::program_fault::ProgramFault;
-use ira_commands::{Reply, upgrade_taken};
+use crate::file_fault::Answered;
+use crate::given::{Inputs, read_given};
+use ira_commands::upgrade_taken;
+use ira_event::OutOfMemory;
 use ira_main_cli::RewriteRequest;
 use ira_main_files::Shelf;
 use std::alloc::Allocator;
 use std::thread::Threads;
 
 /// The logs of a source in version 2, all read before a file is made: they may lie in the folder written to.
-pub(crate) fn upgrade_files<'a, R, A, F>(
+pub(crate) fn upgrade_files<R, A, F>(
     rt: &R,
     alloc: &A,
-    upgrade: &RewriteRequest<'a>,
+    upgrade: &RewriteRequest<'_>,
     shelf: &F,
-) -> Result<Reply<A>, ProgramFault<'a>>
+) -> Result<Answered<A>, OutOfMemory>
 where
     R: Threads + Sync,
     A: Allocator + Clone + Send + Sync,
     F: Shelf + Sync,
-    ensures { MatchResult result
+    ensures { Gives result
         (OfFiles F.reads None None None upgrade.now.logs shelf.now (λ given. UpgradesTexts given.texts))
         (IsUnread F.reads None None None upgrade.now.logs shelf.now) }
 {
-    let Given { audit, .. } = read_given(
-        rt,
-        alloc,
-        Inputs::asked(None, &upgrade.logs, None),
-        shelf,
-    )?;
-    Ok(upgrade_taken(alloc.clone()?, audit)?)
+    let inputs = Inputs::asked(None, &upgrade.logs, None);
+    match read_given(rt, alloc, inputs, false, shelf)? {
+        Ok(given) => {
+            let logs = given.logs;
+            Ok(Ok(upgrade_taken(alloc.clone()?, logs.audit)?))
+        }
+        Err(fault) => Ok(Err(fault)),
+    }
 }

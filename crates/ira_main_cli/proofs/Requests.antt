@@ -1,45 +1,82 @@
 -- What words ask for, by what a parse found of them.
-use Rattle.std.proofs.Common.{◌≡◌, ◌≢◌, ◌∙◌, ◌⊎◌, inl, inr, Option, None, Some, List, [], ◌++◌, codes, refl, sym, ap, subst, true}
+use Rattle.std.proofs.Common.{◌≡◌, ◌≢◌, ◌∙◌, ◌⊎◌, inl, inr, Option, None, Some, List, [], ◌∷◌, ◌++◌, codes, refl, sym, ap, subst, true}
+use Rattle.std.proofs.Common.{drop, map}
 use Rattle.std.specs.Borrow.{Bor}
-use Rattle.std.specs.Prelude.{is_some, option_map}
+use Rattle.std.specs.Prelude.{is_some, option_map, slice_get}
 use Rattle.clap.specs.Faults.{fault_of, is_simple_and_free}
 use Rattle.clap.specs.Kinds.{HasKind}
-use Rattle.clap.specs.Matches.{found_of, subcommand_name_of}
 use Rattle.clap.specs.Simple.{App, HasMatchesOf, built_leaf, subcommand_rows_of}
 use Rattle.clap.specs.Values.{kind_of}
-use Rattle.clap.specs.Walk.{Row, Text, all_of, first_of, rows_after, rows_of}
+use Rattle.clap.specs.Walk.{Row, Text, all_of, first_of, rows_after}
 use Rattle.clap.specs.declared.error.Error.{Error}
 use Rattle.clap.specs.declared.error.kind.ErrorKind.TheVariants as kind
 use Rattle.clap.specs.declared.parser.matches.ArgMatches.{ArgMatches}
-use Rattle.ira_main_cli.specs.CommandLine.{ira_app, logs_app}
+use Rattle.ira_main_cli.specs.CommandLine.{IsOneOf, commands, ira_app, logs_app}
 use Rattle.ira_main_cli.specs.Asked.{HasLogs, MayNameLogs, NamesLogs}
-use Rattle.ira_main_cli.specs.Request.{AreMatchesOf, Asks, GoTogether, GoTogetherAfter, IsCommandLine}
-use Rattle.ira_main_cli.specs.Request.{IsLogsLine, IsMadeOf, found_after}
+use Rattle.ira_main_cli.specs.Request.{AreAcceptedWords, Asks, GoTogether, GoTogetherAfter, IsCommandLine, IsLogsLine}
+use Rattle.ira_main_cli.specs.Request.{IsMadeOf, found_after}
 use Rattle.ira_main_cli.specs.declared.logs_request.LogsRequest.{LogsRequest}
 use Rattle.ira_main_cli.specs.declared.request.Request.{Request}
-use Rattle.ira_main_cli.specs.declared.request.Request.TheVariants.{OneLog, Logs}
-use Rattle.ira_main_cli.specs.declared.request.Request.TheVariants.{Version}
-use Rattle.ira_main_cli.proofs.Entered.{IsParsed, parsed}
+use Rattle.ira_main_cli.specs.declared.request.Request.TheVariants.{OneLog, Logs, Each, Explain, Show, Draw, Check, Decide}
+use Rattle.ira_main_cli.specs.declared.request.Request.TheVariants.{Ask, Pairs, Run, Upgrade, Mend, Guide, Version}
+use Rattle.ira_main_cli.proofs.Entered.{found}
 use Rattle.ira_main_cli.proofs.GivenNames.{dashes_rows, of_files, words_rows}
 
--- words that are read have no fault
-pub matches_are : (a : App) (words : List Text) (m : ArgMatches) → a ≡ ira_app
-    → (is_simple_and_free a ≡ true → fault_of a words ≡ []) → HasMatchesOf a words m → AreMatchesOf words m
-matches_are a words m is none found = record {
-  accepted = subst (λ (x : App). fault_of x words ≡ []) is (none (ap is_simple_and_free is));
-  found = subst (λ x. HasMatchesOf x words m) is found;
-}
+-- words that are read have no fault, and this is found of them
+pub accepted : (a : App) (words : List Text) (m : ArgMatches) → a ≡ ira_app
+    → (is_simple_and_free a ≡ true → fault_of a words ≡ []) → HasMatchesOf a words m
+    → AreAcceptedWords words × HasMatchesOf ira_app words m
+accepted a words m is none found = (
+  subst (λ (x : App). fault_of x words ≡ []) is (none (ap is_simple_and_free is)),
+  subst (λ x. HasMatchesOf x words m) is found,
+)
 
--- a command and what is found after it, as the parse hands them on
-pub is_parsed : (a : App) (words : List Text) (m : ArgMatches) (met : Option (Bor Text × Bor ArgMatches))
-    (entered : Bor Text × Bor ArgMatches) → a ≡ ira_app → (is_simple_and_free a ≡ true → fault_of a words ≡ [])
-    → HasMatchesOf a words m → met ≡ Some entered → option_map (λ p. p.0.now) met ≡ subcommand_name_of m
-    → option_map (λ p. rows_of (found_of p.1.now)) met ≡ option_map (λ p. p.1) (subcommand_rows_of m)
-    → IsParsed words entered.0.now (rows_of (found_of entered.1.now))
-is_parsed a words m met entered is none found one name rows =
-    parsed m words entered.0.now (rows_of (found_of entered.1.now)) (matches_are a words m is none found)
-    (sym (ap (option_map (λ (p : Bor Text × Bor ArgMatches). p.0.now)) one) ∙ name)
-    (sym (ap (option_map (λ (p : Bor Text × Bor ArgMatches). rows_of (found_of p.1.now))) one) ∙ rows)
+-- the words from the first on
+pub begin : (words : List (Bor Text)) (first : Bor Text) → Some first ≡ slice_get words 0
+    → map (λ w. w.now) words ≡ first.now ∷ map (λ w. w.now) (drop 1 words)
+begin [] first is = cc
+begin (w ∷ words) first is =
+    let same : first ≡ w = cc in
+    ap (λ (x : Bor Text). x.now ∷ map (λ w. w.now) words) (sym same)
+
+-- what the parser hands on is found of the words after the name of a command
+pub found_rows : (m : ArgMatches) (words : List Text) (name : Text) (others : List Text) (rows : List Row)
+    → HasMatchesOf ira_app words m → words ≡ name ∷ others → IsOneOf name commands
+    → Some rows ≡ option_map (λ p. p.1) (subcommand_rows_of m) → rows ≡ found_after name others
+found_rows m words name others rows has first one is =
+    let all : Some rows ≡ Some (found_after name others) =
+    is ∙ ap (option_map (λ p. p.1)) (found m name others (subst (λ ws. HasMatchesOf ira_app ws m) first has) one) in
+    cc
+
+-- so that goes together where the words do
+pub together : (m : ArgMatches) (words : List Text) (name : Text) (others : List Text) (rows : List Row)
+    → HasMatchesOf ira_app words m → words ≡ name ∷ others
+    → Some rows ≡ option_map (λ p. p.1) (subcommand_rows_of m) → GoTogether words
+    → IsOneOf name commands × GoTogetherAfter name rows
+together m words name others rows has first is go =
+    let same : name ∷ others ≡ go.0 ∷ go.1 = sym first ∙ go.2 in
+    let begins : go.0 ≡ name = cc in
+    let goes : go.1 ≡ others = cc in
+    let one : IsOneOf name commands = subst (λ n. IsOneOf n commands) begins go.3 in
+    let after : found_after go.0 go.1 ≡ rows =
+    ap (λ n. found_after n go.1) begins ∙ ap (found_after name) goes
+    ∙ sym (found_rows m words name others rows has first one is) in
+    (one, subst (GoTogetherAfter name) after (subst (λ n. GoTogetherAfter n (found_after go.0 go.1)) begins go.4))
+
+-- there is a first word then, and the parser enters a command
+pub are_met : (m : ArgMatches) (words : List (Bor Text)) → HasMatchesOf ira_app (map (λ w. w.now) words) m
+    → GoTogether (map (λ w. w.now) words) → (None ≢ slice_get words 0)
+    × (None ≢ option_map (λ p. p.1) (subcommand_rows_of m))
+are_met m [] has go =
+    let none = go.2 in
+    cc
+are_met m (w ∷ words) has go = (
+  λ none. cc,
+  λ none.
+      let met = found m go.0 go.1 (subst (λ ws. HasMatchesOf ira_app ws m) go.2 has) go.3 in
+      let bad = none ∙ ap (option_map (λ p. p.1)) met in
+      cc,
+)
 
 -- and where words without one are refused all the same, memory has run out
 pub out_of_memory : (a : App) (words : List Text) (e : Error) → a ≡ ira_app
@@ -51,10 +88,6 @@ out_of_memory a words e is fails none =
       | inl h ↦ h
       | inr h ↦ absurd h
     ]
-
-pub together : (words : List Text) (name : Text) (rows : List Row) → IsParsed words name rows → GoTogether words
-    → GoTogetherAfter name rows
-together words name rows it go = subst (GoTogetherAfter name) (sym it.rows_are) (go name it.others it.first)
 
 logs_line : (words : List Text) (request : LogsRequest) → IsCommandLine words (Logs request) → IsLogsLine words request
 logs_line words request line =
@@ -69,15 +102,35 @@ logs_line words request line =
           (subst (λ found. HasLogs found request.logs) (ap rows apart ∙ dashes_rows front back are) here);
     }
 
-pub made : (words : List Text) (name : Text) (rows : List Row) → IsParsed words name rows
-    → (request : Request) → Asks name rows request → IsMadeOf words request
-made words name rows it request asks =
+-- the name of a command that is asked for is one
+pub named : (name : Text) (rows : List Row) (request : Request) → Asks name rows request → IsOneOf name commands
+named name rows OneLog asks = absurd asks
+named name rows (Logs logs) asks = inl asks.0
+named name rows (Each each) (inl logs) = inl logs.0
+named name rows (Each each) (inr explain) = inr (inl explain.0)
+named name rows (Explain explain) asks = inr (inl asks.0)
+named name rows (Show request) asks = inr (inr (inl asks.0))
+named name rows (Draw request) asks = inr (inr (inr (inl asks.0)))
+named name rows (Check request) asks = inr (inr (inr (inr (inl asks.0))))
+named name rows (Decide request) asks = inr (inr (inr (inr (inr (inl asks.0)))))
+named name rows (Pairs request) asks = inr (inr (inr (inr (inr (inr (inl asks.0))))))
+named name rows (Ask request) asks = inr (inr (inr (inr (inr (inr (inr (inl asks.0)))))))
+named name rows (Run request) asks = inr (inr (inr (inr (inr (inr (inr (inr (inl asks.0))))))))
+named name rows (Upgrade request) asks = inr (inr (inr (inr (inr (inr (inr (inr (inr (inl asks.0)))))))))
+named name rows (Mend request) asks = inr (inr (inr (inr (inr (inr (inr (inr (inr (inr (inl asks.0))))))))))
+named name rows (Guide request) asks = inr (inr (inr (inr (inr (inr (inr (inr (inr (inr (inr (inl asks.0)))))))))))
+named name rows Version is = inr (inr (inr (inr (inr (inr (inr (inr (inr (inr (inr (inr (inl is))))))))))))
+
+pub made : (words : List Text) (name : Text) (others : List Text) (rows : List Row) (request : Request)
+    → AreAcceptedWords words → words ≡ name ∷ others → rows ≡ found_after name others → Asks name rows request
+    → IsMadeOf words request
+made words name others rows request are first is asks =
     go request (record {
-      accepted = it.accepted;
+      accepted = are;
       name = name;
-      others = it.others;
-      first = it.first;
-      asked = subst (λ found. Asks name found request) it.rows_are asks;
+      others = others;
+      first = first;
+      asked = subst (λ found. Asks name found request) is asks;
     })
   where
     go : (asked : Request) → IsCommandLine words asked → IsMadeOf words asked

@@ -1,15 +1,13 @@
 -- What the words after the program's name ask for.
 use Rattle.std.specs.Prelude.{◌≡◌, ◌≢◌, ◌⊎◌, ℕ, All, List, [], ◌∷◌, ◌++◌, codes}
 use Rattle.clap.specs.Faults.{fault_of}
-use Rattle.clap.specs.Simple.{HasMatchesOf}
 use Rattle.clap.specs.Walk.{Row, Text, rows_after}
-use Rattle.clap.specs.declared.parser.matches.ArgMatches.{ArgMatches}
 use Rattle.ira_main_cli.specs.Asked.{HasAnswerToExplain, HasFiles, HasFilesToDecide, HasFilesToRewrite}
 use Rattle.ira_main_cli.specs.Asked.{HasFoldersToExplain, HasFoldersToJudge, HasLogsToDraw, HasLogsToJudge, HasLogsToMend}
 use Rattle.ira_main_cli.specs.Asked.{HasLogsToShow, HasOptions, HasSentence, HasTopic, IsOfFiles, NamesAnswers, NamesFiles}
 use Rattle.ira_main_cli.specs.Asked.{NamesFilesToDecide, NamesFilesToRewrite, NamesOptions, NamesSentence}
 use Rattle.ira_main_cli.specs.Asked.{NamesLogsToDraw, NamesLogsToJudge, NamesLogsToMend, NamesLogsToShow, NamesTopic}
-use Rattle.ira_main_cli.specs.CommandLine.{ira_app, rules_named}
+use Rattle.ira_main_cli.specs.CommandLine.{IsOneOf, commands, ira_app, rules_named}
 use Rattle.ira_main_cli.specs.Options.{HasNumber, HasNumberTo}
 use Rattle.ira_main_cli.specs.declared.ask_request.AskRequest.{AskRequest}
 use Rattle.ira_main_cli.specs.declared.check_request.CheckRequest.{CheckRequest}
@@ -53,10 +51,11 @@ pub record GoTogetherAfter (name : Text) (rows : List Row) : Type 0 where
   pub ask : name ≡ codes "ask" → NamesSentence rows
   pub guide : name ≡ codes "guide" → NamesTopic rows
 
--- so do those of the words, of which the first names the command
+-- the words begin with the name of a command, and those that are found of the others go together
 abbrev pub GoTogether : List Text → Type 0
 GoTogether words =
-    (name : Text) (others : List Text) → words ≡ name ∷ others → GoTogetherAfter name (found_after name others)
+    (name : Text) × (others : List Text) × (words ≡ name ∷ others) × IsOneOf name commands
+    × GoTogetherAfter name (found_after name others)
 
 -- what is found after a command asks for this
 abbrev pub Asks : Text → List Row → Request → Type 0
@@ -166,8 +165,3 @@ IsMadeOf words request = IsCommandLine words request
 abbrev pub MayBeRefused : List Text → WordsFault → Type 0
 MayBeRefused words (Refused text) = ¬ IsVersionOption words × (AreAcceptedWords words → GoTogether words → ⊥)
 MayBeRefused words OutOfMemory = Unit {0}
-
--- the command line accepts the words, and this is what it found of them. No public contract names it
-pub record AreMatchesOf (words : List Text) (matches : ArgMatches) : Type 0 where
-  pub accepted : AreAcceptedWords words
-  pub found : HasMatchesOf ira_app words matches

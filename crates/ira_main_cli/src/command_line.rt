@@ -767,10 +767,9 @@ fn found_request<'a>(
     name: &str,
     matches: &ArgMatches<'a>,
 ) -> Result<Request<'a>, OptionsFault>
-    requires named { IsOneOf name.now commands }
     ensures asked { IfOk result (Asks name.now (rows_of (found_of matches.now))) }
-    ensures refused { IfErr result
-        (λ why. GoTogetherAfter name.now (rows_of (found_of matches.now)) → why ≡ options.OutOfMemory) }
+    ensures refused { IfErr result (λ why. IsOneOf name.now commands
+        → GoTogetherAfter name.now (rows_of (found_of matches.now)) → why ≡ options.OutOfMemory) }
 {
     match name {
         "logs" => logs(alloc, matches),
@@ -786,7 +785,7 @@ fn found_request<'a>(
         "mend" => Ok(Request::Mend(mend(alloc, matches)?)),
         "guide" => Ok(Request::Guide(guide_topic(matches)?)),
         "version" => Ok(Request::Version),
-        _ => unreachable!(),
+        _ => Err(OptionsFault::Command),
     }
 }
 
@@ -797,8 +796,11 @@ fn request_of_words<'a>(alloc: Global, words: &'a [&'a str]) -> Result<Request<'
         → GoTogether (map (λ word. word.now) words.now) → kind_of e ≡ kind.OutOfMemory) }
 {
     let matches = command(alloc)?.try_get_matches_from(words)?;
-    let (name, found) = matches.subcommand().unwrap();
-    match found_request(alloc, name, found) {
+    let asked = match (words.first(), matches.subcommand()) {
+        (Some(name), Some((_, found))) => found_request(alloc, name, found),
+        _ => Err(OptionsFault::Command),
+    };
+    match asked {
         Ok(request) => Ok(request),
         Err(why) => Err(command(alloc)?.error(why.kind(), why.text())?),
     }

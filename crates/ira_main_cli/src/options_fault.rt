@@ -34,7 +34,9 @@ pub enum OptionsFault {
     Start,
     /// There is no guide on what is named.
     Topic,
-    /// An option or a name that a command needs has no value. The command line takes no such words.
+    /// The words don't begin with the name of a command. The command line takes no such words.
+    Command,
+    /// An option or a name that a command needs has no value. Nor does it take such.
     Missing,
     /// A value isn't a number below 2^64, or past the most that it may be. Nor does it take such.
     NoNumber,
@@ -59,7 +61,8 @@ impl OptionsFault {
             OptionsFault::CaseWithoutQuestion | OptionsFault::CertificateWithoutQuestion => {
                 ErrorKind::MissingRequiredArgument
             }
-            OptionsFault::EmptyFolder
+            OptionsFault::Command
+            | OptionsFault::EmptyFolder
             | OptionsFault::Missing
             | OptionsFault::NoNumber
             | OptionsFault::NoNumbers
@@ -90,6 +93,7 @@ impl OptionsFault {
             OptionsFault::Size => "the ring's size is said either by --nodes <N> or by --dir <DIR>",
             OptionsFault::Start => "--start <S> is initiator or passive",
             OptionsFault::Topic => "guide [TOPIC] is questions or logs",
+            OptionsFault::Command => "a command is missing",
             OptionsFault::Missing => "a value is missing",
             OptionsFault::NoNumber => "a value is no number, or past its limit",
             OptionsFault::OutOfMemory => "out of memory",

@@ -1,8 +1,6 @@
 -- The names of files.
 use Rattle.std.specs.Prelude.{ℕ, ◌==◌, List, [], ◌++◌, codes, decimal, if◌then◌else◌}
 use Rattle.std.specs.List.{ends_with}
-use Rattle.ira_main_files.specs.declared.file_name.FileName.{FileName}
-use Rattle.ira_main_files.specs.declared.file_name.FileName.TheVariants.{Given, InFolder, Log}
 
 -- what comes between the name of a folder and that of a file in it: a slash, where the folder's doesn't end in one
 abbrev pub slash_after : List ℕ → List ℕ
@@ -12,8 +10,6 @@ slash_after folder = if ends_with (λ a b. a == b) folder (codes "/") then [] el
 abbrev pub log_name : List ℕ → ℕ → List ℕ
 log_name folder place = folder ++ slash_after folder ++ decimal place ++ codes ".log"
 
--- a name, whole
-abbrev pub file_name : FileName → List ℕ
-file_name (Given name) = name.now
-file_name (Log folder place) = log_name folder.now place
-file_name (InFolder folder name) = folder.now ++ slash_after folder.now ++ name.now
+-- the name of a file in a folder
+abbrev pub name_in : List ℕ → List ℕ → List ℕ
+name_in folder name = folder ++ slash_after folder ++ name

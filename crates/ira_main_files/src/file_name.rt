@@ -1,17 +1,21 @@
-ghost use Rattle.std.specs.Prelude.{◌≡◌, ◌≤◌, IfOk, length, string_bytes};
-ghost use Rattle.ira_main_files.specs.FileName.{file_name, slash_after};
+ghost use Rattle.std.specs.Prelude.{◌≡◌, ◌≤◌, IfOk, length};
+ghost use Rattle.ira_main_files.specs.FileName.{log_name, name_in, slash_after};
 
 use std::alloc::{AllocError, Allocator};
+use std::marker::Model;
 
-/// The name of a file that is read.
-#[derive(Clone, Copy)]
-pub enum FileName<'a> {
-    /// One that a word gives; `-` stands for standard input.
-    Given(&'a str),
-    /// That of the log of the node at this place, in this folder.
-    Log(&'a str, u8),
-    /// One in this folder.
-    InFolder(&'a str, &'a str),
+/// The name of a file; `-` stands for standard input.
+#[derive(Drop)]
+pub struct FileName<A: Allocator> {
+    text: String<A>,
+}
+
+impl<A: Allocator> Model for FileName<A> {
+    ghost use Rattle.std.specs.Prelude.{List, ℕ, string_bytes};
+
+    ghost Value = { List ℕ };
+
+    ghost view = { λ n. string_bytes n.text };
 }
 
 /// What comes between the name of a folder and that of a file in it.
@@ -26,21 +30,39 @@ pub fn slash_after(folder: &str) -> &'static str
     }
 }
 
-impl FileName<'_> {
-    /// The name, whole.
-    pub fn path<A: Allocator>(&self, alloc: A) -> Result<String<A>, AllocError>
-        ensures { IfOk result (λ path. string_bytes path ≡ file_name self.now) }
+impl<A: Allocator> FileName<A> {
+    /// One that a word gives.
+    pub fn given(alloc: A, name: &str) -> Result<FileName<A>, AllocError>
+        ensures { IfOk result (λ it. it ≡ name.now) }
     {
-        match self {
-            FileName::Given(name) => String::from_str(alloc, name),
-            FileName::Log(folder, place) => {
-                let slash = slash_after(folder);
-                format!(in alloc; "{folder}{slash}{place}.log")
-            }
-            FileName::InFolder(folder, name) => {
-                let slash = slash_after(folder);
-                format!(in alloc; "{folder}{slash}{name}")
-            }
-        }
+        Ok(FileName {
+            text: String::from_str(alloc, name)?,
+        })
+    }
+
+    /// That of the log of the node at this place, in this folder.
+    pub fn log(alloc: A, folder: &str, place: u8) -> Result<FileName<A>, AllocError>
+        ensures { IfOk result (λ it. it ≡ log_name folder.now place) }
+    {
+        let slash = slash_after(folder);
+        Ok(FileName {
+            text: format!(in alloc; "{folder}{slash}{place}.log")?,
+        })
+    }
+
+    /// One in this folder.
+    pub fn in_folder(alloc: A, folder: &str, name: &str) -> Result<FileName<A>, AllocError>
+        ensures { IfOk result (λ it. it ≡ name_in folder.now name.now) }
+    {
+        let slash = slash_after(folder);
+        Ok(FileName {
+            text: format!(in alloc; "{folder}{slash}{name}")?,
+        })
+    }
+
+    pub fn as_str(&self) -> &str
+        ensures { result.now ≡ self.now }
+    {
+        self.text.as_str()
     }
 }

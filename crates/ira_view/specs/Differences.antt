@@ -2,6 +2,7 @@
 use Rattle.std.specs.Prelude.{◌≡◌, ◌<◌, ◌↔◌, ℕ, List, [], Contains, length}
 use Rattle.ira_event.specs.Log.{Log}
 use Rattle.ira_view_moment.specs.Moment.{AreLeaders, IsMoment, Moment, whole_cut}
+use Rattle.ira_view_moment.specs.Rounds.{AreRounds, DrawnRound}
 use Rattle.ira_view_election.specs.ElectionAt.{SomeNodeLeads, StandsAt}
 use Rattle.ira_view_election.specs.Election.{Standing, over, unfinished_text}
 use Rattle.ira_view_show.specs.Leaders.{differences_text, missing_text}
@@ -25,7 +26,9 @@ pub record AreDifferences (logs : List Log) (named differences : List ℕ) : Typ
 pub record AreDifferencesExplained (files : List NamedText) (logs : List Log) (named text : List ℕ) : Type 0 where
   pub moment : Moment
   pub is_end : IsMoment logs (whole_cut logs) moment
-  pub why : AreReasonsBelow files logs moment named text
+  pub rounds : List DrawnRound
+  pub drawn : AreRounds logs (whole_cut logs) rounds
+  pub why : AreReasonsBelow files logs moment rounds named text
 
 -- the line that no node leads when the logs end: none exactly where some node leads then
 pub record TellsOfLeader (logs : List Log) (differences : List ℕ) : Type 0 where

@@ -5,7 +5,7 @@ ghost use Rattle.ira_view.specs.Differences.{AreDifferences, AreDifferencesExpla
 use ira_audit::GoodLogs;
 use ira_event::OutOfMemory;
 use ira_view_election::{election_at_end, print_unfinished};
-use ira_view_moment::Moment;
+use ira_view_moment::{Moment, Rounds};
 use ira_view_page::{NamedText, Page, PageText};
 use ira_view_show::{explain_leads, leader_missing, leads_differ};
 use std::alloc::Allocator;
@@ -46,7 +46,8 @@ pub fn explain_differences<A: Allocator + Clone>(
 {
     let logs = logs.logs();
     let moment = Moment::at_end(alloc.clone()?, logs)?;
-    explain_leads(alloc, files, logs, &moment, named)
+    let rounds = Rounds::at_end(alloc.clone()?, logs)?;
+    explain_leads(alloc, files, logs, &moment, &rounds, named)
 }
 
 /// A line where no node leads when the logs end.

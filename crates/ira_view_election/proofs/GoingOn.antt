@@ -187,7 +187,7 @@ module _ (logs : List Log) (cut : List ℕ) (m : Moment) (are : AreLogs logs) (m
     ]
 
 pub moments_go_on : MomentsGoOn
-moments_go_on logs cut m k log are matches local consistent is at starts stands =
+moments_go_on logs cut m k log are matches local consistent is at starts contenders stands =
     stands.0 (leads_somewhere logs cut m are matches local consistent is (none_comes m stands.1) k log at starts)
 
 pub leaders_are_at_the_end : LeadersAreAtTheEnd

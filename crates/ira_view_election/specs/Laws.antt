@@ -17,7 +17,7 @@ abbrev pub MomentsGoOn : Type 0
 MomentsGoOn =
     (logs : List Log) (cut : List ℕ) (m : Moment) (k : ℕ) (log : Log) → AreLogs logs → Matches logs → AreLocalRuns logs
     → IsConsistentCut logs cut → IsMoment logs cut m → slice_get logs k ≡ Some log → log.initiator ≡ true
-    → ¬ (Stands m (goes_on []))
+    → (contenders : List ℕ) → ¬ (Stands m (goes_on [] contenders))
 
 -- and where a node leads, nothing may come next
 abbrev pub LeadersAreAtTheEnd : Type 0

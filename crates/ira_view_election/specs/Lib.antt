@@ -1,4 +1,5 @@
 pub mod Coming
+pub mod Contenders
 pub mod Election
 pub mod ElectionAt
 pub mod Laws

@@ -1,18 +1,21 @@
-ghost use Rattle.std.specs.Prelude.{◌≡◌, ◌<◌, ◌↔◌, IfOk, IsTrue, length};
+ghost use Rattle.std.specs.Prelude.{◌≡◌, ℕ, ◌<◌, ◌↔◌, IfOk, IsTrue, List, length};
 ghost use Rattle.ira_event.specs.declared.event.Event.{Event};
 ghost use Rattle.ira_order.specs.Matching.{Matches};
 ghost use Rattle.ira_order.specs.Run.{AreLocalRuns};
 ghost use Rattle.ira_view_election.specs.Coming.{ComesNext, IsDue, MayCome};
+ghost use Rattle.ira_view_election.specs.Contenders.{NamesContenders};
 ghost use Rattle.ira_view_election.specs.Election.{standing_of};
 ghost use Rattle.ira_view_election.specs.ElectionAt.{SomeNodeLeads, Stands, StandsAt};
-ghost use Rattle.ira_view_moment.specs.Moment.{whole_cut};
+ghost use Rattle.ira_view_moment.specs.Moment.{IsMoment, whole_cut};
+ghost use Rattle.ira_view_moment.specs.Rounds.{AreRounds};
 
+use crate::contenders::contenders;
 use crate::due::{Due, NodeDue};
 use crate::election::Election;
 use ira_event::{Event, Logs, OutOfMemory, RingSize};
 use ira_node::Wanted;
 use ira_order::predecessor;
-use ira_view_moment::Moment;
+use ira_view_moment::{Moment, Rounds};
 use std::alloc::{AllocError, Allocator};
 
 /// What comes next at node `i` of a ring of so many nodes at the moment; none where nothing does, or a yield alone.
@@ -66,19 +69,25 @@ fn has_leader<A: Allocator>(moment: &Moment<A>) -> bool
     false
 }
 
-/// How the election of a ring of so many nodes stands at the moment.
-pub fn election_at<A: Allocator, M: Allocator>(
+/// How the election stands at the moment of the logs, up to which they have these rounds.
+pub fn election_at<A: Allocator + Clone, L: Allocator, M: Allocator, R: Allocator>(
     alloc: A,
+    logs: &Logs<L>,
     moment: &Moment<M>,
-    nodes: RingSize,
-) -> Result<Election<A>, AllocError>
-    requires { nodes ≡ length moment.now.nodes }
-    ensures { IfOk result (λ election. Stands moment.now (standing_of election)) }
+    rounds: &Rounds<R>,
+) -> Result<Election<A>, OutOfMemory>
+    requires { length moment.now.nodes ≡ length logs.now }
+    ensures stands { IfOk result (λ election. Stands moment.now (standing_of election)) }
+    ensures names { IfOk result (λ election. (cut : List ℕ) → IsMoment logs.now cut moment.now
+        → AreRounds logs.now cut rounds.now → NamesContenders logs.now cut (standing_of election)) }
 {
     if has_leader(moment) {
         return Ok(Election::Over);
     }
-    Ok(Election::GoesOn(next_events(alloc, moment, nodes)?))
+    Ok(Election::GoesOn {
+        next: next_events(alloc.clone()?, moment, logs.size())?,
+        contenders: contenders(alloc, logs, moment, rounds)?,
+    })
 }
 
 /// How the election stands when all events of the logs have happened.
@@ -91,5 +100,7 @@ pub fn election_at_end<A: Allocator + Clone>(
     ensures { IfOk result (λ election. StandsAt logs.now (whole_cut logs.now) (standing_of election)) }
 {
     let moment = Moment::at_end(alloc.clone()?, logs)?;
-    Ok(election_at(alloc, &moment, logs.size())?)
+    let rounds = Rounds::at_end(alloc.clone()?, logs)?;
+    let election = election_at(alloc, logs, &moment, &rounds)?;
+    Ok(election)
 }

@@ -1,5 +1,5 @@
 ghost use Rattle.std.specs.List.{flat_map};
-ghost use Rattle.ira_view_election.specs.Election.{due_text, next_text, node_due_text, standing_of, standing_text, unfinished_text};
+ghost use Rattle.ira_view_election.specs.Election.{contenders_text, due_text, next_text, node_due_text, standing_of, standing_text, unfinished_text};
 ghost use Rattle.ira_view_page.specs.Page.{Added};
 
 use crate::due::{Due, NodeDue};
@@ -11,8 +11,13 @@ use std::alloc::Allocator;
 pub enum Election<A: Allocator> {
     /// A node leads.
     Over,
-    /// No node leads. These come next, in the order of the nodes; none where no node is an initiator.
-    GoesOn(Vec<NodeDue, A>),
+    /// No node leads.
+    GoesOn {
+        /// What comes next, in the order of the nodes; nothing where no node is an initiator.
+        next: Vec<NodeDue, A>,
+        /// Who can still lead by the draws; none where that is left unsaid.
+        contenders: Vec<u8, A>,
+    },
 }
 
 /// Adds what comes next at a node.
@@ -53,9 +58,28 @@ fn print_nodes_due<A: Allocator>(page: &mut Page<A>, next: &[NodeDue])
     }
 }
 
-/// Adds that the election isn't over, and what comes next.
-fn print_next<A: Allocator>(page: &mut Page<A>, next: &[NodeDue])
-    ensures { Added page.old (next_text next.now) page.new }
+/// Adds who can still lead, unless that is left unsaid.
+fn print_contenders<A: Allocator>(page: &mut Page<A>, contenders: &[u8])
+    ensures { Added page.old (contenders_text contenders.now) page.new }
+{
+    match contenders {
+        [] => {}
+        [place] => {
+            page.words(" By the draws none but node ");
+            page.number(*place as u64);
+            page.words(" can lead in this term.");
+        }
+        _ => {
+            page.words(" By the draws none but nodes ");
+            page.places(contenders);
+            page.words(" can lead in this term.");
+        }
+    }
+}
+
+/// Adds that the election isn't over, who can still lead, and what comes next.
+fn print_next<A: Allocator>(page: &mut Page<A>, next: &[NodeDue], contenders: &[u8])
+    ensures { Added page.old (next_text next.now contenders.now) page.new }
 {
     if next.is_empty() {
         page.line(
@@ -64,7 +88,11 @@ fn print_next<A: Allocator>(page: &mut Page<A>, next: &[NodeDue])
         );
         return;
     }
-    page.line(Emphasis::Plain, "The election isn't over. What comes next:");
+    page.begin(Emphasis::Plain);
+    page.words("The election isn't over.");
+    print_contenders(page, contenders);
+    page.words(" What comes next:");
+    page.end();
     print_nodes_due(page, next);
 }
 
@@ -74,7 +102,7 @@ pub fn print_unfinished<A: Allocator, B: Allocator>(page: &mut Page<A>, election
 {
     match election {
         Election::Over => {}
-        Election::GoesOn(next) => print_next(page, next),
+        Election::GoesOn { next, contenders } => print_next(page, next, contenders),
     }
 }
 
@@ -84,6 +112,6 @@ pub fn print_election<A: Allocator, B: Allocator>(page: &mut Page<A>, election: 
 {
     match election {
         Election::Over => page.line(Emphasis::Plain, "The election is over."),
-        Election::GoesOn(next) => print_next(page, next),
+        Election::GoesOn { next, contenders } => print_next(page, next, contenders),
     }
 }

@@ -1,7 +1,8 @@
-//! How an election stands at a moment: it is over, or what comes next.
+//! How an election stands at a moment: it is over, or who can still lead, and what comes next.
 #![tactic(auto)]
 
 mod at_moment;
+mod contenders;
 mod due;
 mod election;
 mod laws;

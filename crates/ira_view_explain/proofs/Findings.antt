@@ -38,18 +38,6 @@ pub no_run : (logs : List Log) (log : Log) (named : FaultyEvent) → slice_get l
     → IsFirstFaultyEvent logs named → IsLocalRun log → ⊥
 no_run logs log named at is run = run_or_fault log _ run (fault_of logs log named at is)
 
--- of one event without a step there are no others
-pub no_others : (logs : List Log) (named : FaultyEvent) (faulty : List FaultyEvent) → AreFirstFaultyEvents logs faulty
-    → IsFirstFaultyEvent logs named → length faulty < 2 → AreParts (AreOtherStops logs named) faulty []
-no_others logs named [] are is few = none
-no_others logs named (s ∷ []) are is few =
-    more [] s [] [] none (inl (place_is (are.all named is).0 (are.all named is).1, refl))
-  where
-    place_is : (k : ℕ) → slice_get (s ∷ []) k ≡ Some named → s.at.place ≡ named.at.place
-    place_is zero at = (let same : s ≡ named = cc in ap (λ (x : FaultyEvent). x.at.place) same)
-    place_is (suc k) at = absurd cc
-no_others logs named (s ∷ t ∷ rest) are is few = absurd (omega (arith, few))
-
 -- another node's event more
 pub steps_more : {A : Type 0} (files : List NamedText) (at : EventAt) (event : Event) (others : List OtherStop) (i : ℕ)
     (x : OtherStop) (told all : List (Evidence A)) (r : RecordAt A) → slice_get others i ≡ Some x

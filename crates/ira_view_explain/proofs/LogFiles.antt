@@ -3,7 +3,6 @@ use Rattle.std.proofs.Common.{◌≡◌, ◌∙◌, ℕ, zero, suc, List, [], �
 use Rattle.std.specs.Prelude.{option_map, slice_get}
 use Rattle.std.proofs.lemmas.Option.{slice_get-map}
 use Rattle.ira_event.proofs.LogAnswers.{log_or_fault}
-use Rattle.ira_event.specs.declared.head_fault.HeadFault.{HeadFault}
 use Rattle.ira_event.specs.declared.log_fault.LogFault.{LogFault}
 use Rattle.ira_event.specs.Log.{Log}
 use Rattle.ira_event.specs.LogText.{IsLogText}
@@ -71,13 +70,3 @@ file_fault files number f file answer at =
     slice_get-map (λ (x : NamedText). x.text.now) files number ∙ ap (option_map _) at in
     let same : first.text ≡ file.text.now = (let found = first.at in cc) in
     subst (λ (text : List ℕ). LogTextFault text f) same first.fault
-
--- logs that aren't those of one ring are logs
-pub heads_files : (files : List NamedText) (g : HeadFault) (a : Answer) → a ≡ No (reason.Heads g)
-    → IsRingAnswer (map (λ (x : NamedText). x.text.now) files) a → AreLogFiles files
-heads_files files g a is (no_log m f first e) = absurd cc
-heads_files files g a is (no_ring logs f are h e) = (logs, are)
-heads_files files g a is (unmatched logs f are ring h e) = absurd cc
-heads_files files g a is (circled logs are ring h e) = absurd cc
-heads_files files g a is (stopped logs p f are ring o h e) = absurd cc
-heads_files files g a is (yes logs good e) = absurd cc

@@ -47,10 +47,6 @@ same_more log other es os es' os' e same first second = record {
   other_is = longer other same.taken os os' e same.other_is second;
 }
 
-pub same_all : (log other es os : List Event) → AreSame log other es os → es ≡ [] → os ≡ [] → log ≡ other
-same_all log other es os same none nor =
-    same.log_is ∙ (ap (λ (z : List Event). same.taken ++ z) (none ∙ sym nor) ∙ sym same.other_is)
-
 -- two lists that begin alike, of which the first then has a load more
 split : (loads : List Load) (at : ℕ) (d : Load) → at < length loads
     → loads ≡ take at loads ++ get_or loads at d ∷ drop (at + 1) loads

@@ -2,7 +2,7 @@
 use Rattle.std.specs.Prelude.{◌≡◌, ◌↔◌, ◌<◌, ⊤, ℕ, List, Some, AllPairs, Contains, slice_get}
 use Rattle.ira_event.specs.declared.log_head.LogHead.{LogHead}
 use Rattle.ira_view_explain.specs.declared.heads_hint.HeadsHint.{HeadsHint}
-use Rattle.ira_view_explain.specs.declared.heads_hint.HeadsHint.TheVariants.{MissingPlaces, PlaceTwice}
+use Rattle.ira_view_explain.specs.declared.heads_hint.HeadsHint.TheVariants.{Exchanged, MissingPlaces, PlaceTwice}
 
 -- the head of this number is of this place
 abbrev pub IsOfPlace : List LogHead → ℕ → ℕ → Type 0
@@ -23,5 +23,6 @@ abbrev pub IsSo : {A : Type 0} → List LogHead → HeadsHint A → Type 0
 IsSo heads (MissingPlaces places) =
     (first : LogHead) × (slice_get heads 0 ≡ Some first) × AreMissing heads first.nodes places.items
 IsSo heads (PlaceTwice place) = (i j : ℕ) × (i < j) × IsOfPlace heads i place × IsOfPlace heads j place
+IsSo heads (Exchanged log other) = IsOfPlace heads log other × IsOfPlace heads other log
 -- of the others nothing is said here
 IsSo heads hint = ⊤

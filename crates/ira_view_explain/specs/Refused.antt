@@ -1,5 +1,5 @@
 -- What stands against the logs of a ring, and what an explanation tells of it.
-use Rattle.std.specs.Prelude.{◌≡◌, ◌≢◌, ◌↔◌, ◌⊎◌, IsTrue, List, [], ◌∷◌, ◌++◌, MatchOption, Option, None, Some}
+use Rattle.std.specs.Prelude.{◌≡◌, ◌≢◌, ◌↔◌, ◌⊎◌, Bool, IsTrue, List, [], ◌∷◌, ◌++◌, MatchOption, Option, None, Some}
 use Rattle.std.specs.Prelude.{codes, slice_get, string_bytes}
 use Rattle.ira_event.specs.declared.event.Event.{Event}
 use Rattle.ira_event.specs.declared.event.Event.TheVariants.{Got, Sent as EventSent}
@@ -25,8 +25,10 @@ use Rattle.ira_view_page.specs.declared.evidence.Evidence.{Evidence}
 use Rattle.ira_view_page.specs.declared.evidence.Evidence.TheVariants.{Faulty, OtherFaulty, Received, Sent}
 use Rattle.ira_view_page.specs.declared.named_text.NamedText.{NamedText}
 use Rattle.ira_view_page.specs.declared.record_at.RecordAt.{RecordAt}
+use Rattle.ira_view_explain.specs.Besides.{IsBesides}
 use Rattle.ira_view_explain.specs.HeadsTold.{AreHeadsTold}
 use Rattle.ira_view_explain.specs.TextTold.{IsTextTold}
+use Rattle.ira_view_explain.specs.declared.faulty_link.FaultyLink.{FaultyLink}
 use Rattle.ira_view_explain.specs.declared.refused_finding.RefusedFinding.{RefusedFinding}
 use Rattle.ira_view_explain.specs.declared.refused_finding.RefusedFinding.TheVariants.{Link, Circle, Steps}
 use Rattle.ira_view_explain.specs.declared.steps_finding.OtherStop.{OtherStop}
@@ -75,7 +77,7 @@ AreOtherStops logs named stop part =
     ⊎ ((stop.at.place ≢ named.at.place) × (other : OtherStop) × (part ≡ other ∷ [])
     × IsOtherStop logs named stop other)
 
--- the named event of these, why it has no step, the others, and where to begin, if there are others
+-- the named event of these, why it has no step, the others, and where to begin
 pub record AreSteps {A : Type 0} (logs : List Log) (faulty : List FaultyEvent) (named : FaultyEvent)
     (steps : StepsFinding A) : Type 0 where
   pub named_is : steps.named ≡ named
@@ -84,13 +86,22 @@ pub record AreSteps {A : Type 0} (logs : List Log) (faulty : List FaultyEvent) (
   pub stopped : IsStopped log steps.log
   pub position : steps.log.evidence.fault.position ≡ named.at.position
   pub others : AreParts (AreOtherStops logs named) faulty steps.others.items
-  pub origins : ((steps.others.items ≡ []) × (steps.origins.items ≡ [])) ⊎ AreOrigins logs named.at steps.origins.items
+  pub origins : AreOrigins logs named.at steps.origins.items
 
 -- of another node's event without a step: with why it has none, and whether it happened before the named one
 abbrev pub IsOtherTold : {A : Type 0} → List NamedText → OtherStop → List (Evidence A) → Type 0
 IsOtherTold {A} files other told =
     (r : RecordAt A) × (told ≡ OtherFaulty r other.stop.fault other.happened_before ∷ [])
     × IsRecordOf files other.stop.at other.event r
+
+-- of a link: its sides, and the event that is told besides as another node's, where there is one
+abbrev pub IsLinkTold : {A : Type 0} → List NamedText → FaultyLink A → List (Evidence A) → Type 0
+IsLinkTold {A} files link told =
+    (sides others : List (Evidence A)) × (told ≡ sides ++ others)
+    × AreSidesTold files link.sending link.receipt sides
+    × MatchOption link.other (others ≡ []) (λ stop.
+    MatchOption (numbered (log_of link.logs.now stop.at.place) stop.at.position) (others ≡ []) (λ event.
+    IsOtherTold files (record { stop = stop; event = event; happened_before = link.came_before }) others))
 
 -- of events without a step: the named one, and the others
 pub record AreStepsTold {A : Type 0} (files : List NamedText) (at : EventAt) (event : Event) (others : List OtherStop)
@@ -104,7 +115,8 @@ pub record AreStepsTold {A : Type 0} (files : List NamedText) (at : EventAt) (ev
 -- what stands against logs with these first events without a step, for this reason
 abbrev pub IsFinding : {A : Type 0} → List Log → Reason → List FaultyEvent → RefusedFinding A → Type 0
 IsFinding logs (Match f) faulty (Link link) =
-    IsLinkEvidence logs f (record { receipt = link.receipt; sending = link.sending })
+    IsLinkEvidence logs f (record { receipt = link.receipt; sending = link.sending }) × (link.logs.now ≡ logs)
+    × IsBesides faulty link.receipt link.sending link.other link.came_before
 IsFinding logs CircleReason faulty (Circle found) =
     IsCircleEvidence logs found.circle.ordered found.circle.stuck.items × (found.faulty ≡ slice_get faulty 0)
 IsFinding logs (Replay place position fault) faulty (Steps steps) =
@@ -113,7 +125,7 @@ IsFinding logs _ faulty _ = ⊥
 
 -- what a finding rests on
 abbrev pub AreTold : {A : Type 0} → List NamedText → RefusedFinding A → List (Evidence A) → Type 0
-AreTold files (Link link) told = AreSidesTold files link.sending link.receipt told
+AreTold files (Link link) told = IsLinkTold files link told
 AreTold files (Circle found) told = AreParts (AreStuckTold files) found.circle.stuck.items told
 AreTold files (Steps steps) told =
     AreStepsTold files steps.named.at steps.log.stopped.event steps.others.items told

@@ -1,5 +1,5 @@
 -- What a hint of the ring says of the logs.
-use Rattle.std.specs.Prelude.{◌≡◌, ◌≢◌, ◌<◌, ◌+◌, ◌-◌, ⊤, ℕ, List, ◌∷◌, ◌++◌, Some, if◌then◌else◌, length, nat_eq}
+use Rattle.std.specs.Prelude.{◌≡◌, ◌≢◌, ◌⊎◌, ◌<◌, ◌+◌, ◌-◌, ⊤, ℕ, List, ◌∷◌, ◌++◌, Some, if◌then◌else◌, length, nat_eq}
 use Rattle.std.specs.Prelude.{slice_get}
 use Rattle.ira_event.specs.Log.{Log}
 use Rattle.ira_event.specs.declared.load.Load.{Load}
@@ -69,6 +69,10 @@ IsPassedOn (Message m) (Message n) = (n.round ≡ m.round) × (n.id ≡ m.id) ×
 IsPassedOn (Reset h) (Reset g) = g ≡ h + 1
 IsPassedOn load other = ⊥
 
+-- so it is, or it is the same, which went past the node
+abbrev pub IsSkipped : Load → Load → Type 0
+IsSkipped load passed = (load ≡ passed) ⊎ IsPassedOn load passed
+
 -- without this sending all that was received is what was sent, one by one, as far as it goes
 abbrev pub IsUnreceived : Load → List Load → List Load → Type 0
 IsUnreceived load sent received = (front rest : List Load) × (sent ≡ front ++ load ∷ rest)
@@ -94,7 +98,7 @@ IsSo logs (OneRecorder place before after how) = IsOdd logs place before after
     × DifferAlike how (sent (log_of logs before)) (got (log_of logs place))
     × DifferAlike how (sent (log_of logs place)) (got (log_of logs after))
 -- its log lacks the receipt of the one load and its sending as the other
-IsSo logs (Hole place load before passed) = (after : ℕ) × IsOdd logs place before after × IsPassedOn load passed
+IsSo logs (Hole place load before passed) = (after : ℕ) × IsOdd logs place before after × IsSkipped load passed
     × IsUnreceived load (sent (log_of logs before)) (got (log_of logs place))
     × IsUnsent passed (sent (log_of logs place)) (got (log_of logs after))
 -- with another log of a node there all links would match

@@ -4,10 +4,7 @@ use std::alloc::Allocator;
 
 /// How many digits a number has.
 pub(crate) fn digits(number: u32) -> usize {
-    match number.checked_ilog10() {
-        Some(log) => log as usize + 1,
-        None => 1,
-    }
+    number.checked_ilog10().map_or(1, |log| log as usize + 1)
 }
 
 /// How many characters spell a load.
@@ -49,14 +46,6 @@ fn add_carets<A: Allocator>(
     column.saturating_add(width).saturating_add(1)
 }
 
-/// Adds carets below the fields of a message, from a column on, that another message hasn't.
-fn add_differences<A: Allocator>(line: &mut Page<A>, column: usize, own: Msg, other: Msg) {
-    let column = add_carets(line, column, digits(own.round), own.round == other.round);
-    let column = add_carets(line, column, digits(own.id), own.id == other.id);
-    let column = add_carets(line, column, digits(own.hop), own.hop == other.hop);
-    add_carets(line, column, "clean".len(), own.dirty == other.dirty);
-}
-
 /// Carets below the fields of a load at the end of a cell that another load hasn't: below all of it where one is a
 /// message and one a reset. Nothing where both are the same.
 pub(crate) fn carets_below<A: Allocator + Copy>(
@@ -68,10 +57,13 @@ pub(crate) fn carets_below<A: Allocator + Copy>(
     match (own, other) {
         _ if own == other => None,
         (Load::Reset(hop), Load::Reset(_)) => Some(carets_at_end(alloc, cell, digits(hop))),
-        (Load::Msg(own_message), Load::Msg(other_message)) => {
+        (Load::Msg(a), Load::Msg(b)) => {
             let mut line = Page::new(alloc);
             let column = cell.len().saturating_sub(load_width(own));
-            add_differences(&mut line, column, own_message, other_message);
+            let column = add_carets(&mut line, column, digits(a.round), a.round == b.round);
+            let column = add_carets(&mut line, column, digits(a.id), a.id == b.id);
+            let column = add_carets(&mut line, column, digits(a.hop), a.hop == b.hop);
+            add_carets(&mut line, column, "clean".len(), a.dirty == b.dirty);
             Some(line)
         }
         _ => Some(carets_at_end(alloc, cell, load_width(own))),

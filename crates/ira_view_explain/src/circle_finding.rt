@@ -10,21 +10,17 @@ use ira_view_evidence::{CircleEvidence, StuckAt};
 use ira_view_page::{Emphasis, Evidence, Page, Row, Table, file_of, line_of};
 use std::alloc::Allocator;
 
-/// The line of the receipt at which a node is stuck; nothing where the place has none.
-fn stuck_line(stuck: &[StuckAt], place: u8) -> usize {
-    match stuck.get(usize::from(place)) {
-        Some(stuck) => line_of(stuck.receipt.position),
-        None => 0,
-    }
-}
-
-/// Adds a node's first event without a step.
-fn add_faulty<A: Allocator>(text: &mut Page<A>, event: FaultyEvent) {
+/// Adds a node's first event without a step, and that it came before what is told of that node, where it did.
+pub(crate) fn add_besides<A: Allocator>(text: &mut Page<A>, event: FaultyEvent, came_before: bool) {
     fill(
         text,
-        "Besides, node {} has no step for event {}: ",
+        "Besides, node {} has no step for event {}",
         [u32::from(event.at.place), event.at.position],
     );
+    if came_before {
+        text.words(", which came before");
+    }
+    text.words(": ");
     text.fault(event.fault);
     text.words(".");
 }
@@ -33,6 +29,7 @@ impl<'l, A: Allocator + Clone> RingFiles<'_, 'l, A> {
     /// Where a node is stuck, and where the sending stands that it waits for.
     fn stuck_row(&self, stuck: &[StuckAt], at: StuckAt) -> Row<&'l A> {
         let (receipt, sending) = (at.receipt, at.sending);
+        let before = stuck.get(usize::from(sending.place));
         let mut record = Page::new(self.alloc);
         record.record(
             file_of(self.files, receipt.place),
@@ -45,7 +42,7 @@ impl<'l, A: Allocator + Clone> RingFiles<'_, 'l, A> {
             line_of(sending.position),
         );
         sent.words(", after its line ");
-        sent.number(stuck_line(stuck, sending.place) as u64);
+        sent.number(before.map_or(0, |stuck| line_of(stuck.receipt.position)) as u64);
         let mut row = Row::new(self.alloc);
         row.left(numbered_page(self.alloc, "node ", u32::from(receipt.place)));
         row.left(record);
@@ -103,7 +100,7 @@ impl<A: Allocator + Clone> CircleFinding<A> {
         page.paragraph_of(&text);
         if let Some(event) = self.faulty {
             let mut text = Page::new(ring.alloc);
-            add_faulty(&mut text, event);
+            add_besides(&mut text, event, false);
             page.paragraph_of(&text);
         }
     }

@@ -42,7 +42,7 @@ impl<'l, A: Allocator> FaultyLink<'_, 'l, A> {
         row
     }
 
-    /// Adds the sending and the receipt of a number.
+    /// Adds the sending and the receipt of a number, with carets where it is the one that is told of.
     fn add_exchange(&self, table: &mut Table<&'l A>, k: u32) {
         let alloc = self.alloc;
         let sending = nth_sending(self.logs, self.link, k);
@@ -56,15 +56,12 @@ impl<'l, A: Allocator> FaultyLink<'_, 'l, A> {
         row.left(exchange_cell(alloc, self.writer_file, sending));
         row.left(exchange_cell(alloc, self.reader_file, receipt));
         row.left(same);
-        let is_named = k == self.k;
-        table.add(
-            if is_named {
-                Emphasis::Named
-            } else {
-                Emphasis::Plain
-            },
-            row,
-        );
+        if k == self.k {
+            table.add(Emphasis::Named, row);
+            self.add_carets(table);
+        } else {
+            table.add(Emphasis::Plain, row);
+        }
     }
 
     /// Adds carets below what the sending and the receipt that are told of differ in.
@@ -91,9 +88,6 @@ impl<'l, A: Allocator> FaultyLink<'_, 'l, A> {
         for k in self.k.saturating_sub(2).max(1)..=self.k.saturating_add(3) {
             if k as usize <= exchanges {
                 self.add_exchange(&mut table, k);
-                if k == self.k {
-                    self.add_carets(&mut table);
-                }
             }
         }
         table

@@ -16,6 +16,7 @@ ghost use Rattle.ira_view_explain.specs.TextTold.{IsTextTold};
 
 use crate::end_alone::print_end_alone;
 use crate::heads_finding::HeadsFinding;
+use crate::hint::hints_of;
 use crate::refused_finding::RefusedFinding;
 use crate::ring_files::RingFiles;
 use crate::stopped_log::StoppedLog;
@@ -91,7 +92,8 @@ fn explain_text<A: Allocator + Clone>(
     finding.print(file, &mut page);
     let mut evidence = Vec::new(alloc.clone()?);
     evidence.push(finding.evidence(alloc, file)?)?;
-    Explanation::of_page(alloc, None, page, evidence, finding.hints(alloc)?)
+    let hints = hints_of(alloc, finding.hint.as_ref())?;
+    Explanation::of_page(alloc, None, page, evidence, hints)
 }
 
 /// Why logs aren't those of one ring.
@@ -113,7 +115,7 @@ fn explain_heads<A: Allocator + Clone>(
         None,
         page,
         finding.evidence(alloc, files)?,
-        finding.hints(alloc)?,
+        hints_of(alloc, finding.hint.as_ref())?,
     )
 }
 
@@ -183,7 +185,8 @@ fn explain_stopped<A: Allocator + Clone>(
     let event = RecordAt::new(alloc.clone()?, file, at, found.stopped.event)?;
     let mut evidence = Vec::new(alloc.clone()?);
     evidence.push(Evidence::Faulty(event))?;
-    let mut explanation = Explanation::of_page(alloc, None, page, evidence, found.hints()?)?;
+    let hints = hints_of(alloc, found.hint.as_ref())?;
+    let mut explanation = Explanation::of_page(alloc, None, page, evidence, hints)?;
     explanation.state_before = Some(found.stopped.state);
     Ok(explanation)
 }

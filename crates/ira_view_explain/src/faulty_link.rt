@@ -3,12 +3,13 @@ ghost use Rattle.ira_order.specs.MatchFault.{IsMatchFault};
 ghost use Rattle.ira_order.specs.Matching.{got, sent};
 ghost use Rattle.ira_order.specs.Ring.{log_of, next};
 ghost use Rattle.ira_view_evidence.specs.LinkEvidence.{IsLinkEvidence};
+ghost use Rattle.ira_view_explain.specs.Besides.{IsBesides, stop_before};
 ghost use Rattle.ira_view_explain.specs.RingHint.{Fits};
 
 use crate::link_hint::LinkHint;
 use crate::ring_files::RingFiles;
 use ira_event::{Logs, OutOfMemory};
-use ira_order::{MatchFault, successor};
+use ira_order::{FaultyEvent, MatchFault, successor};
 use ira_view_evidence::{Exchange, LinkEvidence, LinkSides};
 use ira_view_page::file_of;
 use std::alloc::Allocator;
@@ -29,6 +30,10 @@ pub(crate) struct FaultyLink<'a, 'l, A: Allocator> {
     pub(crate) receipt: Exchange,
     /// The sending of that number, where there is one.
     pub(crate) sending: Option<Exchange>,
+    /// The event without a step that is told besides.
+    pub(crate) other: Option<FaultyEvent>,
+    /// Whether it came before the receipt or the sending in the log of one of the link's nodes.
+    pub(crate) came_before: bool,
     /// All that its nodes recorded of it.
     pub(crate) sides: LinkSides<&'l A>,
     /// The usual causes that explain it.
@@ -52,21 +57,37 @@ fn receipt_of<A: Allocator>(logs: &Logs<A>, fault: MatchFault) -> (u8, u32)
     }
 }
 
+/// Of these events the one that comes before this sending or receipt in the log of its node.
+fn stop_before(faulty: &[FaultyEvent], exchange: Option<Exchange>) -> Option<FaultyEvent>
+    ensures { result ≡ stop_before faulty.now exchange }
+{
+    let at = exchange?.at;
+    faulty
+        .iter()
+        .find(|stop| stop.at.place == at.place && stop.at.position < at.position)
+        .copied()
+}
+
 impl<'a, 'l, A: Allocator + Clone> FaultyLink<'a, 'l, A> {
     /// The one that a fault of the logs names.
     pub(crate) fn of_fault(
         ring: &RingFiles<'a, 'l, A>,
         fault: MatchFault,
+        faulty: &[FaultyEvent],
     ) -> Result<FaultyLink<'a, 'l, A>, OutOfMemory>
         requires { IsMatchFault ring.now.logs.now fault }
-        ensures { IfOk result (λ link. IsLinkEvidence ring.now.logs.now fault
+        ensures sides { IfOk result (λ link. IsLinkEvidence ring.now.logs.now fault
             (record { receipt = link.receipt; sending = link.sending })) }
+        ensures logs { IfOk result (λ link. link.logs.now ≡ ring.now.logs.now) }
+        ensures besides { IfOk result (λ link.
+            IsBesides faulty.now link.receipt link.sending link.other link.came_before) }
     {
         let logs = ring.logs;
         let LinkEvidence { receipt, sending } = LinkEvidence::of_fault(logs, fault);
         let (link, k) = receipt_of(logs, fault);
         let reader = successor(logs.size().get(), link);
         let sides = LinkSides::of_link(ring.alloc, logs, link)?;
+        let earlier = stop_before(faulty, sending).or(stop_before(faulty, Some(receipt)));
         let mut link = FaultyLink {
             alloc: ring.alloc,
             logs,
@@ -77,6 +98,8 @@ impl<'a, 'l, A: Allocator + Clone> FaultyLink<'a, 'l, A> {
             k,
             receipt,
             sending,
+            other: earlier.or(faulty.first().copied()),
+            came_before: earlier.is_some(),
             sides,
             causes: Vec::new(ring.alloc),
         };

@@ -57,23 +57,16 @@ impl Field {
     pub(crate) fn number(self, text: &[u8]) -> Option<u32> {
         match self {
             Field::Bit | Field::Count => None,
-            Field::Round | Field::Id | Field::Hop => {
-                let (number, _) = scan_number(text)?;
-                Some(number)
-            }
+            Field::Round | Field::Id | Field::Hop => scan_number(text).map(|(number, _)| number),
         }
     }
 
     /// What follows the field where the text begins with one.
     pub(crate) fn skip(self, text: &[u8]) -> Option<&[u8]> {
         match self {
-            Field::Bit => match skip_word(text, b"clean") {
-                Some(rest) => Some(rest),
-                None => skip_word(text, b"dirty"),
-            },
+            Field::Bit => skip_word(text, b"clean").or(skip_word(text, b"dirty")),
             Field::Round | Field::Id | Field::Hop | Field::Count => {
-                let (_, rest) = scan_number(text)?;
-                Some(rest)
+                scan_number(text).map(|(_, rest)| rest)
             }
         }
     }

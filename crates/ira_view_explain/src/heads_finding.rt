@@ -148,9 +148,12 @@ fn hint_of<A: Allocator>(
             "files of a larger ring that ran in the same folder before may be left there.",
         )),
         HeadFault::Size(_) => None,
-        HeadFault::Place(_) => match repeated_place(heads) {
-            Some(place) => Some(HeadsHint::PlaceTwice(place)),
-            None => Some(HeadsHint::Words(
+        HeadFault::Place(log) => match (repeated_place(heads), heads.get(usize::from(log))) {
+            (Some(place), _) => Some(HeadsHint::PlaceTwice(place)),
+            (None, Some(head)) if head_of(heads, 0, log) == Some(usize::from(head.place)) => {
+                Some(HeadsHint::Exchanged(log, head.place))
+            }
+            (None, _) => Some(HeadsHint::Words(
                 "these are all the logs, in another order. A shell sorts 10.log before 2.log; in order of place: \
                  ira logs --dir DIR, or ira logs $(ls FILES | sort -V)",
             )),
@@ -167,7 +170,7 @@ pub(crate) struct HeadsFinding<A: Allocator> {
     fault: HeadFault,
     /// The head of each log.
     pub(crate) heads: Vec<LogHead, A>,
-    hint: Option<HeadsHint<A>>,
+    pub(crate) hint: Option<HeadsHint<A>>,
 }
 
 impl<A: Allocator + Clone> HeadsFinding<A> {
@@ -189,9 +192,7 @@ impl<A: Allocator + Clone> HeadsFinding<A> {
     fn named(&self) -> Option<usize> {
         match self.fault {
             HeadFault::Number => None,
-            HeadFault::Size(i) | HeadFault::Place(i) | HeadFault::Version(i) => Some(usize::from(
-                i,
-            )),
+            HeadFault::Size(i) | HeadFault::Place(i) | HeadFault::Version(i) => Some(i.into()),
         }
     }
 
@@ -317,17 +318,6 @@ impl<A: Allocator + Clone> HeadsFinding<A> {
             }))?;
         }
         Ok(told)
-    }
-
-    /// The usual cause, where there is one.
-    pub(crate) fn hints(&self, alloc: &A) -> Result<Vec<String<A>, A>, OutOfMemory> {
-        let mut hints = Vec::new(alloc.clone()?);
-        if let Some(hint) = &self.hint {
-            let mut text = Page::new(alloc.clone()?);
-            hint.print(&mut text);
-            hints.push(text.finish()?.into_string())?;
-        }
-        Ok(hints)
     }
 }
 

@@ -1,3 +1,5 @@
+use crate::hint::Hint;
+use crate::numbered::fill;
 use crate::place_list::add_places;
 use ira_view_page::Page;
 use std::alloc::Allocator;
@@ -11,14 +13,15 @@ pub(crate) enum HeadsHint<A: Allocator> {
     MissingPlaces(Vec<u8, A>),
     /// This place is that of two logs.
     PlaceTwice(u8),
+    /// These logs are of each other's place.
+    Exchanged(u8, u8),
 }
 
 /// At most so many places are shown that have no log.
 const MOST_PLACES: usize = 8;
 
-impl<A: Allocator> HeadsHint<A> {
-    /// Adds its sentence.
-    pub(crate) fn print<P: Allocator>(&self, text: &mut Page<P>) {
+impl<A: Allocator> Hint for HeadsHint<A> {
+    fn print<P: Allocator>(&self, text: &mut Page<P>) {
         match self {
             HeadsHint::Words(words) => text.show(words.as_bytes()),
             HeadsHint::MissingPlaces(places) => {
@@ -30,6 +33,11 @@ impl<A: Allocator> HeadsHint<A> {
                 text.numbered("place ", u32::from(*place));
                 text.words(" is there twice.");
             }
+            HeadsHint::Exchanged(log, other) => fill(
+                text,
+                "logs {} and {} hold each other's places: their order, their names, or their `place` lines are exchanged.",
+                [*log, *other],
+            ),
         }
     }
 }

@@ -11,6 +11,7 @@ mod field;
 mod head_line;
 mod heads_finding;
 mod heads_hint;
+mod hint;
 mod line_form;
 mod line_remark;
 mod line_slip;

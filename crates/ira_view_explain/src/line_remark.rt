@@ -54,13 +54,11 @@ impl LineRemark {
                 text.words(" is 1 to 1,000,000");
             }
             LineRemark::TooMany => text.words("record 100,001"),
-            LineRemark::Last { records } => {
-                fill(
-                    text,
-                    "the last line; `end {}` is due after it",
-                    [records as u64],
-                );
-            }
+            LineRemark::Last { records } => fill(
+                text,
+                "the last line; `end {}` is due after it",
+                [records as u64],
+            ),
             LineRemark::End { records } => {
                 text.words("the log has ");
                 text.number_of(records, "record");
@@ -68,13 +66,11 @@ impl LineRemark {
                     fill(text, " (lines 5 to {})", [records.saturating_add(4) as u64]);
                 }
             }
-            LineRemark::AfterEnd { end } => {
-                fill(
-                    text,
-                    "nothing stands after the end line (line {})",
-                    [end as u64],
-                );
-            }
+            LineRemark::AfterEnd { end } => fill(
+                text,
+                "nothing stands after the end line (line {})",
+                [end as u64],
+            ),
         }
     }
 }

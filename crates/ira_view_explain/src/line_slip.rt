@@ -14,11 +14,7 @@ pub(crate) fn slip_of_line(line: &[u8], byte: usize, due: DueInLine, version: u8
     if line.is_empty() {
         return Some(Slip::EmptyLine);
     }
-    let before = if byte > 0 {
-        line.get(byte - 1).copied()
-    } else {
-        None
-    };
+    let before = line.get(..byte)?.last().copied();
     let rest = line.get(byte..)?;
     match rest {
         [b'C' | b'D', ..] | b"true" | b"false" | b"0" | b"1"

@@ -21,27 +21,16 @@ pub(crate) enum DueInLine {
 #[derive(Clone, Copy)]
 pub(crate) enum LineStop {
     /// From this byte on it goes on as no line does that is allowed there.
-    Due {
-        byte: usize,
-        due: DueInLine,
-    },
+    Due(usize, DueInLine),
     /// It is a record with a number out of its range, from a byte to the one after it.
-    Range {
-        field: Field,
-        from: usize,
-        to: usize,
-        is_zero: bool,
-    },
+    Range(Field, usize, usize),
 }
 
 impl LineStop {
     /// Of a line after the head of a log of this version.
     pub(crate) fn find(line: &[u8], version: u8) -> LineStop {
         let Some((fields, rest)) = fields_of(line, version) else {
-            return LineStop::Due {
-                byte: 0,
-                due: DueInLine::Word,
-            };
+            return LineStop::Due(0, DueInLine::Word);
         };
         let mut rest = rest;
         let mut is_first = true;
@@ -74,20 +63,13 @@ impl LineStop {
         if (1..=MAX_NUMBER).contains(&number) {
             return None;
         }
-        Some(LineStop::Range {
-            field,
-            from: line.len().saturating_sub(rest.len()),
-            to: line.len().saturating_sub(after.len()),
-            is_zero: number == 0,
-        })
+        let from = line.len().saturating_sub(rest.len());
+        Some(LineStop::Range(field, from, line.len().saturating_sub(after.len())))
     }
 
     /// In front of what is left of the line.
     fn at(line: &[u8], rest: &[u8], due: DueInLine) -> LineStop {
-        LineStop::Due {
-            byte: line.len().saturating_sub(rest.len()),
-            due,
-        }
+        LineStop::Due(line.len().saturating_sub(rest.len()), due)
     }
 
     /// Where the space in front of this field is missing.

@@ -13,63 +13,29 @@ use std::alloc::Allocator;
 pub(crate) enum LinkHint<'a, A: Allocator> {
     Ring(RingHint<A>),
     Rows(RowsHint),
-    /// The sender's log ends where it owes what was received.
-    OwedAtEnd {
-        writer: u8,
-        file: &'a str,
-        line: usize,
-    },
-    /// Each sending without a receipt is one that the reader drops, this one first, in this state.
-    Dropped {
-        reader: u8,
-        state: NodeState,
-        load: Load,
-    },
-    /// The writer recorded its own messages alone.
-    PassedOn {
-        writer: u8,
-    },
+    /// The log of this sender, in this file, ends in this line, where it owes what was received.
+    OwedAtEnd(u8, &'a str, usize),
+    /// Each sending without a receipt is one that this reader drops, this one first, in this state.
+    Dropped(u8, NodeState, Load),
+    /// This writer recorded its own messages alone.
+    PassedOn(u8),
     /// This sending is the one before it once more.
-    SentTwice {
-        sending: u32,
-    },
+    SentTwice(u32),
     /// Sendings from this number on, so many, have no receipt.
-    NoReceipt {
-        first: u32,
-        count: u32,
-    },
+    NoReceipt(u32, u32),
     /// So many sendings have no receipt, not one after the other.
-    SeveralLost {
-        count: usize,
-    },
-    /// This receipt is of the load before it.
-    CameTwice {
-        receipt: u32,
-        writer: u8,
-    },
-    /// So many receipts are of the loads before them.
-    SeveralTwice {
-        count: usize,
-        writer: u8,
-    },
-    /// From this sending on, so many aren't recorded.
-    NoSending {
-        first: u32,
-        count: u32,
-        writer: u8,
-    },
+    SeveralLost(usize),
+    /// This receipt is of the load before it, or this writer's sending of it isn't recorded.
+    CameTwice(u32, u8),
+    /// So many receipts are of the loads before them, or sendings of this writer aren't recorded.
+    SeveralTwice(usize, u8),
+    /// Receipts from this number on, so many, have no sending of this writer.
+    NoSending(u32, u32, u8),
     /// The receipts from one number to another are the sendings of these numbers, in another order.
-    Reordered {
-        first: u32,
-        last: u32,
-    },
-    /// What was received is nowhere among what was sent, nor is among the writer's receipts what it would be passed on
+    Reordered(u32, u32),
+    /// What was received is nowhere among what this writer sent, nor is among its receipts what it would be passed on
     /// from, which was sent to it.
-    NeverSent {
-        writer: u8,
-        load: Load,
-        call: Option<Load>,
-    },
+    NeverSent(u8, Load, Option<Load>),
 }
 
 /// The number of the last of so many from a first one on.
@@ -82,7 +48,7 @@ impl<A: Allocator> LinkHint<'_, A> {
     /// or that there are logs of two runs.
     pub(crate) fn is_doubtful(&self, others: OtherFaults) -> bool {
         match self {
-            LinkHint::NoReceipt { count, .. } | LinkHint::NoSending { count, .. } => {
+            LinkHint::NoReceipt(_, count) | LinkHint::NoSending(_, count, _) => {
                 others == OtherFaults::None && *count > 1
             }
             LinkHint::Rows(RowsHint::HopOfOneSide) => others == OtherFaults::None,
@@ -98,7 +64,7 @@ impl<A: Allocator> LinkHint<'_, A> {
         match self {
             LinkHint::Ring(hint) => hint.print(text),
             LinkHint::Rows(hint) => hint.print(text),
-            LinkHint::OwedAtEnd { writer, file, line } => {
+            LinkHint::OwedAtEnd(writer, file, line) => {
                 fill(text, "the log of node {} ends (", [*writer]);
                 text.place(file, *line);
                 text.words(
@@ -106,11 +72,7 @@ impl<A: Allocator> LinkHint<'_, A> {
                      before it wrote that, `ira mend --out DIR` ends the logs where they fit together.",
                 );
             }
-            LinkHint::Dropped {
-                reader,
-                state,
-                load,
-            } => {
+            LinkHint::Dropped(reader, state, load) => {
                 fill(text, "node {} was then ", [*reader]);
                 text.state(state);
                 text.words(", so it drops ");
@@ -119,74 +81,58 @@ impl<A: Allocator> LinkHint<'_, A> {
                     " for its lesser pair: a dropped message is a receipt too, and is recorded.",
                 );
             }
-            LinkHint::PassedOn { writer } => fill(
+            LinkHint::PassedOn(writer) => fill(
                 text,
                 "node {} records the messages that it begins, and none that it passes on: record each sending.",
                 [*writer],
             ),
-            LinkHint::SentTwice { sending } => fill(
+            LinkHint::SentTwice(sending) => fill(
                 text,
                 "sendings {} and {} are the same message: it was recorded twice, or sent twice.",
                 [sending.saturating_sub(1), *sending],
             ),
-            LinkHint::NoReceipt { first, count: 1 } => fill(
+            LinkHint::NoReceipt(first, 1) => fill(
                 text,
                 "from receipt {} on each is the sending after its own: sending {} was lost, or its receipt is not \
                  recorded.",
                 [*first, *first],
             ),
-            LinkHint::NoReceipt { first, count } => {
-                fill(
-                    text,
-                    "from receipt {} on each is the sending {} after its own: ",
-                    [*first, *count],
-                );
-                fill(
-                    text,
-                    "sendings {} to {} were lost, or their receipts are not recorded.",
-                    [*first, last_of(*first, *count)],
-                );
-            }
-            LinkHint::SeveralLost { count } => fill(
+            LinkHint::NoReceipt(first, count) => fill(
+                text,
+                "from receipt {} on each is the sending {} after its own: sendings {} to {} were lost, or their \
+                 receipts are not recorded.",
+                [*first, *count, *first, last_of(*first, *count)],
+            ),
+            LinkHint::SeveralLost(count) => fill(
                 text,
                 "each receipt is a sending, in their order, and {} sendings between them have none: they were lost, or \
                  their receipts are not recorded.",
                 [*count as u64],
             ),
-            LinkHint::CameTwice { receipt, writer } => fill(
+            LinkHint::CameTwice(receipt, writer) => fill(
                 text,
                 "from receipt {} on each is the sending before its own: message {} came twice, or its receipt is \
                  recorded twice, or a sending of node {} is not recorded.",
                 [*receipt, receipt.saturating_sub(1), u32::from(*writer)],
             ),
-            LinkHint::SeveralTwice { count, writer } => fill(
+            LinkHint::SeveralTwice(count, writer) => fill(
                 text,
                 "{} receipts are of the load before them, and all others are the sendings, one by one: messages came \
                  twice, or sendings of node {} are not recorded.",
                 [*count as u64, u64::from(*writer)],
             ),
-            LinkHint::NoSending {
-                first,
-                count: 1,
-                writer,
-            } => fill(
+            LinkHint::NoSending(first, 1, writer) => fill(
                 text,
                 "without receipt {} all others are sendings, in their order: a sending of node {} is not recorded.",
                 [*first, u32::from(*writer)],
             ),
-            LinkHint::NoSending {
-                first,
-                count,
-                writer,
-            } => {
-                fill(
-                    text,
-                    "without receipts {} to {} all others are sendings, in their order: ",
-                    [*first, last_of(*first, *count)],
-                );
-                fill(text, "sendings of node {} are not recorded.", [*writer]);
-            }
-            LinkHint::Reordered { first, last } => {
+            LinkHint::NoSending(first, count, writer) => fill(
+                text,
+                "without receipts {} to {} all others are sendings, in their order: sendings of node {} are not \
+                 recorded.",
+                [*first, last_of(*first, *count), u32::from(*writer)],
+            ),
+            LinkHint::Reordered(first, last) => {
                 if last_of(*first, 2) == *last {
                     fill(
                         text,
@@ -202,7 +148,7 @@ impl<A: Allocator> LinkHint<'_, A> {
                 }
                 text.words(": the link changed their order, or the records were sorted.");
             }
-            LinkHint::NeverSent { writer, load, call } => {
+            LinkHint::NeverSent(writer, load, call) => {
                 fill(text, "by its log node {} never sent ", [*writer]);
                 text.load(*load);
                 if let Some(call) = call {

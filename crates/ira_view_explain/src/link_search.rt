@@ -8,6 +8,8 @@ use crate::link_hint::LinkHint;
 use crate::other_faults::OtherFaults;
 use crate::reordering::{are_reordered, place_of};
 use ira_event::OutOfMemory;
+use ira_node::StepFault;
+use ira_order::FaultyEvent;
 use ira_view_evidence::LinkCause;
 use std::alloc::Allocator;
 
@@ -41,7 +43,7 @@ impl<'a, 'l, A: Allocator + Clone> FaultyLink<'a, 'l, A> {
             return Ok(None);
         }
         Ok(if are_reordered(self.alloc, &sent[from..to], &received[from..to])? {
-            Some(LinkHint::Reordered { first, last })
+            Some(LinkHint::Reordered(first, last))
         } else {
             None
         })
@@ -65,7 +67,7 @@ impl<'a, 'l, A: Allocator + Clone> FaultyLink<'a, 'l, A> {
         if !self.is_explained_by(LinkCause::NoReceipt(1)) {
             return None;
         }
-        Some(LinkHint::SentTwice { sending: self.k })
+        Some(LinkHint::SentTwice(self.k))
     }
 
     /// Where sendings have no receipt, or receipts no sending, one after the other.
@@ -81,23 +83,17 @@ impl<'a, 'l, A: Allocator + Clone> FaultyLink<'a, 'l, A> {
             && self.is_explained_by(LinkCause::NoReceipt(lost))
         {
             let count = u32::try_from(lost).ok()?;
-            return Some(LinkHint::NoReceipt { first, count });
+            return Some(LinkHint::NoReceipt(first, count));
         }
         if self.is_explained_by(LinkCause::CameTwice) {
-            return Some(LinkHint::CameTwice {
-                receipt: first,
-                writer,
-            });
+            return Some(LinkHint::CameTwice(first, writer));
         }
         let added = place_of(received, *sent.first()?)?;
         if !self.is_explained_by(LinkCause::NoSending(added)) {
             return None;
         }
-        Some(LinkHint::NoSending {
-            first,
-            count: u32::try_from(added).ok()?,
-            writer,
-        })
+        let count = u32::try_from(added).ok()?;
+        Some(LinkHint::NoSending(first, count, writer))
     }
 
     /// What is missing on one side, where nothing is dropped or something.
@@ -106,9 +102,7 @@ impl<'a, 'l, A: Allocator + Clone> FaultyLink<'a, 'l, A> {
     {
         let run = self.missing_run();
         if let Some(
-            LinkHint::NoReceipt { count: 1, .. }
-            | LinkHint::NoSending { count: 1, .. }
-            | LinkHint::CameTwice { .. },
+            LinkHint::NoReceipt(_, 1) | LinkHint::NoSending(_, 1, _) | LinkHint::CameTwice(..),
         ) = &run
         {
             return run;
@@ -166,6 +160,17 @@ impl<'a, 'l, A: Allocator + Clone> FaultyLink<'a, 'l, A> {
         }
     }
 
+    /// Whether a node of the link went wrong before by itself: a missing sending leaves its node owing, a missing receipt
+    /// doesn't.
+    fn went_wrong_before(&self) -> bool {
+        match self.other {
+            Some(FaultyEvent { at, fault }) if self.came_before => {
+                (at.place == self.link) != (fault == StepFault::Owes)
+            }
+            _ => false,
+        }
+    }
+
     /// The causes that explain the ring or the link, where they are found.
     pub(crate) fn find_causes(&self) -> Result<Vec<LinkHint<'a, &'l A>, &'l A>, OutOfMemory>
         ensures { IfOk result (λ causes. All (IsSo self.now) causes.items) }
@@ -174,6 +179,9 @@ impl<'a, 'l, A: Allocator + Clone> FaultyLink<'a, 'l, A> {
         let others = OtherFaults::find(self.logs, self.link);
         if let Some(hint) = self.ring_cause(others)? {
             hints.push(LinkHint::Ring(hint))?;
+            return Ok(hints);
+        }
+        if self.went_wrong_before() {
             return Ok(hints);
         }
         let mut likely = self.whole_cause()?;

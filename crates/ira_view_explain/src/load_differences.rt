@@ -16,13 +16,11 @@ pub(crate) static DIFFERENCES: [LoadDifference; 7] = [
 
 /// How many receipts aren't their sendings, row by row.
 pub(crate) fn differing(sent: &[Load], received: &[Load]) -> usize {
-    let mut count = 0usize;
-    for (receipt, sending) in received.iter().zip(sent.iter()) {
-        if receipt != sending {
-            count = count.saturating_add(1);
-        }
-    }
-    count
+    received
+        .iter()
+        .zip(sent.iter())
+        .filter(|(receipt, sending)| **receipt != **sending)
+        .count()
 }
 
 /// The field in which alone a receipt differs that differs so, where it is one.

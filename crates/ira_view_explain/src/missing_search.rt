@@ -107,11 +107,7 @@ impl<'a, 'l, A: Allocator + Clone> FaultyLink<'a, 'l, A> {
         if self.sending.is_some() || state.owed != Some(self.receipt.load) {
             return None;
         }
-        Some(LinkHint::OwedAtEnd {
-            writer: self.link,
-            file: self.writer_file,
-            line: writer.len() + 5,
-        })
+        Some(LinkHint::OwedAtEnd(self.link, self.writer_file, writer.len() + 5))
     }
 
     /// Whether each sending without a receipt is one that the reader drops before its next receipt, of which it drops
@@ -152,11 +148,7 @@ impl<'a, 'l, A: Allocator + Clone> FaultyLink<'a, 'l, A> {
         if !is_dropped(state, load) || !self.are_dropped() {
             return None;
         }
-        Some(LinkHint::Dropped {
-            reader: self.reader,
-            state,
-            load,
-        })
+        Some(LinkHint::Dropped(self.reader, state, load))
     }
 
     /// Where the sender recorded what it begins alone, and several receipts are of what it passed on.
@@ -172,7 +164,7 @@ impl<'a, 'l, A: Allocator + Clone> FaultyLink<'a, 'l, A> {
         {
             return None;
         }
-        Some(LinkHint::PassedOn { writer: self.link })
+        Some(LinkHint::PassedOn(self.link))
     }
 
     /// Where several records are missing, here and there; that messages were lost only where none is dropped.
@@ -188,18 +180,12 @@ impl<'a, 'l, A: Allocator + Clone> FaultyLink<'a, 'l, A> {
             return if has_dropped {
                 None
             } else {
-                Some(LinkHint::SeveralLost { count })
+                Some(LinkHint::SeveralLost(count))
             };
         }
-        let before = match from.checked_sub(1) {
-            Some(at) => self.sides.sent.get(at).copied(),
-            None => None,
-        };
+        let before = self.sides.sent.get(from.saturating_sub(1)).copied();
         let count = repeats(before, sent, received)?;
-        Some(LinkHint::SeveralTwice {
-            count,
-            writer: self.link,
-        })
+        Some(LinkHint::SeveralTwice(count, self.link))
     }
 
     /// What is told where nothing explains the link: that what was received was never sent, where it wasn't.
@@ -213,10 +199,6 @@ impl<'a, 'l, A: Allocator + Clone> FaultyLink<'a, 'l, A> {
         let before = predecessor(self.logs.size().get(), self.link);
         let taken = LinkSides::of_link(self.alloc, self.logs, before)?;
         let call = missing_call(&taken.sent, &taken.received, load);
-        Ok(Some(LinkHint::NeverSent {
-            writer: self.link,
-            load,
-            call,
-        }))
+        Ok(Some(LinkHint::NeverSent(self.link, load, call)))
     }
 }

@@ -35,7 +35,7 @@ impl<'a, 'l, A: Allocator + Clone> RefusedFinding<'a, 'l, A> {
     {
         let faulty = refused.faulty_events();
         match refused.reason() {
-            Reason::Match(fault) => Ok(RefusedFinding::Link(FaultyLink::of_fault(ring, fault)?)),
+            Reason::Match(fault) => Ok(Self::Link(FaultyLink::of_fault(ring, fault, faulty)?)),
             Reason::Circle => match CircleEvidence::find(ring.alloc.clone()?, ring.logs)? {
                 Some(circle) => Ok(RefusedFinding::Circle(CircleFinding {
                     circle,

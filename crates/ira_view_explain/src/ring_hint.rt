@@ -15,43 +15,19 @@ pub(crate) enum RingHint<A: Allocator> {
     /// In this order of the places all links match.
     OtherOrder(Vec<u8, A>),
     /// The logs from one place to another fit one another, and so do the others, and each is that of a node.
-    TwoRuns {
-        first: u8,
-        last: u8,
-        others_first: u8,
-        others_last: u8,
-    },
+    TwoRuns(u8, u8, u8, u8),
     /// The logs of these places have the same records.
-    SameRecords {
-        place: u8,
-        other: u8,
-    },
-    /// What the node of this place recorded differs so from what both neighbours did, wherever it does.
-    OneRecorder {
-        place: u8,
-        before: u8,
-        after: u8,
-        how: LoadDifference,
-    },
-    /// The node of this place received one load of the node before it, passed it on as another, and recorded neither.
-    Hole {
-        place: u8,
-        load: Load,
-        before: u8,
-        passed: Load,
-    },
-    /// The log of this place fits neither neighbour, and with another log there all links would match.
-    AnotherRun {
-        place: u8,
-        before: u8,
-        after: u8,
-    },
+    SameRecords(u8, u8),
+    /// What the node of a place recorded differs so from what the one before it sent and the one after it received,
+    /// wherever it does.
+    OneRecorder(u8, u8, u8, LoadDifference),
+    /// The node of a place received one load of the node before it, passed it on as another, and recorded neither; or this
+    /// one went past it.
+    Hole(u8, Load, u8, Load),
+    /// The log of a place fits neither that before it nor that after it, and with another log there all links would match.
+    AnotherRun(u8, u8, u8),
     /// With one node more between the two the link would match; the ring would have so many nodes then.
-    NodeBetween {
-        writer: u8,
-        reader: u8,
-        nodes: u32,
-    },
+    NodeBetween(u8, u8, u32),
 }
 
 /// At most so many places of an order are shown.
@@ -75,31 +51,21 @@ impl<A: Allocator> RingHint<A> {
                 add_places(text, order, MOST_PLACES);
                 text.words(" all links match: places are to be in the order of the ring.");
             }
-            RingHint::TwoRuns { first, last, .. } if first == last => text.words(
+            RingHint::TwoRuns(first, last, ..) if first == last => text.words(
                 "neither log fits the other, and each is that of a node: perhaps they are of two runs.",
             ),
-            RingHint::TwoRuns {
-                first,
-                last,
-                others_first,
-                others_last,
-            } => fill(
+            RingHint::TwoRuns(first, last, others_first, others_last) => fill(
                 text,
                 "the logs of nodes {} to {} fit one another, and so do those of nodes {} to {}, but not these with \
                  those: perhaps they are of two runs.",
                 [*first, *last, *others_first, *others_last],
             ),
-            RingHint::SameRecords { place, other } => fill(
+            RingHint::SameRecords(place, other) => fill(
                 text,
                 "the logs of nodes {} and {} have the same records: perhaps one is a copy of the other.",
                 [*place, *other],
             ),
-            RingHint::OneRecorder {
-                place,
-                before,
-                after,
-                how,
-            } => {
+            RingHint::OneRecorder(place, before, after, how) => {
                 fill(
                     text,
                     "the log of node {} differs from what node {} sent and from what node {} received in nothing but ",
@@ -127,12 +93,16 @@ impl<A: Allocator> RingHint<A> {
                     }
                 }
             }
-            RingHint::Hole {
-                place,
-                load,
-                before,
-                passed,
-            } => {
+            RingHint::Hole(place, load, before, passed) if load == passed => {
+                fill(text, "node {} sent ", [*before]);
+                text.load(*load);
+                fill(
+                    text,
+                    ", which not node {} received but the next one: perhaps it was sent to the wrong node.",
+                    [*place],
+                );
+            }
+            RingHint::Hole(place, load, before, passed) => {
                 fill(text, "node {} records neither that it received ", [*place]);
                 text.load(*load);
                 fill(
@@ -143,21 +113,13 @@ impl<A: Allocator> RingHint<A> {
                 text.load(*passed);
                 text.words(": perhaps both records are missing.");
             }
-            RingHint::AnotherRun {
-                place,
-                before,
-                after,
-            } => fill(
+            RingHint::AnotherRun(place, before, after) => fill(
                 text,
                 "the log of node {} is that of a node, and fits neither what node {} sent nor what node {} received; \
                  the others fit one another: perhaps it is of another run.",
                 [*place, *before, *after],
             ),
-            RingHint::NodeBetween {
-                writer,
-                reader,
-                nodes,
-            } => fill(
+            RingHint::NodeBetween(writer, reader, nodes) => fill(
                 text,
                 "with one node more between node {} and node {} all links match: perhaps a log is missing there, of a \
                  ring of {} nodes.",

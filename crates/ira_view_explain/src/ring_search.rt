@@ -2,7 +2,7 @@ ghost use Rattle.std.specs.Prelude.{◌≡◌, ◌≢◌, ◌≤◌, ◌<◌, �
 ghost use Rattle.ira_order.specs.Ring.{log_of, next};
 ghost use Rattle.ira_view_evidence.specs.LinkCause.{BeginsWith};
 ghost use Rattle.ira_view_evidence.specs.LoadDifference.{DifferAlike};
-ghost use Rattle.ira_view_explain.specs.RingHint.{AreOtherFaults, CanStand, IsOdd, IsPassedOn, IsSo, IsUnreceived, IsUnsent};
+ghost use Rattle.ira_view_explain.specs.RingHint.{AreOtherFaults, CanStand, IsOdd, IsPassedOn, IsSkipped, IsSo, IsUnreceived, IsUnsent};
 ghost use Rattle.ira_view_explain.specs.RingHint.{RunsAt};
 ghost use Rattle.ira_view_explain.specs.declared.other_faults.OtherFaults.TheVariants as OtherFaults;
 
@@ -122,15 +122,15 @@ fn one_difference<A: Allocator>(
     None
 }
 
-/// What a node received and passed on, on these links, where its records of both are missing.
+/// What a node received and passed on, on these links, where its records of both are missing; or what went past it.
 fn hole<A: Allocator>(taken: &LinkSides<A>, given: &LinkSides<A>) -> Option<(Load, Load)>
-    ensures { IfSome result (λ both. IsPassedOn both.0 both.1
+    ensures { IfSome result (λ both. IsSkipped both.0 both.1
         × IsUnreceived both.0 taken.now.sent.items taken.now.received.items
         × IsUnsent both.1 given.now.sent.items given.now.received.items) }
 {
     let load = unreceived(&taken.sent, &taken.received)?;
     let passed = unsent(&given.sent, &given.received)?;
-    if is_passed_on(load, passed) {
+    if load == passed || is_passed_on(load, passed) {
         Some((load, passed))
     } else {
         None
@@ -176,34 +176,20 @@ impl<'a, 'l, A: Allocator + Clone> FaultyLink<'a, 'l, A> {
         let logs = self.logs;
         let after = successor(logs.size().get(), place);
         if let Some(other) = copy_of(logs, place) {
-            return Ok(Some(RingHint::SameRecords { place, other }));
+            return Ok(Some(RingHint::SameRecords(place, other)));
         }
         let taken = LinkSides::of_link(self.alloc, logs, before)?;
         let given = LinkSides::of_link(self.alloc, logs, place)?;
         if let Some(how) = one_difference(&taken, &given) {
-            return Ok(Some(RingHint::OneRecorder {
-                place,
-                before,
-                after,
-                how,
-            }));
+            return Ok(Some(RingHint::OneRecorder(place, before, after, how)));
         }
         if let Some((load, passed)) = hole(&taken, &given) {
-            return Ok(Some(RingHint::Hole {
-                place,
-                load,
-                before,
-                passed,
-            }));
+            return Ok(Some(RingHint::Hole(place, load, before, passed)));
         }
         if !self.is_another_run(before, place, after)? {
             return Ok(None);
         }
-        Ok(Some(RingHint::AnotherRun {
-            place,
-            before,
-            after,
-        }))
+        Ok(Some(RingHint::AnotherRun(place, before, after)))
     }
 
     /// Logs of two runs, which this link and another one part.
@@ -216,12 +202,8 @@ impl<'a, 'l, A: Allocator + Clone> FaultyLink<'a, 'l, A> {
         if (nodes > 2 && is_near) || !are_local_runs(self.logs) {
             return None;
         }
-        Some(RingHint::TwoRuns {
-            first: self.reader,
-            last: other,
-            others_first: successor(nodes, other),
-            others_last: self.link,
-        })
+        let others_first = successor(nodes, other);
+        Some(RingHint::TwoRuns(self.reader, other, others_first, self.link))
     }
 
     /// Whether a node may be missing on this link, where all others match.
@@ -240,11 +222,7 @@ impl<'a, 'l, A: Allocator + Clone> FaultyLink<'a, 'l, A> {
         {
             return Ok(None);
         }
-        Ok(Some(RingHint::NodeBetween {
-            writer: self.link,
-            reader: self.reader,
-            nodes,
-        }))
+        Ok(Some(RingHint::NodeBetween(self.link, self.reader, nodes)))
     }
 
     /// An order of the ring, or a numbering, in which all links match.

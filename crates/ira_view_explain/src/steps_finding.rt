@@ -4,9 +4,10 @@ ghost use Rattle.ira_order.specs.FaultyEvent.{AreFirstFaultyEvents, IsFirstFault
 ghost use Rattle.ira_view_explain.specs.Refused.{AreOtherStops, AreSteps, AreStepsTold, IsOtherStop};
 ghost use Rattle.ira_view_page.specs.Parts.{AreParts};
 
+use crate::hint::hints_of;
 use crate::ring_files::RingFiles;
 use crate::stop_hint::StopHint;
-use crate::stopped_log::{StoppedLog, hints_of};
+use crate::stopped_log::StoppedLog;
 use ira_event::{Event, NodeLog, OutOfMemory};
 use ira_order::{DirectDependencies, FaultyEvent, HappenedBefore};
 use ira_view_evidence::{Origin, origins};
@@ -95,15 +96,6 @@ impl<'a, 'l, A: Allocator + Clone> StepsFinding<'a, 'l, A> {
         let Some(found) = StoppedLog::find(ring.alloc, file, log)? else {
             unreachable!()
         };
-        if faulty.len() < 2 {
-            return Ok(StepsFinding {
-                named,
-                log: found,
-                others: Vec::new(ring.alloc.clone()?),
-                origins: Vec::new(ring.alloc.clone()?),
-                beginning: None,
-            });
-        }
         let ordered = DirectDependencies::new(ring.alloc.clone()?, ring.logs)?;
         let origins = origins(ring.alloc.clone()?, &ordered, faulty, named)?;
         Ok(StepsFinding {
@@ -155,17 +147,9 @@ impl<'a, 'l, A: Allocator + Clone> StepsFinding<'a, 'l, A> {
         }
     }
 
-    /// The log of the event to begin with.
-    fn first(&self) -> &StoppedLog<'a, 'l, A> {
-        match &self.beginning {
-            Some(stopped) => stopped,
-            None => &self.log,
-        }
-    }
-
     /// The usual cause of the event to begin with, where there is one.
     fn hint(&self, ring: &RingFiles<'_, '_, A>) -> Option<StopHint> {
-        let first = self.first();
+        let first = self.beginning.as_ref().unwrap_or(&self.log);
         match (first.hint, ring.before(first.log.place())) {
             (None, Some(before)) => first.stopped.missing_receipt(first.log, before),
             (hint, _) => hint,
@@ -177,7 +161,7 @@ impl<'a, 'l, A: Allocator + Clone> StepsFinding<'a, 'l, A> {
         &self,
         ring: &RingFiles<'_, '_, A>,
     ) -> Result<Vec<String<A>, A>, OutOfMemory> {
-        hints_of(ring.alloc, self.hint(ring))
+        hints_of(ring.alloc, self.hint(ring).as_ref())
     }
 
     /// Adds where to begin: those of the events that happened before the named one and before which none did.

@@ -1,3 +1,4 @@
+use crate::hint::Hint;
 use crate::numbered::fill;
 use ira_event::Load;
 use ira_view_page::Page;
@@ -43,10 +44,17 @@ pub(crate) enum StopHint {
     NoReceipts,
 }
 
-impl StopHint {
-    /// Adds its sentence.
-    pub(crate) fn print<A: Allocator>(self, text: &mut Page<A>) {
-        let words = match self {
+impl Hint for StopHint {
+    fn print<A: Allocator>(&self, text: &mut Page<A>) {
+        let number = match *self {
+            StopHint::ResetNotBack { nodes } | StopHint::IdRange { nodes } => u64::from(nodes),
+            StopHint::SentLater { line }
+            | StopHint::LeadsLater { line }
+            | StopHint::CalledLater { line } => line as u64,
+            StopHint::NotDrawn { id } => u64::from(id),
+            _ => 0,
+        };
+        let words = match *self {
             StopHint::BeginsByItself =>
                 "a node that begins by itself has `start initiator` on line 4.",
             StopHint::WokenByMessage => "a node that a message woke has `start passive` on line 4.",
@@ -65,21 +73,11 @@ impl StopHint {
             StopHint::OnlyBit => "only the bit differs.",
             StopHint::ResetBack =>
                 "its own reset is back: the node that yielded takes it off the ring.",
-            StopHint::ResetNotBack { nodes } => return fill(
-                text,
+            StopHint::ResetNotBack { .. } =>
                 "its reset is not back yet: the node draws after `recv reset {}`.",
-                [nodes],
-            ),
-            StopHint::IdRange { nodes } => return fill(
-                text,
-                "IDs are 1 to N, and N is {} (line 2).",
-                [nodes],
-            ),
-            StopHint::SentLater { line } => return fill(
-                text,
+            StopHint::IdRange { .. } => "IDs are 1 to N, and N is {} (line 2).",
+            StopHint::SentLater { .. } =>
                 "that sending stands on line {}: a message is passed on before the next one is taken.",
-                [line as u64],
-            ),
             StopHint::NeverSends =>
                 "that sending stands nowhere below: by its log the node never made it.",
             StopHint::ResetFirst { is_passed } => {
@@ -90,23 +88,14 @@ impl StopHint {
                     "; by its log the node never passed it on."
                 }
             }
-            StopHint::LeadsLater { line } => return fill(
-                text,
+            StopHint::LeadsLater { .. } =>
                 "the receipt by which it leads stands after the yield, on line {}: record it as soon as the message \
                  is taken.",
-                [line as u64],
-            ),
-            StopHint::CalledLater { line } => return fill(
-                text,
+            StopHint::CalledLater { .. } =>
                 "the receipt on line {} calls for this sending, and is recorded after it: record a message as soon as \
                  it is taken.",
-                [line as u64],
-            ),
-            StopHint::NotDrawn { id } => return fill(
-                text,
+            StopHint::NotDrawn { .. } =>
                 "a draw of {} may not be recorded, or stands after its sending.",
-                [id],
-            ),
             StopHint::SentTwice =>
                 "it is the sending before it once more: it was recorded twice, or sent twice.",
             StopHint::NeverReceived { call } => {
@@ -117,6 +106,6 @@ impl StopHint {
             StopHint::NoReceipts =>
                 "the log has no receipt at all: perhaps none is recorded. Record each message as it is taken.",
         };
-        text.show(words.as_bytes());
+        fill(text, words, [number]);
     }
 }

@@ -60,10 +60,10 @@ impl Stopped {
         ) else {
             unreachable!()
         };
-        let last = match (earlier.last(), event_of(log, position.saturating_sub(1))) {
-            (Some(before), Some(event)) => Some((*before, event)),
-            _ => None,
-        };
+        let last = earlier
+            .last()
+            .copied()
+            .zip(event_of(log, position.saturating_sub(1)));
         Stopped {
             nodes: log.nodes().get(),
             position,

@@ -136,23 +136,4 @@ impl<'a, 'l, A: Allocator + Clone> StoppedLog<'a, 'l, A> {
             page.paragraph(rule);
         }
     }
-
-    /// The usual cause, where there is one.
-    pub(crate) fn hints(&self) -> Result<Vec<String<A>, A>, OutOfMemory> {
-        hints_of(self.alloc, self.hint)
-    }
-}
-
-/// The sentence of a hint, where there is one.
-pub(crate) fn hints_of<A: Allocator + Clone>(
-    alloc: &A,
-    hint: Option<StopHint>,
-) -> Result<Vec<String<A>, A>, OutOfMemory> {
-    let mut hints = Vec::new(alloc.clone()?);
-    if let Some(hint) = hint {
-        let mut text = Page::new(alloc.clone()?);
-        hint.print(&mut text);
-        hints.push(text.finish()?.into_string())?;
-    }
-    Ok(hints)
 }

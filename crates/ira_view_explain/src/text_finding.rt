@@ -24,29 +24,16 @@ use std::alloc::Allocator;
 pub(crate) enum TextStop {
     TooLong,
     /// It ends in its head: so many whole lines, and a piece of one after these, if there is one.
-    ShortHead {
-        whole: usize,
-        piece: Option<PointedLine>,
-    },
-    Line {
-        line: PointedLine,
-        remark: LineRemark,
-    },
+    ShortHead(usize, Option<PointedLine>),
+    /// This line has what the remark says.
+    Line(PointedLine, LineRemark),
 }
 
 /// Why a text is no log's.
 #[derive(Clone, Copy)]
 pub(crate) struct TextFinding {
     pub(crate) stop: TextStop,
-    hint: Option<TextHint>,
-}
-
-/// The version of a text that begins with a head.
-fn version_of(file: &NamedText<'_>) -> u8 {
-    match open_log(file.text) {
-        Ok((head, _)) => head.version,
-        Err(_) => 1,
-    }
+    pub(crate) hint: Option<TextHint>,
 }
 
 /// What lines stand after the head of a log of this version.
@@ -82,10 +69,8 @@ fn count_hint(line: &[u8], records: usize) -> Option<TextHint>
     ensures { IfSome result (IsSo line.now records) }
 {
     let said = number_of(line, b"end ")? as usize;
-    if said == records + 4 {
-        Some(TextHint::HeadCounted)
-    } else if said > records && said <= MAX_RECORDS {
-        Some(TextHint::LinesLost(said - records))
+    if said > records && said <= MAX_RECORDS + 5 {
+        Some(TextHint::CountedMore(said - records))
     } else {
         None
     }
@@ -178,7 +163,7 @@ impl TextFinding {
             remark: remark.kind(),
         };
         TextFinding {
-            stop: TextStop::Line { line, remark },
+            stop: TextStop::Line(line, remark),
             hint,
         }
     }
@@ -214,9 +199,9 @@ impl TextFinding {
         }
         let end = line.len();
         TextFinding {
-            stop: TextStop::ShortHead {
+            stop: TextStop::ShortHead(
                 whole,
-                piece: if end == 0 {
+                if end == 0 {
                     None
                 } else {
                     Some(PointedLine {
@@ -226,7 +211,7 @@ impl TextFinding {
                         remark: Remark::Due,
                     })
                 },
-            },
+            ),
             hint: if stop == end {
                 Some(TextHint::Words(
                     "a node that was stopped before it had written its head. With all files of the ring \
@@ -244,25 +229,20 @@ impl TextFinding {
         ensures { IsAtLine number result.stop }
     {
         let line = file.line(number);
-        let version = version_of(file);
+        let version = open_log(file.text).map_or(1, |(head, _)| head.version);
         match LineStop::find(line, version) {
-            LineStop::Due { byte, due } => {
+            LineStop::Due(byte, due) => {
                 let slip = slip_of_line(line, byte, due, version);
                 let hint = slip.map(|slip| TextHint::Words(slip.hint()));
                 TextFinding::at(number, byte, byte, LineRemark::Line { due, version }, hint)
             }
-            LineStop::Range {
-                field,
-                from,
-                to,
-                is_zero,
-            } => {
-                let hint = match is_zero {
-                    true if line.starts_with(b"draw ") => Some(TextHint::Words(
+            LineStop::Range(field, from, to) => {
+                let hint = match line.get(from) {
+                    Some(b'0') if line.starts_with(b"draw ") => Some(TextHint::Words(
                         "IDs count from 1: draw 1 to N.",
                     )),
-                    true => Some(TextHint::FromZero(field)),
-                    false => None,
+                    Some(b'0') => Some(TextHint::FromZero(field)),
+                    _ => None,
                 };
                 TextFinding::at(number, from, to, LineRemark::Range(field), hint)
             }
@@ -324,13 +304,13 @@ impl TextFinding {
     pub(crate) fn print<A: Allocator>(&self, file: &NamedText<'_>, page: &mut Page<A>) {
         match self.stop {
             TextStop::TooLong => print_too_long(file, page),
-            TextStop::ShortHead { whole, piece } => {
+            TextStop::ShortHead(whole, piece) => {
                 print_short_head(file, whole, "four", page);
                 if let Some(piece) = piece {
                     print_pointed(file, &piece, LineRemark::LineFeed, page);
                 }
             }
-            TextStop::Line { line, remark } => {
+            TextStop::Line(line, remark) => {
                 print_pointed(file, &line, remark, page);
                 if let LineRemark::Line { version, .. } = remark {
                     page.blank();
@@ -353,28 +333,12 @@ impl TextFinding {
         ensures { IfOk result (IsStopTold file.now self.now.stop) }
     {
         match self.stop {
-            TextStop::Line { line, remark } => pointed_told(alloc, file, &line, remark),
-            TextStop::ShortHead {
-                piece: Some(piece),
-                ..
-            } => pointed_told(alloc, file, &piece, LineRemark::LineFeed),
-            TextStop::ShortHead { piece: None, .. } => whole_text(alloc, file),
-            TextStop::TooLong => whole_text(alloc, file),
+            TextStop::Line(line, remark) => pointed_told(alloc, file, &line, remark),
+            TextStop::ShortHead(_, Some(piece)) => {
+                pointed_told(alloc, file, &piece, LineRemark::LineFeed)
+            }
+            TextStop::ShortHead(_, None) | TextStop::TooLong => whole_text(alloc, file),
         }
-    }
-
-    /// The usual cause, where there is one.
-    pub(crate) fn hints<A: Allocator + Clone>(
-        &self,
-        alloc: &A,
-    ) -> Result<Vec<String<A>, A>, OutOfMemory> {
-        let mut hints = Vec::new(alloc.clone()?);
-        if let Some(hint) = self.hint {
-            let mut text = Page::new(alloc.clone()?);
-            hint.print(&mut text);
-            hints.push(text.finish()?.into_string())?;
-        }
-        Ok(hints)
     }
 }
 

@@ -1,4 +1,5 @@
 use crate::field::Field;
+use crate::hint::Hint;
 use ira_view_page::Page;
 use std::alloc::Allocator;
 
@@ -9,25 +10,22 @@ pub(crate) enum TextHint {
     Words(&'static str),
     /// A field of a message is 0.
     FromZero(Field),
-    /// The end line counts the lines of the head.
-    HeadCounted,
-    /// So many records are missing that the end line counts.
-    LinesLost(usize),
+    /// The end line counts so many more than there are: the lines of the head, or all, where they are as many as these.
+    CountedMore(usize),
 }
 
-impl TextHint {
-    /// Adds its sentence.
-    pub(crate) fn print<A: Allocator>(self, text: &mut Page<A>) {
-        match self {
+impl Hint for TextHint {
+    fn print<A: Allocator>(&self, text: &mut Page<A>) {
+        match *self {
             TextHint::Words(words) => text.show(words.as_bytes()),
             TextHint::FromZero(field) => {
                 text.words(field.noun());
                 text.words("s count from 1: add 1 to each, on both ends of the link.");
             }
-            TextHint::HeadCounted => {
+            TextHint::CountedMore(4 | 5) => {
                 text.words("the head is counted too: count the records alone.");
             }
-            TextHint::LinesLost(count) => {
+            TextHint::CountedMore(count) => {
                 text.number_of(count, "record");
                 text.words(" fewer than the writer counted: lines were lost.");
             }

@@ -1,11 +1,11 @@
 -- Lines that are put together before they are written.
 use Rattle.std.proofs.Common.{◌≡◌, ◌∙◌, ℕ, List, [], ◌∷◌, ◌++◌, Result, Ok, Err, ap, append-nil, append_assoc, refl, subst, sym}
-use Rattle.std.specs.Prelude.{OnOk, ⊤}
+use Rattle.std.specs.Prelude.{OnOk}
 use Rattle.json.specs.Json.{Json}
 use Rattle.ira_event.specs.Sink.{SinkState, Takes}
 use Rattle.ira_event.proofs.Writing.{Appends-nothing, Takes-append}
 use Rattle.ira_view_page.specs.declared.show_fault.ShowFault.{ShowFault}
-use Rattle.ira_view_json.specs.Line.{AreLinesOf, Gathers, IsLineOf, TookLines, WroteLines}
+use Rattle.ira_view_json.specs.Line.{Gathers, IsLineOf, TookLines, WroteLines}
 use Rattle.ira_view_json.proofs.LineTexts.{lines_append, no_lines, one_line}
 
 nothing_taken : (s : SinkState) → Takes [] s s

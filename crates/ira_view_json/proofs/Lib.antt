@@ -4,9 +4,7 @@ pub mod Entries
 pub mod EventsGathered
 pub mod ExplainedLists
 pub mod Gathering
-pub mod Leading
 pub mod LineTexts
 pub mod LinesWritten
-pub mod Numbers
 pub mod Putting
 pub mod Views

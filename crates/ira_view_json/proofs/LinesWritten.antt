@@ -1,5 +1,5 @@
 -- Lines that are written one after the other.
-use Rattle.std.proofs.Common.{◌≡◌, ◌∙◌, ℕ, List, [], ◌∷◌, ◌++◌, Option, Result, Ok, Err, inl, inr, refl}
+use Rattle.std.proofs.Common.{◌≡◌, ℕ, List, [], ◌∷◌, ◌++◌, Option, Result, Ok, Err, inl, inr, refl}
 use Rattle.std.proofs.Common.{subst}
 use Rattle.std.specs.Prelude.{OnOk}
 use Rattle.json.specs.Json.{Json}
@@ -87,15 +87,6 @@ module _ (logs : List Log) (named : Option (List ℕ)) (status : ℕ) (told : To
   answered (Err OutOfMemory) value s t says is = inl is
   answered (Err WrongColumns) value s t says is = absurd is
   answered (Err Write) value s t says is = (is.0, answer_text AreAny value is.0 tt says is.1, is.2)
-
-  -- a fault is handed on
-  pub ring_failed : {T : Type 0} (Are Are' : List Json → Type 0) (r : Result T ShowFault) (f : ShowFault)
-      (s t : SinkState)
-      → r ≡ Err f → WroteRing {T = T} logs named status told cut Are (Err f) s t
-      → WroteRing logs named status told cut Are' r s t
-  ring_failed Are Are' r OutOfMemory s t is wrote = rw is wrote
-  ring_failed Are Are' r WrongColumns s t is wrote = rw is wrote
-  ring_failed Are Are' r Write s t is wrote = rw is wrote
 
   -- the answer, and lines after it
   ring_text : (Are : List Json → Type 0) (text rest : List ℕ) (values : List Json) → Are values

@@ -19,10 +19,6 @@ pub ◌&◌ : {A : Type 0} {a b c : Object A} {f g : Members → Members} → Pu
       (s.0, s.1, r.2 ∙ ap g s.2);
 }
 
--- nothing
-pub nothing_put : {A : Type 0} (o : Object A) → Puts (λ m. m) o o
-nothing_put o = record { ends = λ now e. (now, e, refl) }
-
 -- the same in other words
 pub puts_as : {A : Type 0} {f g : Members → Members} {a b : Object A} → ((m : Members) → f m ≡ g m) → Puts f a b
     → Puts g a b

@@ -30,7 +30,7 @@ due_value next = object (with_node_due next no_members)
 -- members, and how an election stands: that it is over, or what comes next
 abbrev pub with_standing : Standing → Members → Members
 with_standing over members = with_over true members
-with_standing (goes_on next) members =
+with_standing (goes_on next contenders) members =
     put (codes "next") (array (items_of (map due_value next))) (with_over false members)
 
 -- the same, where that is known

@@ -7,7 +7,6 @@ use Rattle.ira_view_page.specs.Words.{event_text}
 use Rattle.ira_view_trail.specs.StateTrail.{TellsStates}
 use Rattle.ira_view_trail.specs.Trail.{IsTrail}
 use Rattle.ira_view_trail.specs.declared.state_step.StateStep.{StateStep}
-use Rattle.ira_view_trail.specs.declared.trail_step.TrailStep.{TrailStep}
 use Rattle.ira_view_json.specs.Members.{put, with_number, with_words}
 use Rattle.ira_view_json.specs.StateValue.{with_state}
 

@@ -1,13 +1,13 @@
 -- What is written of good logs: an answer, and lines after it.
 use Rattle.std.specs.Prelude.{◌≡◌, ◌⊎◌, ℕ, Bool, true, false, List, [], ◌∷◌, Option, Some, None, Result, Ok, Err, ⊤}
-use Rattle.std.specs.Prelude.{◌==◌, ◌<◌, Contains, codes, length, not}
+use Rattle.std.specs.Prelude.{◌==◌, codes, length, not}
 use Rattle.json.specs.Json.{Json, Members, no_members, null, object}
 use Rattle.ira_event.specs.Log.{Log}
 use Rattle.ira_event.specs.Sink.{SinkState, StopsIn, Takes}
-use Rattle.ira_order.specs.FaultyEvent.{Rises}
 use Rattle.ira_view_page.specs.declared.show_fault.ShowFault.{ShowFault}
 use Rattle.ira_view_page.specs.declared.show_fault.ShowFault.TheVariants.{OutOfMemory, WrongColumns, Write}
-use Rattle.ira_view_moment.specs.Moment.{AreLeaders, IsMoment, Moment, whole_cut}
+use Rattle.ira_view_moment.specs.Moment.{IsMoment, LeadsAt, Moment, whole_cut}
+use Rattle.ira_view_moment.specs.Those.{AreThosePlaces}
 use Rattle.ira_view_moment.specs.Told.{Told, at_cut, at_end, of_case, unmet}
 use Rattle.ira_view_moment.specs.Totals.{totals_of}
 use Rattle.ira_view_json.specs.ElectionValue.{with_over}
@@ -16,15 +16,14 @@ use Rattle.ira_view_json.specs.Line.{AreLinesOf}
 use Rattle.ira_view_json.specs.Members.{naturals, put, with_number, with_words}
 
 -- members, and what all events come to, at whose end these nodes lead, and whether the election is over then, which it is
--- where one does; the version is that of what members mean
+-- where one does
 abbrev pub with_totals : Moment → List ℕ → Members → Members
 with_totals end leaders members =
     with_over (not (length leaders == 0))
     (put (codes "leaders") (naturals leaders)
     (with_number (codes "received") (totals_of end).received
     (with_number (codes "sent") (totals_of end).sent
-    (with_number (codes "events") (totals_of end).events
-    (with_number (codes "nodes") (length end.nodes) (with_number (codes "version") 1 members))))))
+    (with_number (codes "events") (totals_of end).events members))))
 
 -- members, and the places that are to lead, where some are named
 abbrev pub with_named : Option (List ℕ) → Members → Members
@@ -43,23 +42,18 @@ with_moment (at_cut events) cut members = with_cut cut members
 with_moment (of_case number case) cut members = with_cut cut (with_number (codes "case") number members)
 with_moment (unmet number) cut members = with_cut cut members
 
--- the nodes at these places, each named once, in their order, are those that lead at the moment
-pub record AreLeadersInOrder (m : Moment) (leaders : List ℕ) : Type 0 where
-  pub are : AreLeaders m leaders
-  pub within : (i : ℕ) → Contains leaders i → i < length m.nodes
-  pub rise : Rises (λ i. i) leaders
-
 -- the value is an object that says yes of logs, with this status: what their events come to, who leads when they end,
--- who is to lead, and which moment is told
+-- who is to lead, and which moment is told; the version is that of what members mean
 pub record IsYes (logs : List Log) (named : Option (List ℕ)) (status : ℕ) (told : Told) (cut : Option (List ℕ))
     (value : Json) : Type 0 where
   pub end : Moment
   pub is_end : IsMoment logs (whole_cut logs) end
   pub leaders : List ℕ
-  pub are_leaders : AreLeadersInOrder end leaders
+  pub are_leaders : AreThosePlaces (LeadsAt end) leaders
   pub is : value
       ≡ object (with_words (codes "answer") (codes "yes") (with_number (codes "status") status (with_moment told cut
-      (with_named named (with_totals end leaders (with_words (codes "type") (codes "answer") no_members))))))
+      (with_named named (with_totals end leaders (with_number (codes "nodes") (length logs)
+      (with_number (codes "version") 1 (with_words (codes "type") (codes "answer") no_members))))))))
 
 -- what is told after it: all events, where these are asked for; of the ring at the moment nothing is said here; nothing
 -- where there is no moment

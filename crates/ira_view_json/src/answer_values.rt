@@ -1,7 +1,6 @@
-ghost use Rattle.std.specs.Prelude.{◌≡◌, IfOk, map, nat_eq, option_map};
+ghost use Rattle.std.specs.Prelude.{◌≡◌, IfOk, nat_eq, option_map};
 ghost use Rattle.std.specs.List.{find, list_any};
-ghost use Rattle.json.specs.Json.{array, string};
-ghost use Rattle.json.specs.Value.{items_of};
+ghost use Rattle.json.specs.Json.{string};
 ghost use Rattle.ira_view_json.specs.View.{view};
 ghost use Rattle.ira_audit.specs.Findings.{is_present};
 ghost use Rattle.ira_audit.specs.Report.{IsReportable};
@@ -10,9 +9,9 @@ ghost use Rattle.ira_view_json.specs.ExplainedFindings.{ask_value, explained_cas
 ghost use Rattle.ira_view_json.specs.Object.{Holds, Puts};
 
 use crate::object::Object;
+use crate::to_value::{ToValue, list_value};
 use crate::value::Value;
-use crate::values::numbers_value;
-use ira_audit::{Answer, write_report};
+use ira_audit::{Answer, reason_line};
 use ira_elim::{Decided, Found, StepCount};
 use ira_event::{MemorySink, OutOfMemory};
 use ira_view_page::{AskedCase, AskedNode, Explanation};
@@ -21,15 +20,16 @@ use std::str;
 
 /// The line of an answer, without its line feed.
 fn answer_words<A: Allocator + Clone>(alloc: &A, answer: &Answer) -> Result<Value<A>, OutOfMemory>
-    requires { IsReportable answer.now }
     ensures { IfOk result (λ value. view value ≡ string (answer_words answer.now)) }
 {
-    let mut line = MemorySink::new(alloc.clone()?);
-    let Ok(()) = write_report(answer, &mut line) else {
+    let Answer::No(reason) = answer else {
+        return Ok(Value::Words("yes"));
+    };
+    let mut words = MemorySink::new(alloc.clone()?);
+    let Ok(()) = reason_line(reason).write(&mut words) else {
         return Err(OutOfMemory);
     };
-    let line = line.bytes();
-    match str::from_utf8(&line[..line.len() - 1]) {
+    match str::from_utf8(words.bytes()) {
         Ok(words) => Value::copied(alloc, words),
         Err(_) => unreachable!(),
     }
@@ -141,7 +141,7 @@ fn present<A: Allocator + Clone>(alloc: A, case: u64, cut: &[u32]) -> Object<A>
 {
     let mut object = Object::of(alloc, "case");
     object.number("case", case);
-    object.value("cut", numbers_value(object.alloc(), cut));
+    object.value("cut", list_value(object.alloc(), cut));
     object.words("found", "present");
     object
 }
@@ -180,32 +180,16 @@ fn decided_for<A: Allocator + Clone, B: Allocator>(
     }
 }
 
-/// What a case asks of a node.
-fn ask_value<A: Allocator + Clone, B: Allocator>(
-    alloc: &A,
-    ask: &AskedNode<B>,
-) -> Result<Value<A>, OutOfMemory>
-    ensures { IfOk result (λ value. view value ≡ ask_value ask.now) }
-{
-    let mut object = Object::new(alloc.clone()?);
-    object.number("node", ask.node as u64);
-    object.string("clause", &ask.clause);
-    object.number("line", ask.line as u64);
-    object.finish()
-}
+impl<B: Allocator> ToValue for AskedNode<B> {
+    ghost json = { ask_value };
 
-/// What a case asks, in a list.
-fn asks_list<A: Allocator + Clone, B: Allocator>(
-    alloc: &A,
-    asks: &[AskedNode<B>],
-) -> Result<Value<A>, OutOfMemory>
-    ensures { IfOk result (λ value. view value ≡ array (items_of (map ask_value asks.now))) }
-{
-    let mut list = Vec::with_capacity(alloc.clone()?, asks.len())?;
-    for ask in asks {
-        list.push(ask_value(alloc, ask)?)?;
+    fn to_value<A: Allocator + Clone>(&self, alloc: &A) -> Result<Value<A>, OutOfMemory> {
+        let mut object = Object::new(alloc.clone()?);
+        object.number("node", self.node as u64);
+        object.string("clause", &self.clause);
+        object.number("line", self.line as u64);
+        object.finish()
     }
-    Ok(Value::Array(list))
 }
 
 /// The case of this number, where it is one of those that are explained.
@@ -221,7 +205,7 @@ impl<A: Allocator + Clone> Object<A> {
         ensures { Puts (with_asks (option_map (λ asked. asked.now) asked.entry)) self.old self.new }
     {
         if let Some(asked) = asked {
-            self.value("asks", asks_list(self.alloc(), &asked.asks));
+            self.value("asks", list_value(self.alloc(), &asked.asks));
         }
     }
 }

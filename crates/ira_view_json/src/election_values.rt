@@ -1,12 +1,10 @@
-ghost use Rattle.std.specs.Prelude.{◌≡◌, IfOk, map, option_map};
-ghost use Rattle.json.specs.Json.{array};
-ghost use Rattle.json.specs.Value.{items_of};
+ghost use Rattle.std.specs.Prelude.{option_map};
 ghost use Rattle.ira_view_election.specs.Election.{standing_of};
 ghost use Rattle.ira_view_json.specs.ElectionValue.{due_value, with_due, with_election, with_node_due, with_over, with_standing};
 ghost use Rattle.ira_view_json.specs.Object.{Puts};
-ghost use Rattle.ira_view_json.specs.View.{view};
 
 use crate::object::Object;
+use crate::to_value::{ToValue, list_value};
 use crate::value::Value;
 use ira_event::OutOfMemory;
 use ira_view_election::{Due, Election, NodeDue};
@@ -49,9 +47,9 @@ impl<A: Allocator + Clone> Object<A> {
     {
         match election {
             Election::Over => self.over(true),
-            Election::GoesOn(next) => {
+            Election::GoesOn { next, .. } => {
                 self.over(false);
-                self.value("next", dues_list(self.alloc(), next));
+                self.value("next", list_value(self.alloc(), next));
             }
         }
     }
@@ -67,22 +65,12 @@ impl<A: Allocator + Clone> Object<A> {
     }
 }
 
-/// A node and what comes next there, as an object.
-fn due_value<A: Allocator + Clone>(alloc: &A, next: NodeDue) -> Result<Value<A>, OutOfMemory>
-    ensures { IfOk result (λ value. view value ≡ due_value next) }
-{
-    let mut object = Object::new(alloc.clone()?);
-    object.node_due(next);
-    object.finish()
-}
+impl ToValue for NodeDue {
+    ghost json = { due_value };
 
-/// What comes next at nodes, in a list.
-fn dues_list<A: Allocator + Clone>(alloc: &A, next: &[NodeDue]) -> Result<Value<A>, OutOfMemory>
-    ensures { IfOk result (λ value. view value ≡ array (items_of (map due_value next.now))) }
-{
-    let mut list = Vec::with_capacity(alloc.clone()?, next.len())?;
-    for one in next {
-        list.push(due_value(alloc, *one)?)?;
+    fn to_value<A: Allocator + Clone>(&self, alloc: &A) -> Result<Value<A>, OutOfMemory> {
+        let mut object = Object::new(alloc.clone()?);
+        object.node_due(*self);
+        object.finish()
     }
-    Ok(Value::Array(list))
 }

@@ -1,6 +1,5 @@
-ghost use Rattle.std.specs.Prelude.{◌≡◌, IfOk, codes, map, string_bytes};
-ghost use Rattle.json.specs.Json.{array, string};
-ghost use Rattle.json.specs.Value.{items_of};
+ghost use Rattle.std.specs.Prelude.{◌≡◌, IfOk, codes, string_bytes};
+ghost use Rattle.json.specs.Json.{string};
 ghost use Rattle.ira_view_json.specs.View.{view};
 ghost use Rattle.ira_view_json.specs.EvidenceValue.{evidence_value, remark_key, role_of, with_carets, with_first, with_front, with_head, with_line, with_other, with_place, with_record, with_step, with_told};
 ghost use Rattle.ira_view_json.specs.Members.{with_words};
@@ -8,6 +7,7 @@ ghost use Rattle.ira_view_json.specs.Object.{Puts};
 ghost use Rattle.ira_view_page.specs.Words.{event_text};
 
 use crate::object::Object;
+use crate::to_value::ToValue;
 use crate::value::Value;
 use ira_cert_text::CertStep;
 use ira_event::{Event, OutOfMemory};
@@ -163,29 +163,13 @@ fn record_value<A: Allocator + Clone>(alloc: &A, event: Event) -> Result<Value<A
     Ok(Value::Text(record.finish()?.into_string()))
 }
 
-/// One thing that an answer rests on.
-fn evidence_value<A: Allocator + Clone, B: Allocator>(
-    alloc: &A,
-    evidence: &Evidence<B>,
-) -> Result<Value<A>, OutOfMemory>
-    ensures { IfOk result (λ value. view value ≡ evidence_value evidence.now) }
-{
-    let mut object = Object::new(alloc.clone()?);
-    object.words("role", role_of(evidence));
-    object.told(evidence);
-    object.finish()
-}
+impl<B: Allocator> ToValue for Evidence<B> {
+    ghost json = { evidence_value };
 
-/// All that an answer rests on, in a list.
-pub(crate) fn evidence_list<A: Allocator + Clone, B: Allocator>(
-    alloc: &A,
-    evidence: &[Evidence<B>],
-) -> Result<Value<A>, OutOfMemory>
-    ensures { IfOk result (λ value. view value ≡ array (items_of (map evidence_value evidence.now))) }
-{
-    let mut list = Vec::with_capacity(alloc.clone()?, evidence.len())?;
-    for item in evidence {
-        list.push(evidence_value(alloc, item)?)?;
+    fn to_value<A: Allocator + Clone>(&self, alloc: &A) -> Result<Value<A>, OutOfMemory> {
+        let mut object = Object::new(alloc.clone()?);
+        object.words("role", role_of(self));
+        object.told(self);
+        object.finish()
     }
-    Ok(Value::Array(list))
 }

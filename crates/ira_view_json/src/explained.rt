@@ -1,6 +1,4 @@
-ghost use Rattle.std.specs.Prelude.{◌≡◌, IfOk, map, option_map};
-ghost use Rattle.json.specs.Json.{array};
-ghost use Rattle.json.specs.Value.{items_of};
+ghost use Rattle.std.specs.Prelude.{◌≡◌, IfOk, option_map};
 ghost use Rattle.ira_view_json.specs.View.{view};
 ghost use Rattle.ira_audit.specs.Report.{IsReportable, IsReportableReason};
 ghost use Rattle.ira_view_election.specs.Election.{standing_of};
@@ -8,8 +6,8 @@ ghost use Rattle.ira_view_json.specs.ExplainedValue.{explained_value, hint_value
 ghost use Rattle.ira_view_json.specs.Object.{Puts};
 
 use crate::answer_values::answered;
-use crate::evidence_values::evidence_list;
 use crate::object::Object;
+use crate::to_value::{ToValue, list_value};
 use crate::value::Value;
 use crate::values::state_value;
 use ira_audit::{Answer, Reason};
@@ -161,13 +159,13 @@ impl<A: Allocator + Clone> Object<A> {
         if evidence.is_empty() {
             return;
         }
-        self.value("evidence", evidence_list(self.alloc(), evidence));
+        self.value("evidence", list_value(self.alloc(), evidence));
     }
 
     fn hints<B: Allocator>(&mut self, hints: &[String<B>])
         ensures { Puts (with_hints hints.now) self.old self.new }
     {
-        self.value("hints", hints_list(self.alloc(), hints));
+        self.value("hints", list_value(self.alloc(), hints));
     }
 
     /// Puts what an answer rests on.
@@ -181,18 +179,12 @@ impl<A: Allocator + Clone> Object<A> {
     }
 }
 
-/// Usual causes, in a list.
-fn hints_list<A: Allocator + Clone, B: Allocator>(
-    alloc: &A,
-    hints: &[String<B>],
-) -> Result<Value<A>, OutOfMemory>
-    ensures { IfOk result (λ value. view value ≡ array (items_of (map hint_value hints.now))) }
-{
-    let mut list = Vec::with_capacity(alloc.clone()?, hints.len())?;
-    for hint in hints {
-        list.push(Value::copied(alloc, hint.as_str())?)?;
+impl<B: Allocator> ToValue for String<B> {
+    ghost json = { hint_value };
+
+    fn to_value<A: Allocator + Clone>(&self, alloc: &A) -> Result<Value<A>, OutOfMemory> {
+        Value::copied(alloc, self.as_str())
     }
-    Ok(Value::Array(list))
 }
 
 /// An answer with its reason, what it rests on and its status, and how the election stands, where that is known.

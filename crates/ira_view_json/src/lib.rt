@@ -18,6 +18,7 @@ mod page_lines;
 mod picture_values;
 mod ring_lines;
 mod shown_answer;
+mod to_value;
 mod value;
 mod values;
 

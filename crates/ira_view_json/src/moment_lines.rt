@@ -1,14 +1,14 @@
 ghost use Rattle.std.specs.Prelude.{◌≡◌, ◌<◌, length};
-ghost use Rattle.ira_order.specs.Cut.{IsConsistentCut};
-ghost use Rattle.ira_order.specs.Matching.{Matches};
+ghost use Rattle.ira_order.specs.Cut.{IsCut};
 ghost use Rattle.ira_order.specs.Run.{AreLocalRuns};
 ghost use Rattle.ira_view_json.specs.Line.{WroteLines};
+ghost use Rattle.ira_view_moment.specs.Moment.{IsMoment};
 
 use crate::line_block::LineBlock;
 use crate::log_lines::start_of;
 use crate::object::Object;
+use crate::to_value::list_value;
 use crate::value::Value;
-use crate::values::numbers_value;
 use ira_event::{Event, Logs, NodeLog, OutOfMemory, Sink};
 use ira_view_election::{Election, NodeDue, election_at};
 use ira_view_moment::{Moment, NodeProgress, Round, Rounds};
@@ -22,9 +22,9 @@ fn round_value<A: Allocator + Clone>(alloc: &A, round: &Round<A>) -> Result<Valu
     if round.term != 1 {
         object.number("term", round.term as u64);
     }
-    object.number("drew", round.drew as u64);
+    object.number("drew", round.draws.len() as u64);
     object.number("greatest", round.greatest as u64);
-    object.value("drawn_by", numbers_value(alloc, &round.greatest_of));
+    object.value("drawn_by", list_value(alloc, &round.greatest_of));
     object.finish()
 }
 
@@ -175,7 +175,7 @@ fn write_next<A: Allocator + Clone, W: Sink>(
 ) -> Result<(), ShowFault>
     ensures { WroteLines result (W.state sink.old) (W.state sink.new) }
 {
-    let Election::GoesOn(next) = election else {
+    let Election::GoesOn { next, .. } = election else {
         return Ok(());
     };
     for one in next {
@@ -189,13 +189,14 @@ fn write_way<A: Allocator + Clone, W: Sink>(
     alloc: &A,
     logs: &Logs<A>,
     moment: &Moment<A>,
+    rounds: &Rounds<A>,
     lines: &mut LineBlock<A>,
     sink: &mut W,
 ) -> Result<(), ShowFault>
     requires { length moment.now.nodes ≡ length logs.now }
     ensures { WroteLines result (W.state sink.old) (W.state sink.new) }
 {
-    let election = election_at(alloc.clone()?, moment, logs.size())?;
+    let election = election_at(alloc.clone()?, logs, moment, rounds)?;
     write_links(alloc, logs, moment, lines, sink)?;
     write_next(alloc, &election, lines, sink)
 }
@@ -207,19 +208,19 @@ pub(crate) fn write_moment<A: Allocator + Clone, W: Sink>(
     logs: &Logs<A>,
     files: &[String<A>],
     cut: &[u32],
+    moment: &Moment<A>,
     sink: &mut W,
 ) -> Result<(), ShowFault>
-    requires matches { Matches logs.now }
     requires local { AreLocalRuns logs.now }
-    requires cut { IsConsistentCut logs.now cut.now }
+    requires cut { IsCut logs.now cut.now }
+    requires moment { IsMoment logs.now cut.now moment.now }
     requires files { length files.now ≡ length logs.now }
     ensures { WroteLines result (W.state sink.old) (W.state sink.new) }
 {
-    let moment = Moment::at_cut(alloc.clone()?, logs, cut)?;
-    let rounds = Rounds::of(alloc.clone()?, logs, &moment)?;
+    let rounds = Rounds::of(alloc.clone()?, logs, cut)?;
     let mut lines = LineBlock::new(alloc.clone()?);
     write_rounds(&alloc, rounds.as_slice(), &mut lines, sink)?;
-    write_nodes(&alloc, logs, files, &moment, &mut lines, sink)?;
-    write_way(&alloc, logs, &moment, &mut lines, sink)?;
+    write_nodes(&alloc, logs, files, moment, &mut lines, sink)?;
+    write_way(&alloc, logs, moment, &rounds, &mut lines, sink)?;
     lines.flush(sink)
 }

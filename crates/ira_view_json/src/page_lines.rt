@@ -1,6 +1,6 @@
 //! Lines of a page to move in: what it draws from, and what it says besides.
 
-ghost use Rattle.std.specs.Prelude.{◌≡◌, IfOk, codes, map, option_map, string_bytes};
+ghost use Rattle.std.specs.Prelude.{◌≡◌, IfOk, map, option_map, string_bytes};
 ghost use Rattle.ira_order.specs.Matching.{Matches};
 ghost use Rattle.ira_order.specs.Run.{AreLocalRuns};
 ghost use Rattle.ira_view_json.specs.Line.{IsLineOf};
@@ -18,7 +18,7 @@ use crate::picture_values::picture_value;
 use crate::shown_answer::ShownAnswer;
 use crate::value::Value;
 use ira_event::{Logs, OutOfMemory};
-use ira_view_moment::ChosenMoment;
+use ira_view_moment::{ChosenMoment, Moment};
 use ira_view_picture::Picture;
 use std::alloc::Allocator;
 
@@ -34,7 +34,8 @@ pub fn yes_line<A: Allocator + Clone>(
     ensures { IfOk result (λ text. IsYesLine logs.now (option_map (λ named. named.now) answer.entry.named)
         answer.entry.status (told_of chosen.now) (numbers_of chosen.now) (string_bytes text)) }
 {
-    let value = shown_value(&alloc, logs, chosen, answer)?;
+    let end = Moment::at_end(alloc.clone()?, logs)?;
+    let value = shown_value(&alloc, logs, &end, chosen, answer)?;
     line_of(alloc, &value)
 }
 

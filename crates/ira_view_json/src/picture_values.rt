@@ -4,13 +4,14 @@ ghost use Rattle.ira_pred.specs.QuestionText.{clause_text};
 ghost use Rattle.json.specs.Json.{array, string};
 ghost use Rattle.json.specs.Value.{items_of};
 ghost use Rattle.ira_view_json.specs.Object.{Puts};
-ghost use Rattle.ira_view_json.specs.PictureValue.{after_value, arrow_value, asked_value, band_value, kind_word, lane_value, mark_value, passage_word, picture_value, span_value, with_after, with_asked, with_column, with_fault, with_mark, with_parts, with_span, with_window};
+ghost use Rattle.ira_view_json.specs.PictureValue.{after_value, arrow_value, asked_value, band_value, kind_word, lane_value, mark_value, passage_word, picture_value, span_value, with_after, with_asked, with_column, with_fault, with_parts, with_span, with_window};
 ghost use Rattle.ira_view_json.specs.View.{view};
 ghost use Rattle.ira_view_moment.specs.ChosenMoment.{HasItsCase};
 ghost use Rattle.ira_view_moment.specs.Told.{told_of};
 ghost use Rattle.ira_view_picture.specs.Picture.{drawn_of};
 
 use crate::object::Object;
+use crate::to_value::{ToValue, list_value};
 use crate::value::Value;
 use crate::values::state_value;
 use ira_event::OutOfMemory;
@@ -58,15 +59,6 @@ impl<A: Allocator + Clone> Object<A> {
             After::NoStep => self.words("phase", "no step"),
             After::Unknown => self.words("phase", "no state"),
         }
-    }
-
-    fn mark(&mut self, mark: &Mark)
-        ensures { Puts (with_mark mark.now) self.old self.new }
-    {
-        self.number("event", mark.position as u64);
-        self.number("column", mark.column as u64);
-        self.event(mark.event);
-        self.after(mark.after);
     }
 
     /// Puts a column, where there is one.
@@ -123,8 +115,8 @@ impl<A: Allocator + Clone> Object<A> {
         ensures { Puts (with_parts (map drawn_of picture.now.lanes.items) picture.now.arrows.items)
             self.old self.new }
     {
-        self.value("lanes", lanes_list(self.alloc(), &picture.lanes));
-        self.value("arrows", arrows_list(self.alloc(), &picture.arrows));
+        self.value("lanes", list_value(self.alloc(), &picture.lanes));
+        self.value("arrows", list_value(self.alloc(), &picture.arrows));
     }
 }
 
@@ -137,111 +129,68 @@ fn after_value<A: Allocator + Clone>(alloc: &A, after: After) -> Result<Value<A>
     object.finish()
 }
 
-fn mark_value<A: Allocator + Clone>(alloc: &A, mark: &Mark) -> Result<Value<A>, OutOfMemory>
-    ensures { IfOk result (λ value. view value ≡ mark_value mark.now) }
-{
-    let mut object = Object::new(alloc.clone()?);
-    object.mark(mark);
-    object.finish()
-}
+impl ToValue for Mark {
+    ghost json = { mark_value };
 
-fn marks_list<A: Allocator + Clone>(alloc: &A, marks: &[Mark]) -> Result<Value<A>, OutOfMemory>
-    ensures { IfOk result (λ value. view value ≡ array (items_of (map mark_value marks.now))) }
-{
-    let mut list = Vec::with_capacity(alloc.clone()?, marks.len())?;
-    for mark in marks {
-        list.push(mark_value(alloc, mark)?)?;
+    fn to_value<A: Allocator + Clone>(&self, alloc: &A) -> Result<Value<A>, OutOfMemory> {
+        let mut object = Object::new(alloc.clone()?);
+        object.number("event", self.position as u64);
+        object.number("column", self.column as u64);
+        object.event(self.event);
+        object.after(self.after);
+        object.finish()
     }
-    Ok(Value::Array(list))
 }
 
-fn band_value<A: Allocator + Clone>(alloc: &A, band: Band) -> Result<Value<A>, OutOfMemory>
-    ensures { IfOk result (λ value. view value ≡ band_value band) }
-{
-    let mut object = Object::new(alloc.clone()?);
-    object.words("kind", kind_word(band.kind));
-    object.span(band.span);
-    object.finish()
-}
+impl ToValue for Band {
+    ghost json = { band_value };
 
-fn bands_list<A: Allocator + Clone>(alloc: &A, bands: &[Band]) -> Result<Value<A>, OutOfMemory>
-    ensures { IfOk result (λ value. view value ≡ array (items_of (map band_value bands.now))) }
-{
-    let mut list = Vec::with_capacity(alloc.clone()?, bands.len())?;
-    for band in bands {
-        list.push(band_value(alloc, *band)?)?;
+    fn to_value<A: Allocator + Clone>(&self, alloc: &A) -> Result<Value<A>, OutOfMemory> {
+        let mut object = Object::new(alloc.clone()?);
+        object.words("kind", kind_word(self.kind));
+        object.span(self.span);
+        object.finish()
     }
-    Ok(Value::Array(list))
 }
 
-fn span_value<A: Allocator + Clone>(alloc: &A, span: Span) -> Result<Value<A>, OutOfMemory>
-    ensures { IfOk result (λ value. view value ≡ span_value span) }
-{
-    let mut object = Object::new(alloc.clone()?);
-    object.span(span);
-    object.finish()
-}
+impl ToValue for Span {
+    ghost json = { span_value };
 
-fn spans_list<A: Allocator + Clone>(alloc: &A, spans: &[Span]) -> Result<Value<A>, OutOfMemory>
-    ensures { IfOk result (λ value. view value ≡ array (items_of (map span_value spans.now))) }
-{
-    let mut list = Vec::with_capacity(alloc.clone()?, spans.len())?;
-    for span in spans {
-        list.push(span_value(alloc, *span)?)?;
+    fn to_value<A: Allocator + Clone>(&self, alloc: &A) -> Result<Value<A>, OutOfMemory> {
+        let mut object = Object::new(alloc.clone()?);
+        object.span(*self);
+        object.finish()
     }
-    Ok(Value::Array(list))
 }
 
-fn lane_value<A: Allocator + Clone, B: Allocator>(
-    alloc: &A,
-    lane: &Lane<B>,
-) -> Result<Value<A>, OutOfMemory>
-    ensures { IfOk result (λ value. view value ≡ lane_value (drawn_of lane.now)) }
-{
-    let mut object = Object::new(alloc.clone()?);
-    object.number("events", lane.events as u64);
-    object.value("start", after_value(alloc, lane.start));
-    object.value("marks", marks_list(alloc, &lane.marks));
-    object.value("bands", bands_list(alloc, &lane.bands));
-    object.value("debts", spans_list(alloc, &lane.debts));
-    object.value("end", state_value(alloc, lane.end));
-    object.first_fault(lane.first_fault);
-    object.finish()
-}
+impl<B: Allocator> ToValue for Lane<B> {
+    ghost json = { λ lane. lane_value (drawn_of lane) };
 
-fn lanes_list<A: Allocator + Clone, B: Allocator>(
-    alloc: &A,
-    lanes: &[Lane<B>],
-) -> Result<Value<A>, OutOfMemory>
-    ensures { IfOk result (λ value. view value ≡ array (items_of (map lane_value (map drawn_of lanes.now)))) }
-{
-    let mut list = Vec::with_capacity(alloc.clone()?, lanes.len())?;
-    for lane in lanes {
-        list.push(lane_value(alloc, lane)?)?;
+    fn to_value<A: Allocator + Clone>(&self, alloc: &A) -> Result<Value<A>, OutOfMemory> {
+        let mut object = Object::new(alloc.clone()?);
+        object.number("events", self.events as u64);
+        object.value("start", after_value(alloc, self.start));
+        object.value("marks", list_value(alloc, &self.marks));
+        object.value("bands", list_value(alloc, &self.bands));
+        object.value("debts", list_value(alloc, &self.debts));
+        object.value("end", state_value(alloc, self.end));
+        object.first_fault(self.first_fault);
+        object.finish()
     }
-    Ok(Value::Array(list))
 }
 
-fn arrow_value<A: Allocator + Clone>(alloc: &A, arrow: Arrow) -> Result<Value<A>, OutOfMemory>
-    ensures { IfOk result (λ value. view value ≡ arrow_value arrow) }
-{
-    let mut object = Object::new(alloc.clone()?);
-    object.number("link", arrow.link as u64);
-    object.column("sent", arrow.sent);
-    object.column("received", arrow.received);
-    object.words("passage", passage_word(arrow.passage));
-    object.load(arrow.load);
-    object.finish()
-}
+impl ToValue for Arrow {
+    ghost json = { arrow_value };
 
-fn arrows_list<A: Allocator + Clone>(alloc: &A, arrows: &[Arrow]) -> Result<Value<A>, OutOfMemory>
-    ensures { IfOk result (λ value. view value ≡ array (items_of (map arrow_value arrows.now))) }
-{
-    let mut list = Vec::with_capacity(alloc.clone()?, arrows.len())?;
-    for arrow in arrows {
-        list.push(arrow_value(alloc, *arrow)?)?;
+    fn to_value<A: Allocator + Clone>(&self, alloc: &A) -> Result<Value<A>, OutOfMemory> {
+        let mut object = Object::new(alloc.clone()?);
+        object.number("link", self.link as u64);
+        object.column("sent", self.sent);
+        object.column("received", self.received);
+        object.words("passage", passage_word(self.passage));
+        object.load(self.load);
+        object.finish()
     }
-    Ok(Value::Array(list))
 }
 
 fn clause_value<A: Allocator + Clone, Q: Allocator>(

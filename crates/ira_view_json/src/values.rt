@@ -1,12 +1,12 @@
-ghost use Rattle.std.specs.Prelude.{◌≡◌, ℕ, IfOk, List};
-ghost use Rattle.std.specs.List.{AllZip};
+ghost use Rattle.std.specs.Prelude.{◌≡◌, IfOk};
 ghost use Rattle.json.specs.Json.{no_members, object};
-ghost use Rattle.ira_view_json.specs.Members.{naturals};
+ghost use Rattle.ira_view_json.specs.Members.{natural};
 ghost use Rattle.ira_view_json.specs.Object.{Puts};
 ghost use Rattle.ira_view_json.specs.StateValue.{with_load, with_owed, with_phase, with_state, with_term};
 ghost use Rattle.ira_view_json.specs.View.{view};
 
 use crate::object::Object;
+use crate::to_value::ToValue;
 use crate::value::Value;
 use ira_event::{Load, OutOfMemory};
 use ira_node::{NodeState, Phase};
@@ -98,16 +98,26 @@ pub(crate) fn state_value<A: Allocator + Clone>(
     object.finish()
 }
 
-/// A list of numbers.
-pub(crate) fn numbers_value<A: Allocator + Clone, T: Copy + Into<u64>>(
-    alloc: &A,
-    numbers: &[T],
-) -> Result<Value<A>, OutOfMemory>
-    ensures { IfOk result (λ value. (all : List ℕ) × AllZip T.converts numbers.now all × (view value ≡ naturals all)) }
-{
-    let mut list = Vec::with_capacity(alloc.clone()?, numbers.len())?;
-    for number in numbers {
-        list.push(Value::Number((*number).into()))?;
+impl ToValue for u64 {
+    ghost json = { natural };
+
+    fn to_value<A: Allocator + Clone>(&self, _alloc: &A) -> Result<Value<A>, OutOfMemory> {
+        Ok(Value::Number(*self))
     }
-    Ok(Value::Array(list))
+}
+
+impl ToValue for u32 {
+    ghost json = { natural };
+
+    fn to_value<A: Allocator + Clone>(&self, alloc: &A) -> Result<Value<A>, OutOfMemory> {
+        u64::from(*self).to_value(alloc)
+    }
+}
+
+impl ToValue for u8 {
+    ghost json = { natural };
+
+    fn to_value<A: Allocator + Clone>(&self, alloc: &A) -> Result<Value<A>, OutOfMemory> {
+        u64::from(*self).to_value(alloc)
+    }
 }

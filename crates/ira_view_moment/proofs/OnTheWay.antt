@@ -127,14 +127,6 @@ pub record Kept (es : List Event) (received k passed : ℕ) (loads : List Load) 
   pub long : passed ≡ received → received ≤ length (sent (take k es))
   pub held : loads ≡ drop received (sent (take k es))
 
-pub kept_first : (es : List Event) (received : ℕ) → Kept es received 0 0 []
-kept_first es received = record {
-  few = omega arith;
-  short = λ l. refl;
-  long = λ e. omega (arith, e);
-  held = sym (drop_all received [] (omega arith));
-}
-
 pub kept_over : (es : List Event) (received k passed : ℕ) (loads : List Load) (e : Event) → slice_get es k ≡ Some e
     → sending e ≡ None → Kept es received k passed loads → Kept es received (k + 1) passed loads
 kept_over es received k passed loads e at none h =

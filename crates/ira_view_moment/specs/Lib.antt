@@ -1,7 +1,9 @@
 pub mod ChosenMoment
 pub mod CutFault
+pub mod Drawing
 pub mod Moment
 pub mod NodeProgress
 pub mod Rounds
+pub mod Those
 pub mod Told
 pub mod Totals

@@ -1,53 +1,40 @@
-ghost use Rattle.std.specs.Prelude.{◌≡◌, ◌≤◌, length, map};
-ghost use Rattle.ira_view_moment.specs.Rounds.{drawn};
+ghost use Rattle.std.specs.Prelude.{◌≡◌, IfOk, map};
+ghost use Rattle.ira_order.specs.Cut.{IsCut};
+ghost use Rattle.ira_order.specs.Run.{AreLocalRuns};
+ghost use Rattle.ira_view_moment.specs.Drawing.{IsAdded, joined};
+ghost use Rattle.ira_view_moment.specs.Moment.{whole_cut};
+ghost use Rattle.ira_view_moment.specs.Rounds.{AreInOrder, AreRounds, drawn};
 
-use crate::moment::Moment;
-use ira_event::{Event, Load, Logs, NodeLog, OutOfMemory};
+use crate::cuts::cut_at_end;
+use ira_event::{Event, Logs, OutOfMemory};
+use ira_node::{NodeState, Phase};
 use std::alloc::Allocator;
 use std::marker::Model;
-
-/// A draw of a node.
-#[derive(Clone, Copy)]
-struct DrawnId {
-    term: u32,
-    round: u32,
-    id: u32,
-    place: u8,
-}
 
 /// What was drawn in a round of a term.
 #[derive(Drop)]
 pub struct Round<A: Allocator> {
     pub term: u32,
     pub number: u32,
-    /// How many nodes drew.
-    pub drew: usize,
+    /// The places that drew, each with its ID.
+    pub draws: Vec<(u8, u32), A>,
     pub greatest: u32,
     /// The places that drew the greatest ID.
     pub greatest_of: Vec<u8, A>,
 }
 
 impl<A: Allocator> Round<A> {
-    /// The round in which there was no draw yet but this one.
-    fn new(alloc: A, drawn: DrawnId) -> Result<Round<A>, OutOfMemory> {
-        Ok(Round {
-            term: drawn.term,
-            number: drawn.round,
-            drew: 1,
-            greatest: drawn.id,
-            greatest_of: vec![in alloc; drawn.place]?,
-        })
-    }
-
     /// Adds a draw.
-    fn add(&mut self, drawn: DrawnId) -> Result<(), OutOfMemory> {
-        self.drew = self.drew.saturating_add(1);
-        if drawn.id > self.greatest {
-            self.greatest = drawn.id;
+    fn add(&mut self, place: u8, id: u32) -> Result<(), OutOfMemory>
+        ensures { IfOk result (λ _. drawn self.new ≡ joined place id (drawn self.old)) }
+    {
+        self.draws.push((place, id))?;
+        if id > self.greatest {
+            self.greatest = id;
             self.greatest_of.clear();
         }
-        if drawn.id == self.greatest {
-            self.greatest_of.push(drawn.place)?;
+        if id == self.greatest {
+            self.greatest_of.push(place)?;
         }
         Ok(())
     }
@@ -77,76 +64,65 @@ impl<A: Allocator> Rounds<A> {
 }
 
 impl<A: Allocator + Clone> Rounds<A> {
-    /// The rounds up to a moment of the logs.
-    pub fn of<L: Allocator, M: Allocator>(
-        alloc: A,
-        logs: &Logs<L>,
-        moment: &Moment<M>,
-    ) -> Result<Rounds<A>, OutOfMemory>
-        requires { length moment.now.nodes ≡ length logs.now }
+    /// The rounds up to a cut of the logs.
+    pub fn of<L: Allocator>(alloc: A, logs: &Logs<L>, cut: &[u32]) -> Result<Rounds<A>, OutOfMemory>
+        requires local { AreLocalRuns logs.now }
+        requires cut { IsCut logs.now cut.now }
+        ensures { IfOk result (λ rounds. AreRounds logs.now cut.now rounds) }
     {
         let mut rounds = Rounds {
             rounds: Vec::new(alloc.clone()?),
         };
         for place in 0..logs.size().get() {
-            let events = moment.node(place).events;
-            rounds.add_draws(&alloc, place, logs.log(place), events)?;
+            let log = logs.log(place);
+            let mut state = NodeState::first(log.initiator());
+            for k in 0..cut[usize::from(place)] {
+                let event = log.event(k + 1);
+                let (term, phase) = (state.term, state.phase);
+                match state.advance(log.nodes(), &event) {
+                    Ok(()) => {}
+                    Err(_) => unreachable!(),
+                }
+                if let Event::Draw(id) = event {
+                    if let Phase::Choosing { round } = phase {
+                        rounds.add(&alloc, (term, round), place, id)?;
+                    }
+                }
+            }
         }
         Ok(rounds)
     }
 
-    /// Adds the draws among the first events of a node: a reset that it gets begins the next term, and a draw the next
-    /// round of its term.
-    fn add_draws<L: Allocator>(
-        &mut self,
-        alloc: &A,
-        place: u8,
-        log: &NodeLog<L>,
-        events: u32,
-    ) -> Result<(), OutOfMemory> {
-        let (mut term, mut round, mut at) = (1u32, 0u32, 0usize);
-        for event in log.events().take(events as usize) {
-            match event {
-                Event::Got(Load::Reset(_)) => (term, round) = (term.saturating_add(1), 0),
-                Event::Draw(id) => {
-                    round = round.saturating_add(1);
-                    let drawn = DrawnId {
-                        term,
-                        round,
-                        id,
-                        place,
-                    };
-                    at = self.add(alloc, at, drawn)?;
-                }
-                _ => {}
+    /// The rounds up to the end of the logs.
+    pub fn at_end(alloc: A, logs: &Logs<A>) -> Result<Rounds<A>, OutOfMemory>
+        requires { AreLocalRuns logs.now }
+        ensures { IfOk result (AreRounds logs.now (whole_cut logs.now)) }
+    {
+        let cut = cut_at_end(alloc.clone()?, logs)?;
+        Rounds::of(alloc, logs, &cut)
+    }
+
+    /// Adds a draw to its round, by term and number.
+    fn add(&mut self, alloc: &A, key: (u32, u32), place: u8, id: u32) -> Result<(), OutOfMemory>
+        requires { AreInOrder self.old }
+        ensures { IfOk result (λ _. IsAdded key.0 key.1 place id self.old self.new) }
+    {
+        match self
+            .rounds
+            .binary_search_by_key(&key, |round| (round.term, round.number))
+        {
+            Ok(at) => self.rounds[at].add(place, id)?,
+            Err(at) => {
+                let round = Round {
+                    term: key.0,
+                    number: key.1,
+                    draws: vec![in alloc.clone()?; (place, id)]?,
+                    greatest: id,
+                    greatest_of: vec![in alloc.clone()?; place]?,
+                };
+                self.rounds.insert(at, round)?;
             }
         }
         Ok(())
-    }
-
-    /// Adds a draw to its round, which is that of number `from` or one after it, and answers the round's number. A node
-    /// draws in one round after the other.
-    fn add(&mut self, alloc: &A, from: usize, drawn: DrawnId) -> Result<usize, OutOfMemory> {
-        let at = self.first_from(from, drawn);
-        match self.rounds.get_mut(at) {
-            Some(round) if (round.term, round.number) == (drawn.term, drawn.round) => {
-                round.add(drawn)?;
-            }
-            _ => self.rounds.insert(at, Round::new(alloc.clone()?, drawn)?)?,
-        }
-        Ok(at)
-    }
-
-    /// The first round from number `from` on that doesn't come before that of the draw, or the number of all.
-    fn first_from(&self, from: usize, drawn: DrawnId) -> usize
-        ensures { result ≤ length self.now }
-    {
-        for at in from..self.rounds.len() {
-            let round = &self.rounds[at];
-            if (round.term, round.number) >= (drawn.term, drawn.round) {
-                return at;
-            }
-        }
-        self.rounds.len()
     }
 }

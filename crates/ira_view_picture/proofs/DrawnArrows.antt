@@ -16,8 +16,8 @@ use Rattle.ira_order.proofs.Pushed.{pushed_cases, pushed_last, pushed_old}
 use Rattle.ira_view_picture.specs.declared.arrow.Arrow.{Arrow}
 use Rattle.ira_view_picture.specs.declared.window.Window.{Window}
 use Rattle.ira_view_picture.specs.Arrow.{AreArrows, AreArrowsBefore, IsArrow, IsBefore, IsBetween, IsDrawn, IsReceipt}
-use Rattle.ira_view_picture.specs.Arrow.{IsSending, column_of}
-use Rattle.ira_view_picture.proofs.OnePlace.{one_receipt, one_sending}
+use Rattle.ira_view_picture.specs.Arrow.{IsReceivedAt, IsSending, IsSentAt, column_of}
+use Rattle.ira_view_picture.proofs.OnePlace.{one_receipt, one_received_at, one_sending, one_sent_at}
 
 -- no part of a link's sending and receipt of a number is drawn
 abbrev pub IsUndrawn : List Log → List (List ℕ) → Window → ℕ → ℕ → Type 0
@@ -25,17 +25,24 @@ IsUndrawn logs table w link k =
     (s r : Option Exchange) → IsSending logs link k s → IsReceipt logs link k r
     → ¬ (IsBetween w (option_map (column_of table) s) (option_map (column_of table) r))
 
-pub arrow_undrawn : (logs : List Log) (table : List (List ℕ)) (w : Window) (link k : ℕ) (a : Arrow) → a.link ≡ link
-    → IsArrow logs table k a → ¬ (IsDrawn w a) → IsUndrawn logs table w link k
-arrow_undrawn logs table w link k a same is out s r is_s is_r between =
-    let s_here : IsSending logs a.link k s = subst (λ i. IsSending logs i k s) (sym same) is_s in
-    let r_here : IsReceipt logs a.link k r = subst (λ i. IsReceipt logs i k r) (sym same) is_r in
-    let from : option_map (column_of table) s ≡ a.sent =
-    one_sending logs table a.link k s is.sending s_here is.is_sending ∙ sym is.sent in
-    let to : option_map (column_of table) r ≡ a.received =
-    one_receipt logs table a.link k r is.receipt r_here is.is_receipt ∙ sym is.received in
-    out (subst (λ o. IsBetween w a.sent o) to (subst (λ o. IsBetween w o (option_map (column_of table) r)) from
-    between))
+-- it is drawn where the columns of its sending and receipt are
+module _ (logs : List Log) (table : List (List ℕ)) (w : Window) (link k : ℕ) (from to : Option ℕ)
+    (sent_at : IsSentAt logs table link k from) (received_at : IsReceivedAt logs table link k to) where
+  pub ends_undrawn : ¬ (IsBetween w from to) → IsUndrawn logs table w link k
+  ends_undrawn out s r is_s is_r between =
+      let from_is : option_map (column_of table) s ≡ from = sym (one_sent_at logs table link k from s sent_at is_s) in
+      let to_is : option_map (column_of table) r ≡ to = sym (one_received_at logs table link k to r received_at is_r) in
+      out (subst (λ o. IsBetween w from o) to_is (subst (λ o. IsBetween w o (option_map (column_of table) r)) from_is
+      between))
+
+  pub ends_drawn : (a : Arrow) → a.link ≡ link → IsArrow logs table k a → IsBetween w from to → IsDrawn w a
+  ends_drawn a same is between =
+      let s_here : IsSending logs link k is.sending = subst (λ i. IsSending logs i k is.sending) same is.is_sending in
+      let r_here : IsReceipt logs link k is.receipt = subst (λ i. IsReceipt logs i k is.receipt) same is.is_receipt in
+      let from_is : from ≡ a.sent = one_sent_at logs table link k from is.sending sent_at s_here ∙ sym is.sent in
+      let to_is : to ≡ a.received =
+      one_received_at logs table link k to is.receipt received_at r_here ∙ sym is.received in
+      subst (λ o. IsBetween w a.sent o) to_is (subst (λ o. IsBetween w o to) from_is between)
 
 -- where a link has neither, nothing is drawn
 pub nothing_undrawn : (logs : List Log) (table : List (List ℕ)) (w : Window) (link k : ℕ)

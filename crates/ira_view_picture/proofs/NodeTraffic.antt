@@ -16,15 +16,6 @@ use Rattle.ira_view_evidence.proofs.Counted.{nth_got, nth_sent}
 use Rattle.ira_view_picture.specs.declared.traffic.Receipt.{Receipt}
 use Rattle.ira_view_picture.specs.Traffic.{IsEffect, IsTraffic, Traffic}
 
-pub no_traffic : (log : Log) → IsTraffic log 0 (record { sendings = []; receipts = [] })
-no_traffic log = record {
-  sent_count = refl;
-  sent_each = λ k p at. absurd cc;
-  got_count = refl;
-  got_each = λ k r at. absurd cc;
-  effects = λ k r at. absurd cc;
-}
-
 module _ (log : Log) (n : ℕ) (t : Traffic) (is : IsTraffic log n t) where
   pub sent_more : (p : ℕ) (x : Load) → slice_get log.events n ≡ Some (Sent x) → p ≡ n + 1
       → IsTraffic log (n + 1) (record { sendings = t.sendings ++ p ∷ []; receipts = t.receipts })

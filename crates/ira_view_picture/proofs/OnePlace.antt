@@ -15,7 +15,7 @@ use Rattle.ira_order.proofs.Ranks.{rank_mono}
 use Rattle.ira_view_evidence.specs.declared.exchange.Exchange.{Exchange}
 use Rattle.ira_view_evidence.specs.Exchange.{IsNthGot, IsNthSent}
 use Rattle.ira_order.proofs.OrderPrefixes.{counted_more}
-use Rattle.ira_view_picture.specs.Arrow.{IsReceipt, IsSending, column_of}
+use Rattle.ira_view_picture.specs.Arrow.{IsReceipt, IsReceivedAt, IsSending, IsSentAt, column_of}
 
 -- an event that is counted has more up to it than an earlier one
 later_rank : (h : Event → Option Load) (es : List Event) (p q : ℕ) (e : Event) (x : Load) → p < q
@@ -58,6 +58,11 @@ module _ (logs : List Log) (table : List (List ℕ)) (link k : ℕ) where
       let position = one_sent (log_of logs link) k x.at.position y.at.position x.load y.load is.1 so.1 in
       cc
 
+  pub one_sent_at : (from : Option ℕ) (s : Option Exchange) → IsSentAt logs table link k from → IsSending logs link k s
+      → from ≡ option_map (column_of table) s
+  one_sent_at None s at is = one_sending None s at is
+  one_sent_at (Some c) s at is = ap Some at.2 ∙ one_sending (Some at.0) s at.1 is
+
   pub one_receipt : (r t : Option Exchange) → IsReceipt logs link k r → IsReceipt logs link k t
       → option_map (column_of table) r ≡ option_map (column_of table) t
   one_receipt None None is so = refl
@@ -68,3 +73,8 @@ module _ (logs : List Log) (table : List (List ℕ)) (link k : ℕ) where
       let position = one_got (log_of logs (next (length logs) link)) k x.at.position y.at.position x.load y.load is.1
       so.1 in
       cc
+
+  pub one_received_at : (to : Option ℕ) (r : Option Exchange) → IsReceivedAt logs table link k to
+      → IsReceipt logs link k r → to ≡ option_map (column_of table) r
+  one_received_at None r at is = one_receipt None r at is
+  one_received_at (Some c) r at is = ap Some at.2 ∙ one_receipt (Some at.0) r at.1 is

@@ -105,6 +105,18 @@ pub record AreArrows (logs : List Log) (table : List (List ℕ)) (w : Window) (a
 
 -- ---- Helpers, no definitions.
 
+-- the column of sending k of the link, or that there is none
+abbrev pub IsSentAt : List Log → List (List ℕ) → ℕ → ℕ → Option ℕ → Type 0
+IsSentAt logs table link k from =
+    MatchOption from (IsSending logs link k None) (λ c. (x : Exchange) × IsNthSending logs link k x
+    × (c ≡ column_of table x))
+
+-- the same of receipt k
+abbrev pub IsReceivedAt : List Log → List (List ℕ) → ℕ → ℕ → Option ℕ → Type 0
+IsReceivedAt logs table link k to =
+    MatchOption to (IsReceipt logs link k None) (λ c. (x : Exchange) × IsNthReceipt logs link k x
+    × (c ≡ column_of table x))
+
 -- the effect of a receipt
 pub record IsEffectOf (logs : List Log) (r : Exchange) (effect : Effect) : Type 0 where
   pub log : Log

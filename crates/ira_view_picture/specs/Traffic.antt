@@ -1,5 +1,5 @@
 -- What a node sends and receives, by the numbers of its events.
-use Rattle.std.specs.Prelude.{◌≡◌, ℕ, ◌+◌, ◌-◌, List, Option, Some, MatchOption, length, slice_get, take}
+use Rattle.std.specs.Prelude.{◌≡◌, ℕ, ◌+◌, ◌-◌, List, Some, length, slice_get, take}
 use Rattle.ira_event.specs.declared.load.Load.{Load}
 use Rattle.ira_event.specs.Log.{Log}
 use Rattle.ira_node.specs.declared.node_state.NodeState.{NodeState}
@@ -19,10 +19,6 @@ abbrev pub IsEffect : Log → ℕ → Effect → Type 0
 IsEffect log p Nothing = ChangesNothing log p
 IsEffect log p GoesOn = ¬ (ChangesNothing log p)
 IsEffect log p Leads = ¬ (ChangesNothing log p)
-
--- the state that the first n events of the log lead to, or that they lead to none
-abbrev pub IsStateAfter : Log → ℕ → Option NodeState → Type 0
-IsStateAfter log n state = MatchOption state ((s : NodeState) → ¬ (Reaches log n s)) (Reaches log n)
 
 -- the numbers of the events that send, and the receipts
 pub record Traffic : Type 0 where

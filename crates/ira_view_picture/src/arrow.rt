@@ -1,7 +1,3 @@
-ghost use Rattle.std.specs.Prelude.{◌↔◌, IsTrue};
-ghost use Rattle.ira_view_picture.specs.Arrow.{IsDrawn};
-
-use crate::window::Window;
 use ira_event::Load;
 
 /// What became of a message or a reset.
@@ -35,17 +31,4 @@ pub struct Arrow {
     /// What was sent, or where nothing was, what was received.
     pub load: Load,
     pub passage: Passage,
-}
-
-impl Arrow {
-    /// Whether a part of it is at these columns.
-    pub(crate) fn is_in(&self, window: Window) -> bool
-        ensures { IsTrue result ↔ IsDrawn window self.now }
-    {
-        match (self.sent, self.received) {
-            (Some(a), Some(b)) => a.min(b) <= window.last && window.first <= a.max(b),
-            (Some(a), None) | (None, Some(a)) => window.contains(a),
-            (None, None) => false,
-        }
-    }
 }

@@ -1,10 +1,12 @@
 ghost use Rattle.std.specs.Prelude.{◌≡◌, ◌+◌, ◌<◌, ◌^◌, Some, IfOk, length, slice_get};
 ghost use Rattle.ira_view_picture.specs.Rows.{IsRow};
 ghost use Rattle.ira_view_picture.specs.Lane.{AreMarks, IsKnown, IsReplayed, IsStart};
+ghost use Rattle.ira_view_picture.specs.Traffic.{IsTraffic};
 
 use crate::after::After;
 use crate::band::{Band, BandKind, Span};
 use crate::mark::Mark;
+use crate::traffic::Traffic;
 use crate::window::Window;
 use ira_event::{Event, NodeLog, OutOfMemory};
 use ira_node::NodeState;
@@ -91,29 +93,34 @@ impl<A: Allocator> Lane<A> {
         self.has(BandKind::Yielding) || self.end.term > 1
     }
 
-    /// What is drawn of the node of a log, whose events have these columns.
+    /// What is drawn of the node of a log, whose events have these columns, and what the node sends and receives.
     pub(crate) fn of<L: Allocator>(
         alloc: A,
         log: &NodeLog<L>,
         columns: &[u32],
         window: Window,
-    ) -> Result<Lane<A>, OutOfMemory>
+    ) -> Result<(Lane<A>, Traffic<A>), OutOfMemory>
     where
         A: Clone,
         requires { IsRow log.now.events columns.now }
-        ensures events { IfOk result (λ lane. lane.events ≡ length log.now.events) }
+        ensures events { IfOk result (λ node. node.0.events ≡ length log.now.events) }
         ensures marks { IfOk result
-            (λ lane. AreMarks log.now columns.now window (length log.now.events) lane.marks.items) }
+            (λ node. AreMarks log.now columns.now window (length log.now.events) node.0.marks.items) }
         ensures start { IfOk result
-            (λ lane. IsStart log.now columns.now window (length log.now.events) lane.start) }
-        ensures end { IfOk result (λ lane. IsReplayed log.now (length log.now.events) lane.end lane.first_fault) }
+            (λ node. IsStart log.now columns.now window (length log.now.events) node.0.start) }
+        ensures end { IfOk result
+            (λ node. IsReplayed log.now (length log.now.events) node.0.end node.0.first_fault) }
+        ensures traffic { IfOk result (λ node. IsTraffic log.now (length log.now.events) node.1) }
     {
         let mut replay = Replay::start(log);
         let mut start = After::State(replay.end);
         let mut marks = Vec::new(alloc.clone()?);
+        let mut traffic = Traffic::new(alloc.clone()?)?;
         for k in 0..log.len() {
             let column = columns.get(k).copied().unwrap_or(0);
+            let before = replay.end;
             let (event, after) = replay.advance(log);
+            traffic.add(replay.events, event, before, after)?;
             if window.contains(column) {
                 marks.push(Mark {
                     position: replay.events,
@@ -127,7 +134,7 @@ impl<A: Allocator> Lane<A> {
         }
         let bands = bands_of(alloc.clone()?, start, window.first, &marks)?;
         let debts = debts_of(alloc, start, window.first, &marks)?;
-        Ok(Lane {
+        let lane = Lane {
             start,
             marks,
             bands,
@@ -135,7 +142,8 @@ impl<A: Allocator> Lane<A> {
             events: replay.events,
             end: replay.end,
             first_fault: replay.first_fault,
-        })
+        };
+        Ok((lane, traffic))
     }
 }
 

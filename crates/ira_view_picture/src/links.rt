@@ -3,7 +3,7 @@ ghost use Rattle.std.specs.Option.{option_map};
 ghost use Rattle.ira_order.specs.Matching.{got, sent};
 ghost use Rattle.ira_order.specs.Ring.{log_of, next};
 ghost use Rattle.ira_view_picture.specs.Arrow.{AreArrows, AreArrowsBefore, IsArrow, IsEffectOf, IsPassage, IsReceipt};
-ghost use Rattle.ira_view_picture.specs.Arrow.{IsSending, column_of};
+ghost use Rattle.ira_view_picture.specs.Arrow.{IsReceivedAt, IsSending, IsSentAt, column_of};
 ghost use Rattle.ira_view_picture.specs.Traffic.{AreTraffic};
 
 use crate::arrow::{Arrow, Passage};
@@ -57,6 +57,27 @@ impl<L: Allocator, A: Allocator + Clone> Links<'_, L, A> {
         let load = load_at(self.logs, place, position)?;
         let at = EventAt { place, position };
         Some((Exchange { at, load }, receipt.effect))
+    }
+
+    /// The column of a link's sending of a number, counted from 0.
+    fn sent_at(&self, link: u8, k: usize) -> Option<u32>
+        requires link { link < length self.now.logs.now }
+        requires traffic { AreTraffic self.now.logs.now self.now.traffic.now }
+        ensures { IsSentAt self.now.logs.now self.now.columns.now.nodes link (k + 1) result }
+    {
+        let position = traffic_of(self.traffic, link).sending(k)?;
+        Some(self.columns.column(link, position))
+    }
+
+    /// The column of a link's receipt of a number, counted from 0.
+    fn received_at(&self, link: u8, k: usize) -> Option<u32>
+        requires link { link < length self.now.logs.now }
+        requires traffic { AreTraffic self.now.logs.now self.now.traffic.now }
+        ensures { IsReceivedAt self.now.logs.now self.now.columns.now.nodes link (k + 1) result }
+    {
+        let place = successor(self.logs.size().get(), link);
+        let receipt = traffic_of(self.traffic, place).receipt(k)?;
+        Some(self.columns.column(place, receipt.position))
     }
 
     /// The column of a sending or a receipt.
@@ -155,8 +176,8 @@ impl<L: Allocator, A: Allocator + Clone> Links<'_, L, A> {
             (AreArrowsBefore self.now.logs.now self.now.columns.now.nodes window (link + 1) 1 arrows.new.items) }
     {
         for k in 0..self.count(link) {
-            if let Some(arrow) = self.arrow(link, k) {
-                if arrow.is_in(window) {
+            if window.meets(self.sent_at(link, k), self.received_at(link, k)) {
+                if let Some(arrow) = self.arrow(link, k) {
                     arrows.push(arrow)?;
                 }
             }

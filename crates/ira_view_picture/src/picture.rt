@@ -60,45 +60,28 @@ fn number_of_marks<A: Allocator>(columns: &Columns<A>, window: Window) -> u32
     events
 }
 
-/// What each node sends and receives.
-fn traffic_of_ring<A: Allocator + Clone, L: Allocator>(
-    alloc: A,
-    logs: &Logs<L>,
-) -> Result<Vec<Traffic<A>, A>, OutOfMemory>
-    ensures { IfOk result (λ traffic. AreTraffic logs.now traffic.items) }
-{
-    let size = logs.size().get();
-    let mut traffic = Vec::with_capacity(alloc.clone()?, usize::from(size))?;
-    for place in 0..size {
-        traffic.push(Traffic::of(alloc.clone()?, logs.log(place))?)?;
-    }
-    Ok(traffic)
-}
-
-/// What is drawn of each node.
-fn lanes_of_ring<A: Allocator + Clone, L: Allocator>(
+/// What is drawn of each node, and what it sends and receives.
+fn nodes_of_ring<A: Allocator + Clone, L: Allocator>(
     alloc: A,
     logs: &Logs<L>,
     columns: &Columns<A>,
     window: Window,
-) -> Result<Vec<Lane<A>, A>, OutOfMemory>
+) -> Result<(Vec<Lane<A>, A>, Vec<Traffic<A>, A>), OutOfMemory>
     requires { AreRows logs.now columns.now.nodes }
-    ensures { IfOk result
-        (λ lanes. AreLanes logs.now columns.now.nodes window (map drawn_of lanes.items)) }
+    ensures lanes { IfOk result
+        (λ nodes. AreLanes logs.now columns.now.nodes window (map drawn_of nodes.0.items)) }
+    ensures traffic { IfOk result (λ nodes. AreTraffic logs.now nodes.1.items) }
 {
     let size = logs.size().get();
     let mut lanes = Vec::with_capacity(alloc.clone()?, usize::from(size))?;
+    let mut traffic = Vec::with_capacity(alloc.clone()?, usize::from(size))?;
     for place in 0..size {
         let log = logs.log(place);
-        let lane = Lane::of(
-            alloc.clone()?,
-            log,
-            &columns.nodes[usize::from(place)],
-            window,
-        )?;
+        let (lane, sent_and_got) = Lane::of(alloc.clone()?, log, columns.row(place), window)?;
         lanes.push(lane)?;
+        traffic.push(sent_and_got)?;
     }
-    Ok(lanes)
+    Ok((lanes, traffic))
 }
 
 /// The column of the line of a cut, where there is one.
@@ -136,7 +119,6 @@ impl<A: Allocator + Clone> Picture<A> {
         ensures shown { IfOk result (λ picture. IsShown logs.now (option_map (λ c. c.now) cut.entry)
             picture.window picture.last picture.line (map drawn_of picture.lanes.items) picture.arrows.items) }
     {
-        let traffic = traffic_of_ring(alloc.clone()?, logs)?;
         let columns = Columns::of(alloc.clone()?, logs, cut)?;
         let all = columns.last();
         let window = Window::clamped(from, to, all);
@@ -144,8 +126,8 @@ impl<A: Allocator + Clone> Picture<A> {
         if events > MAX_MARKS {
             return Err(DrawFault::TooManyEvents { events });
         }
-        let arrows = arrows_of_ring(alloc.clone()?, logs, &traffic, &columns, window)?;
-        let lanes = lanes_of_ring(alloc, logs, &columns, window)?;
+        let (lanes, traffic) = nodes_of_ring(alloc.clone()?, logs, &columns, window)?;
+        let arrows = arrows_of_ring(alloc, logs, &traffic, &columns, window)?;
         Ok(Picture {
             window,
             last: all,

@@ -1,11 +1,9 @@
-ghost use Rattle.std.specs.Prelude.{◌≡◌, ◌↔◌, ◌+◌, ◌<◌, ℕ, None, Some, IfOk, IsSome, MatchOption, OnOk, length};
-ghost use Rattle.std.specs.Prelude.{slice_get};
+ghost use Rattle.std.specs.Prelude.{◌≡◌, ◌↔◌, ◌+◌, ◌<◌, ℕ, Some, IfOk, OnOk, length, slice_get};
 ghost use Rattle.ira_event.specs.Log.{Log};
-ghost use Rattle.ira_node.specs.declared.node_state.NodeState.{NodeState};
-ghost use Rattle.ira_node.specs.NodeStep.{NodeStep};
-ghost use Rattle.ira_view_picture.specs.Traffic.{IsEffect, IsTraffic};
+ghost use Rattle.ira_view_picture.specs.Traffic.{ChangesNothing, IsTraffic};
 
-use ira_event::{Event, NodeLog, OutOfMemory};
+use crate::after::After;
+use ira_event::{Event, OutOfMemory};
 use ira_node::{NodeState, Phase};
 use std::alloc::Allocator;
 use std::marker::Model;
@@ -45,46 +43,19 @@ impl<A: Allocator> Model for Traffic<A> {
     ghost view = { λ t. record { sendings = t.sendings.items; receipts = t.receipts.items } };
 }
 
-/// What an event does that leads from one state to another.
-fn effect_between(before: NodeState, after: NodeState) -> Effect
-    ensures { (result ≡ Effect.Nothing) ↔ (after ≡ before) }
+/// What an event does, by the last state before it and by what is known after it.
+fn effect_of(before: NodeState, after: After) -> Effect
+    ensures { (result ≡ Effect.Nothing) ↔ (after ≡ After.State before) }
 {
-    if after == before {
-        return Effect::Nothing;
-    }
-    match after.phase {
-        Phase::Leader { .. } => Effect::Leads,
+    match after {
+        After::State(after) if after == before => Effect::Nothing,
+        After::State(after) if matches!(after.phase, Phase::Leader { .. }) => Effect::Leads,
         _ => Effect::GoesOn,
     }
 }
 
-/// What an event does, by the states before and after it, as far as there are such.
-fn effect_of(before: Option<NodeState>, after: Option<NodeState>) -> Effect
-    ensures { (result ≡ Effect.Nothing) ↔ (IsSome after × (after ≡ before)) }
-{
-    match after {
-        Some(after) => match before {
-            Some(before) => effect_between(before, after),
-            None => Effect::GoesOn,
-        },
-        None => Effect::GoesOn,
-    }
-}
-
-/// The state after an event, where it has a step.
-fn state_after<L: Allocator>(
-    log: &NodeLog<L>,
-    state: Option<NodeState>,
-    event: &Event,
-) -> Option<NodeState>
-    ensures { MatchOption state (result ≡ None)
-        (λ s. (t : NodeState) → (result ≡ Some t) ↔ NodeStep log.now.nodes s event.now t) }
-{
-    state?.step(log.nodes(), event).ok()
-}
-
 impl<A: Allocator> Traffic<A> {
-    fn new(alloc: A) -> Result<Traffic<A>, OutOfMemory>
+    pub(crate) fn new(alloc: A) -> Result<Traffic<A>, OutOfMemory>
     where
         A: Clone,
         ensures { IfOk result (λ t. (log : Log) → IsTraffic log 0 t) }
@@ -95,36 +66,28 @@ impl<A: Allocator> Traffic<A> {
         })
     }
 
-    /// Adds an event.
-    fn add(&mut self, position: u32, event: Event, effect: Effect) -> Result<(), OutOfMemory>
+    /// Adds an event, by the last state before it and by what is known after it.
+    pub(crate) fn add(
+        &mut self,
+        position: u32,
+        event: Event,
+        before: NodeState,
+        after: After,
+    ) -> Result<(), OutOfMemory>
         ensures { OnOk result
             ((log : Log) (n : ℕ) → slice_get log.events n ≡ Some event → position ≡ n + 1
-            → IsEffect log position effect → IsTraffic log n self.old → IsTraffic log (n + 1) self.new) }
+            → (ChangesNothing log position ↔ (after ≡ After.State before)) → IsTraffic log n self.old
+            → IsTraffic log (n + 1) self.new) }
     {
         match event {
             Event::Sent(_) => self.sendings.push(position)?,
-            Event::Got(_) => self.receipts.push(Receipt { position, effect })?,
+            Event::Got(_) => {
+                let effect = effect_of(before, after);
+                self.receipts.push(Receipt { position, effect })?;
+            }
             Event::Draw(_) | Event::Yield => {}
         }
         Ok(())
-    }
-
-    /// What the node of a log sends and receives.
-    pub(crate) fn of<L: Allocator>(alloc: A, log: &NodeLog<L>) -> Result<Traffic<A>, OutOfMemory>
-    where
-        A: Clone,
-        ensures { IfOk result (IsTraffic log.now (length log.now.events)) }
-    {
-        let mut traffic = Traffic::new(alloc)?;
-        let mut state = Some(NodeState::first(log.initiator()));
-        for done in 0..log.len() {
-            let position = done as u32 + 1;
-            let event = log.event(position);
-            let after = state_after(log, state, &event);
-            traffic.add(position, event, effect_of(state, after))?;
-            state = after;
-        }
-        Ok(traffic)
     }
 
     /// How many sendings there are.

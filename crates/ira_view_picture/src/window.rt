@@ -1,4 +1,5 @@
 ghost use Rattle.std.specs.Prelude.{◌≡◌, ◌↔◌, IsTrue, min};
+ghost use Rattle.ira_view_picture.specs.Arrow.{IsBetween};
 ghost use Rattle.ira_view_picture.specs.Window.{IsIn, asked_window};
 
 /// Which columns are drawn.
@@ -36,5 +37,16 @@ impl Window {
         ensures { IsTrue result ↔ IsIn self.now column }
     {
         self.first <= column && column <= self.last
+    }
+
+    /// Whether a part of what leads from one column to another is drawn, as far as there are both.
+    pub(crate) fn meets(&self, from: Option<u32>, to: Option<u32>) -> bool
+        ensures { IsTrue result ↔ IsBetween self.now from to }
+    {
+        match (from, to) {
+            (Some(a), Some(b)) => a.min(b) <= self.last && self.first <= a.max(b),
+            (Some(a), None) | (None, Some(a)) => self.contains(a),
+            (None, None) => false,
+        }
     }
 }

@@ -1,6 +1,6 @@
 -- The last receipt of its own pair in a node's log.
 use Rattle.std.proofs.Common.{◌≡◌, ◌↔◌, ◌∙◌, ◌⊎◌, ℕ, zero, suc, ◌+◌, ◌<◌, ◌≤◌, inl, inr, List, [], ◌∷◌, Option, Some, None, ap}
-use Rattle.std.proofs.Common.{add-one, arith, cond, length, refl, subst, sym, take, true}
+use Rattle.std.proofs.Common.{arith, cond, length, refl, subst, sym, take, true}
 use Rattle.std.specs.Prelude.{MatchOption, ◌==◌, ◌&&◌, slice_get}
 use Rattle.std.specs.List.{enumerate_from}
 use Rattle.std.specs.Option.{option_or}

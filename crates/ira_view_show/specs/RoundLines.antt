@@ -19,7 +19,7 @@ head_cells has_terms =
 abbrev pub round_cells : Bool → DrawnRound → List TableCell
 round_cells has_terms r =
     cell_if has_terms (right_cell (decimal r.term)) ++ right_cell (decimal r.number) ∷ []
-    ++ right_cell (decimal r.drew) ∷ []
+    ++ right_cell (decimal (length r.draws)) ∷ []
     ++ right_cell (decimal r.greatest) ∷ []
     ++ left_cell (places_text r.greatest_of) ∷ []
 

@@ -65,16 +65,16 @@ pub fn show_moment<A: Allocator + Clone>(
     match chosen {
         ChosenMoment::AtEnd => {
             let moment = Moment::at_end(alloc.clone()?, logs)?;
-            let rounds = Rounds::of(alloc.clone()?, logs, &moment)?;
-            let election = election_at(alloc.clone()?, &moment, logs.size())?;
+            let rounds = Rounds::at_end(alloc.clone()?, logs)?;
+            let election = election_at(alloc.clone()?, logs, &moment, &rounds)?;
             show_summary(&mut page, &moment);
             show_tables(&mut page, &alloc, logs, &moment, &rounds, &election, false);
             page.finish()
         }
         ChosenMoment::AtCut(cut) | ChosenMoment::OfCase { cut, .. } => {
             let moment = Moment::at_cut(alloc.clone()?, logs, cut)?;
-            let rounds = Rounds::of(alloc.clone()?, logs, &moment)?;
-            let election = election_at(alloc.clone()?, &moment, logs.size())?;
+            let rounds = Rounds::of(alloc.clone()?, logs, cut)?;
+            let election = election_at(alloc.clone()?, logs, &moment, &rounds)?;
             print_heading(&mut page, chosen);
             show_tables(&mut page, &alloc, logs, &moment, &rounds, &election, true);
             page.finish()

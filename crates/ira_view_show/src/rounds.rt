@@ -32,7 +32,7 @@ fn cells<T: Allocator + Copy, R: Allocator>(alloc: T, has_terms: bool, round: &R
     let mut row = Row::new(alloc);
     add_number_if(&mut row, alloc, has_terms, round.term as u64);
     add_number(&mut row, alloc, round.number as u64);
-    add_number(&mut row, alloc, round.drew as u64);
+    add_number(&mut row, alloc, round.draws.len() as u64);
     add_number(&mut row, alloc, round.greatest as u64);
     let mut nodes = Page::new(alloc);
     nodes.places(&round.greatest_of);

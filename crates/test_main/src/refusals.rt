@@ -124,8 +124,8 @@ const CASES: &[Case] = &[
         out: "{\"answer\":\"no: heads: place 0\",\"evidence\":[\
               {\"file\":\"1.log\",\"log\":0,\"nodes\":2,\"place\":1,\"role\":\"head\",\"version\":1},\
               {\"file\":\"0.log\",\"log\":1,\"nodes\":2,\"place\":0,\"role\":\"head\",\"version\":1}],\
-              \"fault\":\"place\",\"hints\":[\"these are all the logs, in another order. A shell sorts 10.log \
-              before 2.log; in order of place: ira logs --dir DIR, or ira logs $(ls FILES | sort -V)\"],\
+              \"fault\":\"place\",\"hints\":[\"logs 0 and 1 hold each other's places: their order, their names, or their \
+              `place` lines are exchanged.\"],\
               \"log\":0,\"reason\":\"heads\",\"status\":1,\"type\":\"answer\",\"version\":1}\n",
         err: "",
         written: &[],
@@ -137,7 +137,9 @@ const CASES: &[Case] = &[
               {\"event\":2,\"file\":\"exchanged/1.log\",\"line\":6,\"node\":1,\
               \"record\":\"send 1 1 1 clean\",\"role\":\"sent\"},\
               {\"event\":3,\"file\":\"exchanged/0.log\",\"line\":7,\"node\":0,\
-              \"record\":\"recv 1 2 2 clean\",\"role\":\"received\"}],\
+              \"record\":\"recv 1 2 2 clean\",\"role\":\"received\"},\
+              {\"event\":4,\"fault\":\"ended\",\"file\":\"exchanged/0.log\",\"happened_before\":false,\
+              \"line\":8,\"node\":0,\"record\":\"recv 1 1 1 clean\",\"role\":\"other\"}],\
               \"fault\":\"differs\",\"hints\":[\"receipts 1 and 2 are sendings 2 and 1: the link changed \
               their order, or the records were sorted.\"],\"link\":1,\"nodes\":2,\"reason\":\"link\",\
               \"receipt\":1,\"status\":1,\"type\":\"answer\",\"version\":1}\n",

@@ -1,32 +1,16 @@
-use Rattle.std.proofs.Common.{◌∙◌, ap, length, subst, sym}
+use Rattle.std.proofs.Common.{subst}
+use Rattle.std.proofs.lemmas.Result.{err_from_is_err_and}
 use Rattle.ira_event.specs.Sink.{StopsIn, Takes}
-use Rattle.ira_audit.proofs.Zipped.{zipped_length}
-use Rattle.ira_main.proofs.Folders.{all_tellable, both_told}
 use Rattle.ira_main.proofs.judge_each.tell_some.Goals as goal
 
-pub folder_texts-requires-clause-number : goal.folder_texts-requires-clause-number
-folder_texts-requires-clause-number g c = λ lives within.
-    ap length c.deref.ensures.value ∙ zipped_length _ _ _ c.in_ok-answers.ensures
-
-pub folder_texts-requires-clause-tellable : goal.folder_texts-requires-clause-tellable
-folder_texts-requires-clause-tellable g c = λ lives within.
-    rw c.deref.ensures.value (all_tellable _ c.args.expected.now c.args.shelf.now _ _ c.in_ok-answers.ensures)
-
-pub returns-in-Ok : goal.returns-in-Ok
-returns-in-Ok g c =
-    let took = subst (λ t. Takes t (g.W.Sink.state c.args.out.now) (g.W.Sink.state c.write_bytes.new.sink))
-    c.bytes.ensures c.in-Ok.ensures in (
-      c.in_ok-text.text.bytes,
-      both_told _ _ _ _ _ c.in_ok-answers.ensures (rw c.deref.ensures.value at c.in_ok-text.ensures),
-      took,
-    )
+pub returns-in_err-write_bytes : goal.returns-in_err-write_bytes
+returns-in_err-write_bytes g c =
+    let stops = subst (λ t. StopsIn t (g.W.Sink.state c.args.out.now) (g.W.Sink.state c.write_bytes.new.sink))
+    c.bytes.ensures c.in_err-write_bytes.ensures in
+    let p = err_from_is_err_and c.from_residual-in_err-write_bytes.result c.from_residual-in_err-write_bytes.ensures.1 in
+    rw (p.1, p.2) (c.in_ok-answers.answers.items, c.in_ok-answers.text.bytes, c.in_ok-answers.ensures, stops)
 
 pub returns : goal.returns
 returns g c =
-    let stops = subst (λ t. StopsIn t (g.W.Sink.state c.args.out.now) (g.W.Sink.state c.write_bytes.new.sink))
-    c.bytes.ensures c.in-Err.ensures in (
-      c.in_ok-answers.answers.items,
-      c.in_ok-text.text.bytes,
-      both_told _ _ _ _ _ c.in_ok-answers.ensures (rw c.deref.ensures.value at c.in_ok-text.ensures),
-      stops,
-    )
+    let took = subst (λ t. Takes t (g.W.Sink.state c.args.out.now) (g.W.Sink.state c.write_bytes.new.sink))
+    c.bytes.ensures c.in_ok-write_bytes.ensures in (c.in_ok-answers.text.bytes, c.in_ok-answers.ensures, took)

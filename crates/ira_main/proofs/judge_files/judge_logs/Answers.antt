@@ -1,15 +1,13 @@
 use Rattle.std.proofs.Common.{inl, inr}
-use Rattle.std.proofs.lemmas.Result.{MatchResult-weaker, err_from_is_err_and}
+use Rattle.ira_main.proofs.FilesRead.{gives_weaker}
 use Rattle.ira_main.proofs.judge_files.judge_logs.Goals as goal
 
-pub returns-in_err-read : goal.returns-in_err-read
-returns-in_err-read g c =
-    let p = err_from_is_err_and c.from_residual.result c.from_residual.ensures.1 in
-    rw (p.1, p.2) (inl c.in_err-read.ensures)
+pub returns-in-Err : goal.returns-in-Err
+returns-in-Err g c = inl (rw c.in-Err.is at c.in_ok-places.ensures)
 
 pub returns : goal.returns
 returns g c =
-    let expected = rw c.deref.ensures.value at c.expected_by.ensures in
-    MatchResult-weaker c.answer_files.result
-    (rw (c.asked-inputs.ensures, c.asked_of-command.ensures) at c.answer_files.ensures)
-    (λ reply is. (_, c.in_ok-read.ensures, _, expected, is)) (λ fault is. inr is)
+    let expected = rw c.deref.ensures.value at c.expected_by-expected.ensures in
+    gives_weaker c.answer_files.result
+    (λ reply is. (_, rw c.in-Ok.is at c.in_ok-places.ensures, _, expected, is)) (λ fault is. inr is)
+    (rw (c.asked.ensures, c.asked_of-command.ensures) at c.answer_files.ensures)

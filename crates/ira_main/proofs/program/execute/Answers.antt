@@ -14,9 +14,9 @@ use Rattle.ira_main.proofs.program.execute.Goals as goal
 
 -- memory may run out before anything is done
 out_of_memory : (A : Type 0) {S : Type 0} (reads : Reading S) (writes : Writing S) (words : List (List ℕ))
-    (input : Reads) (shelf : S) (out : SinkState) (outcome : Outcome)
+    (input : Reads) (shelf : S) (out : SinkState) (outcome : Outcome A)
     → outcome ≡ Err OutOfMemory → Serves A reads writes words input input shelf shelf out out outcome
-out_of_memory A reads writes [] input shelf out outcome is = without_words refl refl (inr (_, inr refl, refl, is))
+out_of_memory A reads writes [] input shelf out outcome is = without_words refl refl (inr (refl, inr is))
 out_of_memory A reads writes (w ∷ ws) input shelf out outcome is =
     with_words (λ none. cc) refl (refused fault.OutOfMemory tt refl refl is)
 

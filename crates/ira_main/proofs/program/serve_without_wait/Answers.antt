@@ -37,39 +37,39 @@ pub returns-in-Logs-clause-served : goal.returns-in-Logs-clause-served
 returns-in-Logs-clause-served g c =
     let made = subst (IsMadeOf (map (λ w. w.now) c.args.words.now)) c.in-Logs.is c.in-Ok.ensures.made in
     with_words (some_words _ _ _ made.line.first) refl (judged _ made refl
-    (rw c.of_json-form.ensures at c.answer_logs.ensures))
+    (rw c.of_json.ensures at c.answer_logs.ensures))
 
 pub returns-in-Each-clause-served : goal.returns-in-Each-clause-served
 returns-in-Each-clause-served g c =
     let made = subst (IsMadeOf (map (λ w. w.now) c.args.words.now)) c.in-Each.is c.in-Ok.ensures.made in
     with_words (some_words _ _ _ made.first) refl (each _ made refl
-    (rw (c.of_json-form-in-Each.ensures, c.deref.ensures.value) at c.judge_each.ensures))
+    (rw (c.of_json-in-Each.ensures, c.deref.ensures.value) at c.judge_each.ensures))
 
 pub returns-in-OneLog-answer-clause-served : goal.returns-in-OneLog-answer-clause-served
 returns-in-OneLog-answer-clause-served g c =
     let made = subst (IsMadeOf (map (λ w. w.now) c.args.words.now)) c.in-Explain.is c.in-Ok.ensures.made in
     explained _ made c.in-OneLog-answer.is refl (told _ _ _ _ _ _
-    (rw c.of_json-form-in-Explain.ensures at c.explain_input.ensures.judged) c.deliver-in-OneLog-answer.ensures)
+    (rw c.of_json-form.ensures at c.explain_input.ensures.judged) c.deliver-in-OneLog-answer.ensures)
 
 pub returns-in-Logs-answer-clause-served : goal.returns-in-Logs-answer-clause-served
 returns-in-Logs-answer-clause-served g c =
     let made = subst (IsMadeOf (map (λ w. w.now) c.args.words.now)) c.in-Explain.is c.in-Ok.ensures.made in
     with_words (some_words _ _ _ made.first) refl (explained_of_logs _ made refl
-    (rw c.in-Logs-answer.is (rw c.of_json-form-in-Explain.ensures at c.answer_logs-in-Logs-answer.ensures)))
+    (rw c.in-Logs-answer.is (rw c.of_json-form.ensures at c.answer_logs-in-Logs-answer.ensures)))
 
 pub returns-in-Findings-clause-served : goal.returns-in-Findings-clause-served
 returns-in-Findings-clause-served g c =
     let made = subst (IsMadeOf (map (λ w. w.now) c.args.words.now)) c.in-Explain.is c.in-Ok.ensures.made in
     with_words (some_words _ _ _ made.first) refl (explained_of_logs _ made refl
     (rw c.in-Findings.is (told _ _ _ _ _ _
-    (rw (c.asked-inputs.ensures, c.of_json-form-in-Explain.ensures) at c.answer_files.ensures) c.deliver-in-Findings.ensures)))
+    (rw (c.asked-inputs.ensures, c.of_json-form.ensures) at c.answer_files.ensures) c.deliver-in-Findings.ensures)))
 
 pub returns-in-Explain-clause-served : goal.returns-in-Explain-clause-served
 returns-in-Explain-clause-served g c =
     let made = subst (IsMadeOf (map (λ w. w.now) c.args.words.now)) c.in-Explain.is c.in-Ok.ensures.made in (
       _,
       made,
-      c.of_json-form-in-Explain.ensures,
+      c.of_json-form.ensures,
       c.in-Certificate.is,
       record { input_is = refl; shelf_is = refl; out_is = refl },
     )
@@ -95,7 +95,7 @@ pub returns-in-Decide-clause-served : goal.returns-in-Decide-clause-served
 returns-in-Decide-clause-served g c =
     let made = subst (IsMadeOf (map (λ w. w.now) c.args.words.now)) c.in-Decide.is c.in-Ok.ensures.made in
     with_words (some_words _ _ _ made.first) refl (decided _ made (told_and_kept _ _ _ _ _ _ _ _ _ _
-    (rw (c.asked-inputs-in-Decide.ensures, c.is_some.ensures, c.of_json.ensures) at c.answer_files-reply.ensures)
+    (rw (c.asked-inputs-in-Decide.ensures, c.is_some.ensures, c.of_json-in-Decide.ensures) at c.answer_files-reply.ensures)
     c.deliver_and_keep-in-Decide.ensures))
 
 pub returns-in-Pairs-clause-served : goal.returns-in-Pairs-clause-served

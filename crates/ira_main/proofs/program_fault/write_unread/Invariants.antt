@@ -1,7 +1,7 @@
 use Rattle.std.proofs.Common.{drop}
 use Rattle.std.specs.List.{flat_map}
 use Rattle.ira_event.proofs.Writing.{HasWritten}
-use Rattle.ira_main.specs.ProgramFault.{unread_text}
+use Rattle.ira_main.specs.FileFault.{unread_text}
 use Rattle.ira_main.proofs.program_fault.write_unread.Given as goal
 
 abbrev pub invariant-loop-name : goal.invariant-loop-name

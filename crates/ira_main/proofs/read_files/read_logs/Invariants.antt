@@ -9,6 +9,6 @@ invariant-loop-share g l = record {
   ends : (goal.iterator-loop-share g).is_finite l.share-iterator;
   left : into_iter_len l.share-iterator ≡ length (into_iter_items l.share-iterator);
   within : l.done ≤ length l.names;
-  gathering : IsGathering g.F.TextSource.reads (IsShare g.F.TextSource.reads l.shelf) l.size l.names
-      (drop l.done l.names) l.shelf l.audit (into_iter_items l.share-iterator);
+  gathering : IsGathering g.F.TextSource.reads l.keep (IsShare g.F.TextSource.reads l.shelf l.keep) l.size l.names
+      (drop l.done l.names) l.shelf l.logs (into_iter_items l.share-iterator);
 }

@@ -14,8 +14,8 @@ is_line rest e = cc
 -- there are lines exactly where it isn't over
 said : (standing : Standing) → (unfinished_text standing ≡ []) ↔ (standing ≡ over)
 said over = (λ e. refl, λ e. refl)
-said (goes_on []) = (λ e. absurd (is_line _ e), λ e. cc)
-said (goes_on (first ∷ rest)) = (λ e. absurd (is_line _ e), λ e. cc)
+said (goes_on [] contenders) = (λ e. absurd (is_line _ e), λ e. cc)
+said (goes_on (first ∷ rest) contenders) = (λ e. absurd (is_line _ e), λ e. cc)
 
 tells : {E : Type 0} (logs : List Log) (standing : Standing) (lines : Result (List ℕ) E)
     → StandsAt logs (whole_cut logs) standing → IfOk lines (λ text. text ≡ unfinished_text standing)

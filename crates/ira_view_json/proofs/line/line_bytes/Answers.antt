@@ -4,8 +4,8 @@ use Rattle.std.specs.Str.{IsUtf8}
 use Rattle.std.proofs.lemmas.Str.{IsUtf8-append}
 use Rattle.json.specs.Print.{print}
 use Rattle.json.specs.Tree.{json_tokens}
+use Rattle.ira_view_page.proofs.Printables.{printable_is_text}
 use Rattle.ira_view_json.specs.View.{view}
-use Rattle.ira_view_json.proofs.AnswerWords.{written}
 use Rattle.ira_view_json.proofs.LineTexts.{written_line}
 use Rattle.ira_view_json.proofs.line.line_bytes.Goals as goal
 
@@ -28,4 +28,4 @@ returns-clause-utf8 g c =
     c.in_ok-push.ensures.items
     ∙ ap (λ line. line ++ codes "\n") (c.into_inner-line.ensures.items ∙ ap (λ before. before ++ text) none) in
     subst IsUtf8 (sym line)
-    (IsUtf8-append text (codes "\n") c.into_inner-line.ensures.utf8 (written (codes "\n") refl))
+    (IsUtf8-append text (codes "\n") c.into_inner-line.ensures.utf8 (printable_is_text (codes "\n") refl))

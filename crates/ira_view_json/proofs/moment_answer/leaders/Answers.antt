@@ -1,27 +1,32 @@
 use Rattle.std.proofs.Common.{arith}
-use Rattle.ira_view_json.proofs.Leading.{leads_not, leads_too}
+use Rattle.std.proofs.lemmas.Option.{slice_get_within}
+use Rattle.ira_view_moment.specs.Moment.{LeadsAt}
+use Rattle.ira_view_moment.proofs.Those.{none_those, place_more, place_over, those_same}
 use Rattle.ira_view_json.proofs.moment_answer.leaders.Goals as goal
 use Rattle.ira_view_json.proofs.moment_answer.leaders.Goals.{then-leads+in_ok-push, else-leads}
 
+pub loop-place-init : goal.loop-place-init
+loop-place-init g c = rw c.new-leaders.ensures.items (none_those (λ i h. omega (arith, h.0)))
+
 pub loop-place-preserved : goal.loop-place-preserved
 loop-place-preserved g c =
-    let moment = c.args.moment.now in
-    let so_far = c.loop-place.invariant in
+    let P = LeadsAt c.args.moment.now in
+    let place = c.loop-place.place in
     elim c.if-leads.branch [
       | then-leads+in_ok-push w ↦
           rw (w.leaders-is, w.in_ok-push.ensures.items)
-          (leads_too moment c.loop-place.place c.loop-place.leaders.items so_far (c.leads.ensures.0 w.if-leads.true))
+          (place_more P place c.loop-place.leaders.items (c.leads.ensures.0 w.if-leads.true) c.loop-place.invariant)
       | else-leads w ↦
           rw w.leaders-is
-          (leads_not moment c.loop-place.place c.loop-place.leaders.items so_far
-          (λ leads. let is = c.leads.ensures.1 leads in cc))
+          (place_over P place c.loop-place.leaders.items (λ leads. let is = c.leads.ensures.1 leads in cc)
+          c.loop-place.invariant)
     ]
 
 pub returns : goal.returns
 returns g c =
-    let so_far = c.loop-place.invariant in
-    let size = c.size-place-end.ensures.value in record {
-      are = λ i lt. so_far.led i (omega (arith, lt, c.loop-place-test.false, size));
-      within = λ i h. let lt = so_far.within i h in omega (arith, lt, c.loop-place.far-place, size);
-      rise = so_far.rise;
-    }
+    let nodes = c.args.moment.now.nodes in
+    let size = c.size-place-end.ensures.value in
+    those_same (λ i. (
+      λ h. h.1,
+      λ h. (let less = slice_get_within nodes i h.progress h.at in omega (arith, less, c.loop-place-test.false, size), h),
+    )) c.loop-place.invariant

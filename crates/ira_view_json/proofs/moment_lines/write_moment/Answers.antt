@@ -3,9 +3,9 @@ use Rattle.ira_view_page.specs.declared.show_fault.ShowFault.TheVariants.{OutOfM
 use Rattle.ira_view_json.proofs.LinesWritten.{failed_then, more_taken, none_wrote, wrote_then}
 use Rattle.ira_view_json.proofs.moment_lines.write_moment.Goals as goal
 
-pub returns-in_err-clone-3 : goal.returns-in_err-clone-3
-returns-in_err-clone-3 g c =
-    let r = c.from_residual-in_err-clone-3.result in
+pub returns-in_err-clone-2 : goal.returns-in_err-clone-2
+returns-in_err-clone-2 g c =
+    let r = c.from_residual-in_err-clone-2.result in
     let is : r ≡ Err OutOfMemory = search rules in
     none_wrote r (g.W.Sink.state c.args.sink.now) is
 

@@ -1,4 +1,4 @@
-use Rattle.ira_view_json.proofs.Putting.{◌&◌, given, held}
+use Rattle.ira_view_json.proofs.Putting.{given, held}
 use Rattle.ira_view_json.proofs.picture_values.after_value.Goals as goal
 
 pub returns : goal.returns

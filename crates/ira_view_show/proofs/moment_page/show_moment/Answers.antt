@@ -1,4 +1,5 @@
 use Rattle.std.proofs.Common.{inl, inr, true}
+use Rattle.ira_view_moment.specs.Moment.{whole_cut}
 use Rattle.ira_view_page.proofs.Adding.{◌&◌, finished}
 use Rattle.ira_view_election.specs.Election.{standing_of}
 use Rattle.ira_view_show.proofs.Lines.{ok_then}
@@ -18,8 +19,11 @@ returns-in-AtEnd g c =
       moment = c.in_ok-moment-in-AtEnd.moment;
       of_cut = c.in_ok-moment-in-AtEnd.ensures;
       rounds = c.in_ok-rounds-in-AtEnd.rounds;
+      drawn = c.in_ok-rounds-in-AtEnd.ensures;
       standing = standing_of c.in_ok-election-in-AtEnd.election;
-      stands = c.in_ok-election-in-AtEnd.ensures;
+      stands = c.in_ok-election-in-AtEnd.ensures.stands;
+      names = c.in_ok-election-in-AtEnd.ensures.names (whole_cut c.args.logs.now) c.in_ok-moment-in-AtEnd.ensures
+          c.in_ok-rounds-in-AtEnd.ensures;
       lines = is;
     })
     text)
@@ -30,15 +34,19 @@ returns-in-AtCut g c =
     finished c.finish-in-AtCut.result c.new-page.ensures
     (c.blank.ensures & c.print_heading-in-AtCut.ensures & c.show_tables-in-AtCut.ensures) c.finish-in-AtCut.ensures
     in
+    let of_cut = rw c.deref.ensures.value at c.in_ok-moment-in-AtCut.ensures in
+    let drawn = rw c.deref-in-AtCut.ensures.value at c.in_ok-rounds-in-AtCut.ensures in
     let tells = ok_then _
     (TellsMoment c.args.logs.now c.in-AtCut.cut.items true (λ _. heading_text c.args.chosen.now))
     c.finish-in-AtCut.result
     (λ t is. record {
       moment = c.in_ok-moment-in-AtCut.moment;
-      of_cut = rw c.deref.ensures.value at c.in_ok-moment-in-AtCut.ensures;
+      of_cut = of_cut;
       rounds = c.in_ok-rounds-in-AtCut.rounds;
+      drawn = drawn;
       standing = standing_of c.in_ok-election-in-AtCut.election;
-      stands = c.in_ok-election-in-AtCut.ensures;
+      stands = c.in_ok-election-in-AtCut.ensures.stands;
+      names = c.in_ok-election-in-AtCut.ensures.names c.in-AtCut.cut.items of_cut drawn;
       lines = is;
     })
     text

@@ -7,5 +7,5 @@ use Rattle.ira_view_show.proofs.reasons.explain_leads.Given as goal
 
 abbrev pub invariant-loop-place : goal.invariant-loop-place
 invariant-loop-place g l = (text : List ℕ)
-    × AreParts (IsReasonAt l.files l.logs l.named) (take l.place (enumerate_from 0 l.moment.nodes)) text
+    × AreParts (IsReasonAt l.files l.logs l.rounds l.named) (take l.place (enumerate_from 0 l.moment.nodes)) text
     × Added (Some []) text l.reasons

@@ -1,10 +1,10 @@
-use Rattle.std.proofs.Common.{◌≡◌, ◌∙◌, ◌==◌, ◌≢◌, Bool, ap, false, length, refl, sym, true}
+use Rattle.std.proofs.Common.{◌≡◌, ◌∙◌, ◌==◌, ◌≢◌, Bool, [], ap, false, length, refl, sym, true}
 use mathlib.Core.Bool.{beq, not}
 use Rattle.std.specs.List.{list_any}
-use Rattle.ira_view_page.proofs.Adding.{added_as}
+use Rattle.ira_view_page.proofs.Adding.{◌&◌, added_as, nothing_added}
 use Rattle.ira_view_show.specs.Leaders.{is_leader}
 use Rattle.ira_view_show.specs.Reasons.{reason_text}
-use Rattle.ira_view_show.specs.Reasons.IsReasonAt.{differs}
+use Rattle.ira_view_show.specs.Reasons.IsReasonAt.{agrees, differs}
 use Rattle.ira_view_show.proofs.reasons.print_reason_at.Goals as goal
 
 differ : (a b : Bool) → not (beq a b) ≡ true → a ≢ b
@@ -12,6 +12,12 @@ differ true true is same = cc
 differ true false is same = cc
 differ false true is same = cc
 differ false false is same = cc
+
+alike : (a b : Bool) → not (beq a b) ≡ false → a ≡ b
+alike true true is = refl
+alike true false is = cc
+alike false true is = cc
+alike false false is = refl
 
 pub returns-then-leads-is_named : goal.returns-then-leads-is_named
 returns-then-leads-is_named g c =
@@ -29,12 +35,21 @@ returns-then-leads-is_named g c =
       node,
       c.node.ensures,
       _,
-      differs _ other c.log.ensures.value (record {
+      differs _ _ _ other c.log.ensures.value (record {
         receipt = receipt;
         receipt_is = c.last_own_receipt-receipt.ensures;
         file = file;
         file_is = c.file_of-file.ensures;
         text = refl;
-      }),
-      added_as text c.print_reason.ensures,
+      }) c.print_draw.ensures.1 refl,
+      added_as text c.print_reason.ensures & c.print_draw.ensures.2,
     )
+
+pub returns-else-leads-is_named : goal.returns-else-leads-is_named
+returns-else-leads-is_named g c = (
+  c.node.result,
+  c.node.ensures,
+  [],
+  agrees (sym c.is_leader-leads.ensures ∙ alike _ _ c.if-leads-is_named.false ∙ c.is_named.ensures) refl,
+  nothing_added _,
+)

@@ -1,34 +1,32 @@
-use Rattle.std.proofs.Common.{◌≡◌, ℕ, List, [], ◌∷◌, ◌++◌, arith, length, subst}
-use Rattle.std.proofs.lemmas.List.{length-map}
-use Rattle.std.proofs.lemmas.Result.{err_from_is_err_and}
-use Rattle.ira_audit.specs.RingAudit.{HasTaken}
-use Rattle.ira_main_files.specs.FileName.{file_name}
-use Rattle.ira_main.proofs.FilesRead.{named_at, of_next, taken_next}
-use Rattle.ira_main.specs.FilesRead.{names_of}
+use Rattle.std.proofs.Common.{◌∙◌, ◌∷◌, ◌++◌, ℕ, List, Some, [], ap, arith, rules, subst, sym}
+use Rattle.std.proofs.lemmas.Option.{slice_get-get_or}
+use Rattle.ira_main.proofs.FilesRead.{reads_next, reads_to}
+use Rattle.ira_main.specs.FilesRead.{HasFound}
 use Rattle.ira_main.proofs.read_files.FilesShare.read_on.Goals as goal
 
-pub returns-in_err-read_into-clause-fault : goal.returns-in_err-read_into-clause-fault
-returns-in_err-read_into-clause-fault g c =
-    let p = err_from_is_err_and c.from_residual.result c.from_residual.ensures.1 in
-    let names = names_of c.args.names.now in
+pub returns-then-not-branch-clause-all : goal.returns-then-not-branch-clause-all
+returns-then-not-branch-clause-all g c =
+    let names = c.args.names.now in
     let i = c.loop-self.self.read in
-    let at = named_at c.args.names.now i _ c.loop-self-test.true in
     let before = c.loop-self.invariant.1 in
-    rw (p.1, p.2) (of_next g.F.TextSource.reads names i _ c.args.shelf.now before.0 _ at before.2
-    c.in_err-read_into.ensures.fault)
+    let at = slice_get-get_or names i _ c.loop-self-test.true ∙ ap (λ (x : List ℕ). Some x) (sym c.index-names-self.is) in
+    let fails = rw (c.if-not-branch.true, c.as_str-name.ensures) at c.in_ok-read_into.ensures in
+    (before.0, _, reads_to g.F.TextSource.reads c.args.shelf.now names before.0 i _ at before.2 fails, search rules)
 
 pub loop-self-preserved : goal.loop-self-preserved
 loop-self-preserved g c =
-    let names = names_of c.args.names.now in
+    let names = c.args.names.now in
     let i = c.loop-self.self.read in
-    let at = named_at c.args.names.now i _ c.loop-self-test.true in
-    let old = c.loop-self.self.audit in
-    let new = c.take.new.self in
-    let takes = subst (λ text. (texts : List (List ℕ)) → HasTaken old texts → HasTaken new (texts ++ text ∷ []))
-    c.bytes.ensures c.in_ok-take.ensures.ok in
     let before = c.loop-self.invariant.1 in
-    let many : length names ≡ length c.args.names.now = length-map c.args.names.now file_name in (
-      omega (arith, many, c.loop-self-test.true),
-      taken_next g.F.TextSource.reads names i _ c.args.shelf.now old new c.read_into.new.text at before
-          c.in_ok-read_into.ensures.read takes,
+    let text = c.read_into.new.text in
+    let at = slice_get-get_or names i _ c.loop-self-test.true ∙ ap (λ (x : List ℕ). Some x) (sym c.index-names-self.is) in
+    let gives = rw (c.if-not-branch.false, c.as_str-name.ensures) at c.in_ok-read_into.ensures in
+    let takes = subst (λ (t : List ℕ). (texts : List (List ℕ)) → HasFound c.args.keep c.loop-self.self.logs texts
+    → HasFound c.args.keep c.take.new.self (texts ++ t ∷ [])) c.bytes.ensures c.in_ok-take.ensures in (
+      omega (arith, c.loop-self-test.true),
+      (
+        before.0 ++ text ∷ [],
+        takes before.0 before.1,
+        reads_next g.F.TextSource.reads c.args.shelf.now names before.0 i _ text at before.2 gives,
+      ),
     )

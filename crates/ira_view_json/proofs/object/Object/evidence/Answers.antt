@@ -6,4 +6,4 @@ use Rattle.ira_view_json.proofs.object.Object.evidence.Goals as goal
 pub returns : goal.returns
 returns g c =
     puts_as (λ m. some_evidence c.args.evidence.now m (sym c.is_empty.ensures ∙ c.if-is_empty.false))
-    (known _ c.evidence_list.ensures c.value.ensures)
+    (known _ c.list_value.ensures c.value.ensures)

@@ -1,5 +1,7 @@
+use Rattle.std.proofs.Common.{◌∙◌, ap, sym}
+use mathlib.Core.List.{map-map}
 use Rattle.std.specs.Prelude.{List, codes, map}
-use Rattle.json.specs.Json.{array}
+use Rattle.json.specs.Json.{Json, array}
 use Rattle.json.specs.Value.{items_of}
 use Rattle.ira_view_picture.specs.Picture.{drawn_of}
 use Rattle.ira_view_picture.specs.declared.arrow.Arrow.{Arrow}
@@ -11,8 +13,9 @@ use Rattle.ira_view_json.proofs.object.Object.parts.Goals as goal
 
 pub returns : goal.returns
 returns g c =
-    puts_by (λ (lanes : List (Lane g.row.B.Denot)). put (codes "lanes")
-    (array (items_of (map lane_value (map drawn_of lanes))))) c.deref.ensures.value
-    (known _ c.lanes_list.ensures c.value.ensures)
+    puts_by (λ (values : List Json). put (codes "lanes") (array (items_of values)))
+    (sym (map-map lane_value drawn_of c.deref.result.now)
+    ∙ ap (λ (lanes : List (Lane g.row.B.Denot)). map lane_value (map drawn_of lanes)) c.deref.ensures.value)
+    (known _ c.list_value.ensures c.value.ensures)
     & puts_by (λ (arrows : List Arrow). put (codes "arrows") (array (items_of (map arrow_value arrows))))
-    c.deref-2.ensures.value (known _ c.arrows_list.ensures c.value-2.ensures)
+    c.deref-2.ensures.value (known _ c.list_value-2.ensures c.value-2.ensures)

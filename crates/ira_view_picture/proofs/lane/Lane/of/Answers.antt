@@ -1,12 +1,24 @@
-use Rattle.std.proofs.Common.{◌≡◌, ◌+◌, ◌-◌, arith, length, rules}
-use Rattle.std.specs.Prelude.{slice_index}
+use Rattle.std.proofs.Common.{◌≡◌, ◌+◌, ◌-◌, arith, length, rules, subst, sym}
+use Rattle.std.specs.Prelude.{◌↔◌, slice_index}
+use Rattle.ira_view_picture.specs.declared.after.After.TheVariants.{State}
 use Rattle.ira_view_picture.specs.Lane.{IsMark}
 use Rattle.ira_view_picture.specs.Window.{IsIn}
-use Rattle.ira_view_picture.proofs.DrawnMarks.{marks_more, marks_over}
-use Rattle.ira_view_picture.proofs.Starts.{start_more, start_over}
+use Rattle.ira_view_picture.specs.Traffic.{ChangesNothing}
+use Rattle.ira_view_picture.proofs.DrawnMarks.{marks_more, marks_over, no_marks}
+use Rattle.ira_view_picture.proofs.Effects.{changes_nothing}
+use Rattle.ira_view_picture.proofs.Starts.{start_more, start_none, start_over}
 use Rattle.ira_view_picture.proofs.lane.Lane.of.Goals as goal
 use Rattle.ira_view_picture.proofs.lane.Lane.of.Goals.{then-contains+in_ok-push, else-contains+then-column-window}
 use Rattle.ira_view_picture.proofs.lane.Lane.of.Goals.{else-contains+else-column-window}
+
+pub loop-k-init : goal.loop-k-init
+loop-k-init g c = record {
+  events = c.start-replay.ensures.events;
+  replayed = c.start-replay.ensures.replayed;
+  marks = rw c.new-marks.ensures.items (no_marks c.args.log.now c.args.columns.now c.args.window);
+  start = start_none c.args.log.now c.args.columns.now c.args.window _ c.start-replay.ensures.known;
+  traffic = c.in_ok-traffic.ensures c.args.log.now;
+}
 
 pub loop-k-preserved : goal.loop-k-preserved
 loop-k-preserved g c =
@@ -63,6 +75,11 @@ loop-k-preserved g c =
             rw w.start-is (start_over log c.args.columns.now c.args.window k c.loop-k.start c.loop-k.invariant.start
             (omega (arith, column, w.if-column-window.false)))
       ];
+      traffic = c.in_ok-add.ensures log k (rw before at c.advance-event.ensures.event) here
+          (subst (λ p. ChangesNothing c.args.log.now p ↔ (c.advance-event.result.1 ≡ State c.loop-k.replay.end)) (sym here)
+          (changes_nothing log k c.loop-k.replay.end c.loop-k.replay.first_fault c.advance-event.result.1
+          c.loop-k.invariant.replayed (rw before at c.advance-event.ensures.known)))
+          c.loop-k.invariant.traffic;
     }
 
 pub returns-clause-marks : goal.returns-clause-marks
@@ -70,3 +87,9 @@ returns-clause-marks g c =
     let end : c.loop-k.k ≡ length c.args.log.now.events =
     omega (arith, c.loop-k.auto.k-end, c.loop-k-test.false, c.len-k-end.ensures.value) in
     rw end at c.loop-k.invariant.marks
+
+pub returns-clause-traffic : goal.returns-clause-traffic
+returns-clause-traffic g c =
+    let end : c.loop-k.k ≡ length c.args.log.now.events =
+    omega (arith, c.loop-k.auto.k-end, c.loop-k-test.false, c.len-k-end.ensures.value) in
+    rw end at c.loop-k.invariant.traffic

@@ -1,7 +1,0 @@
-use Rattle.ira_view_json.proofs.Putting.{◌&◌, given, held}
-use Rattle.ira_view_json.proofs.answer_values.ask_value.Goals as goal
-
-pub returns : goal.returns
-returns g c =
-    given c.finish.result (held c.new-object.ensures (c.number.ensures & c.string.ensures & c.number-2.ensures))
-    c.finish.ensures

@@ -1,5 +1,0 @@
-use Rattle.ira_view_json.proofs.Putting.{given, held}
-use Rattle.ira_view_json.proofs.election_values.due_value.Goals as goal
-
-pub returns : goal.returns
-returns g c = given c.finish.result (held c.new-object.ensures c.node_due.ensures) c.finish.ensures

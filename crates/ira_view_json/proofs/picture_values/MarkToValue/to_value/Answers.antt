@@ -1,0 +1,8 @@
+use Rattle.ira_view_json.proofs.Putting.{◌&◌, given, held}
+use Rattle.ira_view_json.proofs.picture_values.MarkToValue.to_value.Goals as goal
+
+pub returns : goal.returns
+returns g c =
+    given c.finish.result
+    (held c.new-object.ensures (c.number.ensures & c.number-2.ensures & c.event.ensures & c.after.ensures))
+    c.finish.ensures
