@@ -36,6 +36,8 @@ def sentences():
         for other in PARTS:
             yield f'any {any_of}, other {other}'
             yield f'any {any_of}, each other {other}, all leader'
+    for on in ('1 leader', '0 (not leader)', '3 leader', '9' * 5000 + ' leader', '01 leader', '1', ' leader', '1 leader, all true'):
+        yield f'node {on}'
     yield from ('', 'any', 'leader', 'any leader,other leader', 'all leader, any leader', 'any leader, all active, other leader',
                 'any ' + '(' * 31 + 'leader' + ' and active)' * 31 + ', all leader', 'any leader, other leader, each other active',
                 'any ' + 'leader or ' * 7000)
@@ -74,7 +76,8 @@ class Calls:
             assert found[0] == 2 and found[1] == '' and found[2], (words, found)
             self.lacking += 1
             return
-        if wanted[2].startswith('error: '):
+        # what stands below the line of a refused sentence the library doesn't say
+        if wanted[2].startswith('error: ') or words[:1] == ['ask']:
             found[2], wanted[2] = found[2].split('\n')[0], wanted[2].split('\n')[0]
             self.refused += 1
         assert found == wanted, (words, found, wanted)

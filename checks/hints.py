@@ -28,7 +28,7 @@ LEAST = {
     'sendings exchanged': 113, 'read backwards': 18, 'sending twice': 77, 'receipt twice': 77, 'sending missing': 77,
     'receipt missing': 69, 'receipt and its sending missing': 49, 'no receipts': 19, 'no resets': 1,
     'too many records': 6, 'log of another run': 20, 'two runs': 5, 'UTF-16': 18, 'NUL bytes': 12, 'place from 1': 6,
-    'hop of a reset': 3, 'sent past a node': 33, 'head counted': 12, 'names exchanged': 33,
+    'hop of a reset': 3, 'sent past a node': 33, 'head counted': 12, 'names exchanged': 33, 'log left out': 3,
 }
 FIELD = {1: 'round', 2: 'ID', 3: 'hop', 4: 'bit'}
 
@@ -139,10 +139,12 @@ def records(logs):
 
 
 def runs(logs, others):
-    """Logs of this election and of another one of as many nodes."""
+    """Logs of this election and of another one of as many nodes, or all but one."""
     for node in range(len(logs)):
         mixed = [*logs[:node], others[node], *logs[node + 1:]]
         yield Case('log of another run', mixed, node, 'of another run|of two runs')
+        if len(logs) > 2:
+            yield Case('log left out', [*logs[:node], *logs[node + 1:]], None, 'is missing')
     for node in range(2, len(logs) - 1):
         yield Case('two runs', [*logs[:node], *others[node:]], None, 'of two runs')
 
@@ -211,9 +213,6 @@ def facts(case, link):
         (r'the log of node (\d+) ends \(\S*?(\d+)\.log:(\d+)\) where', lambda i, name, line: i == name and line == len(of(i)) + 5),
         (rf'node (\d+) was then active in round (\d+) with ID (\d+), so it drops {LOAD}', lambda i, *pair_load: any(
             (state.round, state.id) == pair_load[:2] for state in states(*case.logs[i], n)) and pair_load[2] in sent[i - 1]),
-        (r'node more between node (\d+) and node (\d+) all .* of a ring of (\d+) nodes', lambda a, b, m: b == (a + 1) % n and m == n + 1),
-        (r'perhaps node (\d+) records its sendings', lambda i: i in links),
-        (r'perhaps node (\d+) records a message as it passes', lambda i: (i - 1) % n in links),
     )
 
 
@@ -274,7 +273,7 @@ def main():
                 if case.logs == logs:
                     continue
                 write(temp, case.logs, 2 if terms > 1 else 1)
-                names = [os.path.join(temp, f'{place}.log') for place in range(nodes)]
+                names = [os.path.join(temp, f'{place}.log') for place in range(len(case.logs))]
                 words = [program, 'explain', '--json', *names]
                 told = json.loads(subprocess.run(words, check=False, capture_output=True).stdout)
                 if told['answer'] == 'yes':

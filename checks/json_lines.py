@@ -135,8 +135,8 @@ def check_evidence(names, page, answer):
     reason = answer['reason']
     of_reason = {None: set(), 'log': {'line'}, 'heads': {'head'}, 'link': {'sent', 'received', 'other'},
                  'circle': {'sent', 'received'}, 'node': {'event', 'other'}, 'question': {'line'},
-                 'certificate': {'line'}, 'sections': {'line'}, 'case': {'step', 'spent', 'front'}}
-    assert set(roles) <= of_reason[reason] and (reason is None or roles), answer
+                 'certificate': {'line'}, 'sections': set(), 'case': {'step', 'spent', 'front'}}
+    assert set(roles) <= of_reason[reason] and (not of_reason[reason] or roles), answer
     if reason == 'heads':
         assert [value['log'] for value in roles['head']] == list(range(len(names)))
     elif reason == 'link':

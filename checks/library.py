@@ -127,7 +127,9 @@ class Check(web.Check):
         if options.get('leads') is not None:
             # (the module has no more on who leads)
             page = re.sub(r'\n  A node leads once .*?\n\n', '\n', page, flags=re.S)
-        wanted = [err.decode().rstrip('\n') if status == 2 else '', status, out.decode(), lines[0] if lines else None,
+        # (nor has it what stands below the line of a refused sentence)
+        told = err.decode().split('\n')[0] if name == 'ask' else err.decode().rstrip('\n')
+        wanted = [told if status == 2 else '', status, out.decode(), lines[0] if lines else None,
                   lines[1:], [text.decode('latin1') for text in written], page if status < 2 else '']
         if name in ('pairs', 'ask') and status == 0:
             wanted = wanted[2]

@@ -45,6 +45,7 @@ LINES = [
     ["decide", "--out", "d/c", "--question", *ABSENT],
     ["decide", "--question", "active_beside_passive.ask", "0.log", "1.log"],
     ["decide", "--question", "two_leaders.ask", "1.log", "0.log"],
+    ["decide", "--ask", "any active, other passive", "--dir", "."],
     ["pairs", "5"],
     ["pairs", "1"],
     ["ask", "--nodes", "3", "any leader, other choosing, each other active, all term = 1"],

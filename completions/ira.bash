@@ -6,12 +6,12 @@ _ira_commands='logs explain show draw check decide pairs ask run upgrade mend gu
 # The options of a command.
 _ira_options() {
     case $1 in
-        logs) echo --each --over --leads --json --dir --help ;;
-        explain) echo --each --over --leads --question --case --cert --json --dir --help ;;
-        show) echo --leads --at --question --case --events --json --dir --help ;;
-        draw) echo --out --at --question --case --from --to --dir --help ;;
+        logs) echo --each --sum --over --leads --json --dir --help ;;
+        explain) echo --each --over --leads --question --ask --case --cert --json --dir --help ;;
+        show) echo --leads --at --question --ask --case --events --json --dir --help ;;
+        draw) echo --out --at --question --ask --case --from --to --dir --help ;;
         check) echo --question --cert --depth --json --dir --help ;;
-        decide) echo --question --out --json --dir --help ;;
+        decide) echo --question --ask --out --json --dir --help ;;
         pairs) echo --help ;;
         ask) echo --nodes --dir --help ;;
         run) echo --nodes --seed --out --initiators --draws --cap --terms --alone --help ;;

@@ -12,7 +12,7 @@ const FLAG = '--experimental-wasm-memory64', LETTERS = new TextDecoder, MOST_TEX
 const HELP = "For more information, try '--help'.\n";
 // Of each command its flags, its options with what their values are called, `#` in front of a number, and its words.
 const COMMANDS = {
-  logs: 'each over leads=P,..|any|FILE json dir=DIR LOG',
+  logs: 'each sum over leads=P,..|any|FILE json dir=DIR LOG',
   explain: 'each over leads=P,..|any|FILE question=Q case=#K cert=C json dir=DIR LOG',
   show: 'leads=P,..|any|FILE at=N0,N1,.. question=Q case=#K events json dir=DIR LOG',
   draw: 'out=FILE! at=N0,N1,.. question=Q case=#K from=#A to=#B dir=DIR LOG',
@@ -233,10 +233,29 @@ function expected(command, files, {over = false, json}, leads) {
   return {status, out, err: ''};
 }
 
+// What the run of these files had, of which the answer is yes.
+function featuresOf(files) {
+  const {more} = ira.show(files.map(([, text]) => text), {names: files.map(([name]) => name)});
+  const some = (type, is) => more.some(it => it.type == type && is(it));
+  return {
+    tie: some('round', it => it.drawn_by.length > 1), second_round: some('round', it => it.round > 1),
+    second_term: some('node', it => it.term > 1), dropped: some('node', it => it.dropped),
+  };
+}
+
+// How many of the runs had what.
+function sumOf(runs, json) {
+  const [dropped, second_round, second_term, tie] = ['dropped', 'second_round', 'second_term', 'tie'].map(
+    name => runs.filter(run => run[name]).length);
+  if (json) return `${JSON.stringify({dropped, runs: runs.length, second_round, second_term, tie, type: 'sum'})}\n`;
+  return `of ${runs.length} runs: ${tie} with a tie, ${second_round} with a second round, ` +
+    `${second_term} with a second term, ${dropped} with a dropped message\n`;
+}
+
 function each(command, folders, said) {
-  if (!folders.length || said.dir !== undefined) refuse('--each takes the names of folders alone: --each <DIR>...');
+  if (!folders.length || said.dir !== undefined) refuse('--each and --sum take folders alone: --each <DIR>...');
   if (folders.includes('')) refuse('--each takes names of folders, and none is empty');
-  const unread = [], out = [];
+  const unread = [], out = [], runs = [];
   let status = 0;
   const tell = (dir, told, words) => out.push(said.json ? JSON.stringify(told) : `${shown(dir)}: ${words}`, '\n');
   for (const dir of folders) {
@@ -245,6 +264,7 @@ function each(command, folders, said) {
       const [{out: line}, json] = [asked([ira.LOGS], files), {...said, json: true}];
       const answer = LETTERS.decode(line).trimEnd();
       let found = answer == 'yes' ? '' : answer, isOfRing = true;
+      if (said.sum && !found) runs.push(featuresOf(files));
       if (!found && said.over && expected('logs', files, json).status) found = 'yes, not over';
       try {
         if (answer == 'yes' && said.leads && expected('logs', files, {json: true}, leads).status) {
@@ -266,6 +286,7 @@ function each(command, folders, said) {
       status = 2;
     }
   }
+  if (said.sum) out.push(sumOf(runs, said.json));
   return {status, out: Buffer.concat(out.map(it => Buffer.from(it))), err: unread.join('')};
 }
 
@@ -289,7 +310,7 @@ function left(source, {lost, out}) {
 function execute(command, said, input) {
   const {json, question, cert, case: number, out} = said, form = json ? [ira.JSON_LINES] : [];
   const isEach = command == 'logs' || command == 'explain';
-  if (isEach && (said.each || said.LOG.length > 1 && said.dir === undefined && said.LOG.every(isFolder))) {
+  if (isEach && (said.each || said.sum || said.LOG.length > 1 && said.dir === undefined && said.LOG.every(isFolder))) {
     if (question ?? number ?? cert !== undefined) refuse('--each goes with none of --question, --case and --cert');
     if (command == 'explain' && said.leads && !json) fail(NO_REASONS);
     return each(command, said.LOG, said);

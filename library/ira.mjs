@@ -215,10 +215,11 @@ export const check = (texts, question, certificate, {names} = {}) =>
 export const pairs = nodes => asked([PAIRS, nodes]).text;
 
 const words = ['any ', 'other ', 'each other ', 'all '], guide = '; see `ira guide questions`';
-const due = ['a sentence begins with `any CLAUSE` or `all CLAUSE`',
+const due = ['a sentence begins with `any CLAUSE`, `all CLAUSE` or `node P CLAUSE`',
   'after `any CLAUSE` may stand `, other CLAUSE`, `, each other CLAUSE` or `, all CLAUSE`',
   'after `other CLAUSE` may stand `, each other CLAUSE` or `, all CLAUSE`',
   'after `each other CLAUSE` may stand `, all CLAUSE`', 'after `all CLAUSE` nothing may stand'];
+const dueOfNode = `after \`node \` a place and a clause are due, as \`node 3 leader\`${guide}`;
 const noEvents = [0, 1].map(place => `irlog 1\nnodes 2\nplace ${place}\nstart passive\nend 0\n`);
 const isClause = text => !text.includes('\n') &&
   !decide(noEvents, `irask 1\nnodes 2\ncase\n0: ${text}\nend\n`).values.answer.startsWith('no');
@@ -230,6 +231,12 @@ export function ask(nodes, sentence) {
   };
   if (!(nodes >= 2 && nodes <= 255)) refuse('ring size');
   if (encoder.encode(sentence).length > 65536) refuse('a sentence has at most 65,536 bytes');
+  if (sentence.startsWith('node ')) {
+    const [, place, clause] = /^node (0|[1-9]\d*) (.*)$/.exec(sentence) ?? refuse(dueOfNode);
+    if (!isClause(clause)) refuse(dueOfNode);
+    if (place >= nodes) refuse('SENTENCE names a node that the ring has not');
+    return `irask 1\nnodes ${nodes}\ncase\n${place}: ${clause}\nend\n`;
+  }
   const clauses = Array(4);
   let left = sentence, last = 0;
   words.forEach((word, part) => {

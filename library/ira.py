@@ -236,7 +236,7 @@ def pairs(nodes):
 
 
 _PARTS_OF = b'any ', b'other ', b'each other ', b'all '
-_DUE = ('a sentence begins with `any CLAUSE` or `all CLAUSE`',
+_DUE = ('a sentence begins with `any CLAUSE`, `all CLAUSE` or `node P CLAUSE`',
         'after `any CLAUSE` may stand `, other CLAUSE`, `, each other CLAUSE` or `, all CLAUSE`',
         'after `other CLAUSE` may stand `, each other CLAUSE` or `, all CLAUSE`',
         'after `each other CLAUSE` may stand `, all CLAUSE`', 'after `all CLAUSE` nothing may stand')
@@ -260,6 +260,13 @@ def ask(nodes, sentence):
         _refuse('ring size')
     if len(left) > 65536:
         _refuse('a sentence has at most 65,536 bytes')
+    if left.startswith(b'node '):
+        place, _, clause = left[5:].partition(b' ')
+        if not place.isdigit() or place[:1] == b'0' != place or not _is_clause(clause):
+            _refuse('after `node ` a place and a clause are due, as `node 3 leader`' + _GUIDE)
+        if len(place) > 3 or int(place) >= nodes:
+            _refuse('SENTENCE names a node that the ring has not')
+        return b'irask 1\nnodes %d\ncase\n%s: %s\nend\n' % (nodes, place, clause)
     clauses, due = [None] * 4, 0
     for part, word in enumerate(_PARTS_OF):
         if left is None or not left.startswith(word) or (part in (1, 2) and clauses[0] is None):

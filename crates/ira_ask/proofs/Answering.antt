@@ -13,9 +13,9 @@ use Rattle.ira_ask.specs.Asked.{together}
 use Rattle.ira_ask.specs.AskedTexts.{AreAsked, Writes, asked_of}
 use Rattle.ira_ask.specs.Choices.{PicksOf, choices}
 use Rattle.ira_ask.specs.Reading.{AreSpelled, Spells}
-use Rattle.ira_ask.specs.Sentence.{Sentence}
-use Rattle.ira_ask.specs.SentenceAnswer.{Answers, HasClauses, IsSentenceFault, long_question, stops, too_deep}
-use Rattle.ira_ask.specs.SentenceText.{IsSentenceText, MayBeClause, StopsAt}
+use Rattle.ira_ask.specs.Sentence.{Parts}
+use Rattle.ira_ask.specs.SentenceAnswer.{Answers, HasClauses, IsSentenceFault, asks_parts, long_question, stops, too_deep}
+use Rattle.ira_ask.specs.SentenceText.{IsTextOfParts, MayBeClause, SpeaksOfNode, StopsAt}
 
 clause-of : (t : Option (List ℕ)) (f : Option Formula) → Spells t f → MayBeClause f
 clause-of None None h = tt
@@ -23,7 +23,7 @@ clause-of (Some t) (Some f) h = h.0
 clause-of None (Some f) h = absurd h
 clause-of (Some t) None h = absurd h
 
-pub clauses_of : {A : Type 0} (clauses : AskedClauses A) (s : Sentence) → AreAsked clauses s → HasClauses s
+pub clauses_of : {A : Type 0} (clauses : AskedClauses A) (s : Parts) → AreAsked clauses s → HasClauses s
 clauses_of clauses s h = record {
   any = clause-of _ (together s.any s.all) h.any;
   other = clause-of _ (together s.other s.all) h.other;
@@ -31,26 +31,25 @@ clauses_of clauses s h = record {
 }
 
 pub stop_fault : (n : ℕ) (text : List ℕ) (e : SentenceFault) → length text ≤ 65536
-    → (e ≡ OutOfMemory) ⊎ StopsAt text e
-    → (e ≡ OutOfMemory) ⊎ IsSentenceFault n text e
-stop_fault n text e short (inl h) = inl h
-stop_fault n text e short (inr h) = inr (stops short h)
+    → ¬ (SpeaksOfNode text) → (e ≡ OutOfMemory) ⊎ StopsAt text e → (e ≡ OutOfMemory) ⊎ IsSentenceFault n text e
+stop_fault n text e short none (inl h) = inl h
+stop_fault n text e short none (inr h) = inr (stops short none h)
 
-pub deep_fault : (n : ℕ) (text : List ℕ) (s : Sentence) (spelled : Spelled) (e : SentenceFault) → length text ≤ 65536
-    → IsSentenceText text s → AreSpelled spelled s
-    → (e ≡ OutOfMemory) ⊎ ((e ≡ TooDeep) × ((t : Sentence) → AreSpelled spelled t → ¬ (HasClauses t)))
+pub deep_fault : (n : ℕ) (text : List ℕ) (s : Parts) (spelled : Spelled) (e : SentenceFault) → length text ≤ 65536
+    → IsTextOfParts text s → AreSpelled spelled s
+    → (e ≡ OutOfMemory) ⊎ ((e ≡ TooDeep) × ((t : Parts) → AreSpelled spelled t → ¬ (HasClauses t)))
     → (e ≡ OutOfMemory) ⊎ IsSentenceFault n text e
 deep_fault n text s spelled e short is k (inl h) = inl h
 deep_fault n text s spelled e short is k (inr h) = inr (too_deep s short is (h.1 s k) h.0)
 
-pub answered : {X : Type 0} (text_of : X → List ℕ) (n : ℕ) (text : List ℕ) (s : Sentence) (picks : Picks)
+pub answered : {X : Type 0} (text_of : X → List ℕ) (n : ℕ) (text : List ℕ) (s : Parts) (picks : Picks)
     (list : List Places)
-    (r : Result X SentenceFault) → length text ≤ 65536 → IsSentenceText text s → HasClauses s
+    (r : Result X SentenceFault) → length text ≤ 65536 → IsTextOfParts text s → HasClauses s
     → PicksOf s.any s.other picks → list ≡ choices n picks → length list ≤ 32385
     → Writes text_of (asked_of n s list) r → Answers text_of n text r
 answered text_of n text s picks list (Ok x) short is clauses of e few h = (
   asked_of n s list,
-  record {
+  asks_parts (record {
     sentence = s;
     picks = picks;
     short_text = short;
@@ -60,7 +59,7 @@ answered text_of n text s picks list (Ok x) short is clauses of e few h = (
     few = subst (λ l. length l ≤ 32385) e few;
     is = ap (asked_of n s) e;
     short = h.1;
-  },
+  }),
   h.0,
 )
 answered text_of n text s picks list (Err f) short is clauses of e few (inl h) = inl h

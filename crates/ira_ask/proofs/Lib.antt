@@ -2,7 +2,7 @@ pub mod Answering
 pub mod Lines
 pub mod Lists
 pub mod Meaning
-pub mod OneAnswer
+pub mod Nodes
 pub mod Parting
 pub mod PartsRead
 pub mod Picking

@@ -17,7 +17,7 @@ use Rattle.ira_ask.specs.declared.sentence_fault.SentenceFault.{SentenceFault}
 use Rattle.ira_ask.specs.Asked.{case_of, placed, together}
 use Rattle.ira_ask.specs.AskedTexts.{asked_of}
 use Rattle.ira_ask.specs.Reading.{IsClauseText, Joins, JoinsBoth, Spells}
-use Rattle.ira_ask.specs.Sentence.{Sentence}
+use Rattle.ira_ask.specs.Sentence.{Parts}
 use Rattle.ira_ask.specs.SentenceText.{IsClause, MayBeClause}
 use Rattle.ira_ask.proofs.Parting.{clause_known}
 
@@ -99,12 +99,12 @@ abbrev pub head : ℕ → List ℕ
 head n = codes "irask 1\n" ++ codes "nodes " ++ decimal n ++ codes "\n"
 
 -- the text so far, and the cases that are left
-abbrev pub IsSoFar : ℕ → Sentence → List Places → ℕ → List ℕ → Type 0
+abbrev pub IsSoFar : ℕ → Parts → List Places → ℕ → List ℕ → Type 0
 IsSoFar n s choices i text =
     text ++ flat_map case_text (map (case_of n s) (drop i choices))
     ≡ head n ++ flat_map case_text (map (case_of n s) choices)
 
-pub next_case : (n : ℕ) (s : Sentence) (choices : List Places) (i : ℕ) (c d : Places) (old new : List ℕ)
+pub next_case : (n : ℕ) (s : Parts) (choices : List Places) (i : ℕ) (c d : Places) (old new : List ℕ)
     → i < length choices
     → c ≡ get_or choices i d → new ≡ old ++ case_text (case_of n s c) → IsSoFar n s choices i old
     → IsSoFar n s choices (i + 1) new
@@ -113,7 +113,7 @@ next_case n s choices i c d old new low is e h =
     ap (λ x. x ++ rest) e ∙ append_assoc old (case_text (case_of n s c)) rest
     ∙ ap (λ x. old ++ flat_map case_text (map (case_of n s) x)) (sym (drop-at choices i c d low is)) ∙ h
 
-pub too_long_so_far : (n : ℕ) (s : Sentence) (choices : List Places) (i : ℕ) (text : List ℕ)
+pub too_long_so_far : (n : ℕ) (s : Parts) (choices : List Places) (i : ℕ) (text : List ℕ)
     → IsSoFar n s choices i text → 67108864 < length text → ¬ (IsShort (asked_of n s choices))
 too_long_so_far n s choices i text h long short =
     let rest = flat_map case_text (map (case_of n s) (drop i choices)) in
@@ -126,7 +126,7 @@ too_long_so_far n s choices i text h long short =
 pub none_left : {X : Type 0} (xs : List X) (i : ℕ) → length xs ≤ i → drop i xs ≡ []
 none_left xs i h = grind (arith, common_steps)
 
-pub whole_question : (n : ℕ) (s : Sentence) (choices : List Places) (i : ℕ) (old new : List ℕ) → drop i choices ≡ []
+pub whole_question : (n : ℕ) (s : Parts) (choices : List Places) (i : ℕ) (old new : List ℕ) → drop i choices ≡ []
     → new ≡ old ++ codes "end\n" → IsSoFar n s choices i old → new ≡ question_text (asked_of n s choices)
 whole_question n s choices i old new none e h =
     e ∙ ap (λ x. x ++ codes "end\n") (sym (append-nil old)

@@ -9,6 +9,7 @@ use Rattle.ira_node.specs.NodeState.{first_state}
 use Rattle.ira_pred.specs.Case.{Conjunct}
 use Rattle.ira_pred.specs.Clause.{Holds}
 use Rattle.ira_pred.specs.Formula.{Formula, both}
+use Rattle.ira_pred.specs.Question.{QuestionCases}
 use Rattle.ira_replay.proofs.Reached.{one_list}
 use Rattle.ira_cand.specs.HoldsAt.{HoldsAt}
 use Rattle.ira_cand.specs.Meets.{Meets}
@@ -17,8 +18,11 @@ use Rattle.ira_ask.specs.declared.places.Places.{Places}
 use Rattle.ira_ask.specs.Asked.{asked, case_of, own, placed, together, wanted}
 use Rattle.ira_ask.specs.Choices.{PicksOf, choices}
 use Rattle.ira_ask.specs.Laws.{HoldsAtCut}
-use Rattle.ira_ask.specs.Sentence.{HasWanted, IsPicked, Says, Sentence}
+use Rattle.ira_ask.specs.SentenceAnswer.{IsAsked, asks_node, asks_parts}
+use Rattle.ira_ask.specs.SentenceText.{IsSentenceText}
+use Rattle.ira_ask.specs.Sentence.{HasWanted, IsPicked, Parts, PartsSay, Says, Sentence, of_node, of_parts}
 use Rattle.ira_ask.proofs.Lists.{All-flat_numbers, each_flat_number, Contains-mapped, Contains-of_map}
+use Rattle.ira_ask.proofs.Nodes.{node_means, one_said}
 use Rattle.ira_ask.proofs.Picking.{MayPick, choices_may, own-any, own-other, own-rest, is_or_not, find}
 
 -- ---- two formulas at a place
@@ -100,14 +104,14 @@ holds-placed At p None h = All-nil (λ c. At c.formula c.place)
 holds-placed At p (Some f) h =
     All-cons (λ c. At c.formula c.place) (record { place = p; formula = f }) [] h (All-nil (λ c. At c.formula c.place))
 
-case_wants : (At : Formula → ℕ → Type 0) (n : ℕ) (s : Sentence) (c : Places)
+case_wants : (At : Formula → ℕ → Type 0) (n : ℕ) (s : Parts) (c : Places)
     → All (λ x. At x.formula x.place) (case_of n s c) → (p : ℕ) → p < n → HasWanted At (wanted s c p) p
 case_wants At n s c h p low =
     placed-holds At p (wanted s c p)
     (each_flat_number (λ x. At x.formula x.place) (λ q. placed q (wanted s c q)) 0 n h p (omega arith) (omega
     (arith, low)))
 
-wants_case : (At : Formula → ℕ → Type 0) (n : ℕ) (s : Sentence) (c : Places)
+wants_case : (At : Formula → ℕ → Type 0) (n : ℕ) (s : Parts) (c : Places)
     → ((p : ℕ) → p < n → HasWanted At (wanted s c p) p) → All (λ x. At x.formula x.place) (case_of n s c)
 wants_case At n s c h =
     All-flat_numbers (λ x. At x.formula x.place) (λ q. placed q (wanted s c q)) 0 n (λ p from low.
@@ -128,8 +132,8 @@ holds-picked n At None i k h e = tt
 holds-picked n At (Some f) None k h e = absurd h
 holds-picked n At (Some f) (Some i) k h e = subst (At f) (same_Some i k e) h.1
 
-pub case_says : (n : ℕ) (s : Sentence) (c : Places) (logs : List Log) (cut : List ℕ) → MayPick n s.any s.other c
-    → Meets logs (case_of n s c) cut → Says n (HoldsAtCut logs cut) s
+pub case_says : (n : ℕ) (s : Parts) (c : Places) (logs : List Log) (cut : List ℕ) → MayPick n s.any s.other c
+    → Meets logs (case_of n s c) cut → PartsSay n (HoldsAtCut logs cut) s
 case_says n s c logs cut may h =
     let At = HoldsAtCut logs cut in
     let each : (p : ℕ) → p < n → HasWanted At (wanted s c p) p = case_wants At n s c h in
@@ -146,7 +150,7 @@ case_says n s c logs cut may h =
       all = λ p low. all_wanted logs cut (own s c p) s.all p (each p low);
     }
 
-own_holds : (n : ℕ) (At : Formula → ℕ → Type 0) (s : Sentence) (c : Places) (p : ℕ) → IsPicked n At s.any c.any
+own_holds : (n : ℕ) (At : Formula → ℕ → Type 0) (s : Parts) (c : Places) (p : ℕ) → IsPicked n At s.any c.any
     → IsPicked n At s.other c.other → (c.any ≢ Some p → c.other ≢ Some p → HasWanted At s.each_other p)
     → HasWanted At (own s c p) p
 own_holds n At s c p any other rest =
@@ -159,8 +163,8 @@ own_holds n At s c p any other rest =
       ]
     ]
 
-pub says_case : (n : ℕ) (s : Sentence) (picks : Picks) (logs : List Log) (cut : List ℕ) → PicksOf s.any s.other picks
-    → Says n (HoldsAtCut logs cut) s
+pub says_case : (n : ℕ) (s : Parts) (picks : Picks) (logs : List Log) (cut : List ℕ) → PicksOf s.any s.other picks
+    → PartsSay n (HoldsAtCut logs cut) s
     → (c : Places) × Contains (choices n picks) c × Meets logs (case_of n s c) cut
 says_case n s picks logs cut of says =
     let At = HoldsAtCut logs cut in
@@ -173,10 +177,10 @@ says_case n s picks logs cut of says =
           let apart = found.same p d e in says.each_other p low apart.0 apart.1)) (says.all p low)),
     )
 
-pub question_means : (n : ℕ) (s : Sentence) (picks : Picks) (logs : List Log) (cut : List ℕ)
+pub question_means : (n : ℕ) (s : Parts) (picks : Picks) (logs : List Log) (cut : List ℕ)
     → PicksOf s.any s.other picks
     → ((case : List Conjunct) × Contains (asked n s picks).cases case × Meets logs case cut)
-    ↔ Says n (HoldsAtCut logs cut) s
+    ↔ PartsSay n (HoldsAtCut logs cut) s
 question_means n s picks logs cut of = (
   λ h. let is = Contains-of_map (case_of n s) (choices n picks) h.0 h.1 in
       let may = All-contains (MayPick n s.any s.other) (choices n picks) is.0
@@ -185,3 +189,18 @@ question_means n s picks logs cut of = (
   λ says. let found = says_case n s picks logs cut of says in
       (case_of n s found.0, Contains-mapped (case_of n s) (choices n picks) found.0 found.1, found.2),
 )
+
+pub question_of_sentence : (n : ℕ) (text : List ℕ) (s : Sentence) (q : QuestionCases) (logs : List Log) (cut : List ℕ)
+    → IsSentenceText text s → IsAsked n text q
+    → ((case : List Conjunct) × Contains q.cases case × Meets logs case cut) ↔ Says n (HoldsAtCut logs cut) s
+question_of_sentence n text s q logs cut is (asks_parts h) =
+    subst (λ (t : Sentence). ((case : List Conjunct) × Contains q.cases case × Meets logs case cut)
+    ↔ Says n (HoldsAtCut logs cut) t) (one_said text (of_parts h.sentence) s h.text_is is)
+    (subst (λ (p : QuestionCases). ((case : List Conjunct) × Contains p.cases case × Meets logs case cut)
+    ↔ PartsSay n (HoldsAtCut logs cut) h.sentence) (sym h.is)
+    (question_means n h.sentence h.picks logs cut h.picks_are))
+question_of_sentence n text s q logs cut is (asks_node p f short said low e) =
+    subst (λ (t : Sentence). ((case : List Conjunct) × Contains q.cases case × Meets logs case cut)
+    ↔ Says n (HoldsAtCut logs cut) t) (one_said text (of_node p f) s said is)
+    (subst (λ (x : QuestionCases). ((case : List Conjunct) × Contains x.cases case × Meets logs case cut)
+    ↔ Says n (HoldsAtCut logs cut) (of_node p f)) (sym e) (node_means n p f logs cut low))

@@ -9,8 +9,8 @@ use Rattle.ira_ask.specs.declared.sentence_fault.SentenceFault.TheVariants.{NoCl
 use Rattle.ira_ask.specs.declared.sentence_part.SentencePart.{SentencePart}
 use Rattle.ira_ask.specs.declared.sentence_part.SentencePart.TheVariants.{Any, Other, EachOther, All}
 use Rattle.ira_ask.specs.Reading.{Comes, HasRead, LacksClause, Spells, TakesPart, fits, left_text}
-use Rattle.ira_ask.specs.Sentence.{Sentence}
-use Rattle.ira_ask.specs.SentenceText.{ArePartsOfSentence, IsSentenceText, MayBeClause, MayFollow, StopsAt, last_part}
+use Rattle.ira_ask.specs.Sentence.{Parts}
+use Rattle.ira_ask.specs.SentenceText.{ArePartsOfSentence, IsTextOfParts, MayBeClause, MayFollow, StopsAt, last_part}
 use Rattle.ira_ask.specs.SentenceText.{no_clause, no_part, parts_text, sentence_text, word_of}
 
 -- ---- a part that may be there
@@ -57,19 +57,19 @@ some-of t (Some f) h = λ e. cc
 
 -- ---- before the last part
 
-text_before : (text rest : List ℕ) (s : Sentence) → text ++ codes ", " ≡ sentence_text s ++ (rest ++ codes ", ")
+text_before : (text rest : List ℕ) (s : Parts) → text ++ codes ", " ≡ sentence_text s ++ (rest ++ codes ", ")
     → text ≡ sentence_text s ++ rest
 text_before text rest s e =
     append_cancel_right text (sentence_text s ++ rest) (codes ", ")
     (e ∙ sym (append_assoc (sentence_text s) rest (codes ", ")))
 
 -- the text begins with these parts
-record Begins (text : List ℕ) (left : Option (List ℕ)) (s : Sentence) : Type 0 where
+record Begins (text : List ℕ) (left : Option (List ℕ)) (s : Parts) : Type 0 where
   pub parts : ArePartsOfSentence s
   pub text_is : text ++ codes ", " ≡ sentence_text s ++ left_text left
 
 -- it goes on as no sentence does, or memory ran out
-failed : (text : List ℕ) (left : Option (List ℕ)) (s : Sentence) (part : SentencePart) (f : SentenceFault)
+failed : (text : List ℕ) (left : Option (List ℕ)) (s : Parts) (part : SentencePart) (f : SentenceFault)
     → Begins text left s → MayFollow s part → (f ≡ OutOfMemory) ⊎ ((f ≡ NoClause part) × LacksClause part left)
     → (f ≡ OutOfMemory) ⊎ StopsAt text f
 failed text left s part f h may (inl none) = inl none
@@ -82,7 +82,7 @@ failed text (Some rest) s part f h may (inr none) = inr (record {
   stop = no_clause part may none.1.0 none.1.1 none.0;
 })
 
-abbrev nothing : Sentence
+abbrev nothing : Parts
 nothing = record { any = None; other = None; each_other = None; all = None }
 
 begins_bare : (text : List ℕ) → Begins text (Some text) nothing
@@ -125,7 +125,7 @@ joined a o e l x y z t p q r =
     p ∙ ap (λ w. a ++ w) (q ∙ ap (λ w. o ++ w) r) ∙ simp (append_assoc, append-nil)
 
 -- the parts that pick nodes
-abbrev picking : Option Formula → Option Formula → Option Formula → Sentence
+abbrev picking : Option Formula → Option Formula → Option Formula → Parts
 picking any other each = record { any = any; other = other; each_other = each; all = None }
 
 begins_picking : (text clause : List ℕ) (any other each : Option Formula) (v1 v2 v3 : Option (List ℕ))
@@ -205,7 +205,7 @@ some_read text any other each v1 v2 v3 short p q r =
 
 -- all parts were read
 pub record AreRead (text : List ℕ) (left any other each_other all : Option (List ℕ)) : Type 0 where
-  pub sentence : Sentence
+  pub sentence : Parts
   pub any_is : Spells any sentence.any
   pub other_is : Spells other sentence.other
   pub each_other_is : Spells each_other sentence.each_other
@@ -215,7 +215,7 @@ pub record AreRead (text : List ℕ) (left any other each_other all : Option (Li
   pub ends : (part : SentencePart) → MayFollow sentence part → ¬ (Comes part left)
   pub all_fits : fits all
 
-spelled-on : (s : Sentence) (f : Option Formula) (t x y : List ℕ) → s.all ≡ None → t ≡ sentence_text s ++ x
+spelled-on : (s : Parts) (f : Option Formula) (t x y : List ℕ) → s.all ≡ None → t ≡ sentence_text s ++ x
     → x ≡ parts_text (codes "all ") f ++ y
     → t ≡ sentence_text (record { any = s.any; other = s.other; each_other = s.each_other; all = f }) ++ y
 spelled-on s f t x y none e k =
@@ -229,7 +229,7 @@ spelled-on s f t x y none e k =
     regroup a o r l y = simp (append_assoc, append-nil)
 
 -- what may follow these now might have before `all`
-before-all : (s : Sentence) (f : Option Formula) (part : SentencePart) → s.all ≡ None
+before-all : (s : Parts) (f : Option Formula) (part : SentencePart) → s.all ≡ None
     → MayFollow (record { any = s.any; other = s.other; each_other = s.each_other; all = f }) part
     → (f ≡ None) × MayFollow s part
 before-all s f Any none may = (may.0, (none, may.1))
@@ -282,7 +282,7 @@ stops text rest left any other each all last e h is = record {
 }
 
 pub read_whole : (text : List ℕ) (left any other each all : Option (List ℕ)) → left ≡ None
-    → (h : AreRead text left any other each all) → IsSentenceText text h.sentence
+    → (h : AreRead text left any other each all) → IsTextOfParts text h.sentence
 read_whole text left any other each all e h = record {
   parts = h.parts;
   spelled = h.text_is ∙ ap (λ l. sentence_text h.sentence ++ left_text l) e ∙ append-nil (sentence_text h.sentence);

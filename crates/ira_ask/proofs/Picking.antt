@@ -12,7 +12,7 @@ use Rattle.ira_ask.specs.declared.picks.Picks.TheVariants.{Nobody, One, Two, Ali
 use Rattle.ira_ask.specs.declared.places.Places.{Places}
 use Rattle.ira_ask.specs.Asked.{is_place, own}
 use Rattle.ira_ask.specs.Choices.{PicksOf, nobody, one, two, places_after, choices}
-use Rattle.ira_ask.specs.Sentence.{IsPicked, Sentence}
+use Rattle.ira_ask.specs.Sentence.{IsPicked, Parts}
 use Rattle.ira_ask.proofs.Lists.{All-map_numbers, All-flat_numbers, Contains-map_numbers, Contains-flat_numbers}
 
 -- ---- what is asked of a node alone
@@ -24,13 +24,13 @@ place-not : (o : Option ℕ) (p : ℕ) → o ≢ Some p → is_place o p ≡ fal
 place-not None p h = refl
 place-not (Some i) p h = let differs : i ≢ p = λ e. h (ap Some e) in grind (arith, nat_tests)
 
-pub own-any : (s : Sentence) (c : Places) (i : ℕ) → c.any ≡ Some i → own s c i ≡ s.any
+pub own-any : (s : Parts) (c : Places) (i : ℕ) → c.any ≡ Some i → own s c i ≡ s.any
 own-any s c i h = rw (place-is c.any i h) refl
 
-pub own-other : (s : Sentence) (c : Places) (j : ℕ) → c.any ≢ Some j → c.other ≡ Some j → own s c j ≡ s.other
+pub own-other : (s : Parts) (c : Places) (j : ℕ) → c.any ≢ Some j → c.other ≡ Some j → own s c j ≡ s.other
 own-other s c j h k = rw (place-not c.any j h, place-is c.other j k) refl
 
-pub own-rest : (s : Sentence) (c : Places) (p : ℕ) → c.any ≢ Some p → c.other ≢ Some p → own s c p ≡ s.each_other
+pub own-rest : (s : Parts) (c : Places) (p : ℕ) → c.any ≢ Some p → c.other ≢ Some p → own s c p ≡ s.each_other
 own-rest s c p h k = rw (place-not c.any p h, place-not c.other p k) refl
 
 -- a place is one of those that were picked, or it isn't

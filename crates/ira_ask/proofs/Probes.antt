@@ -10,11 +10,13 @@ use Rattle.std.proofs.lemmas.Option.{same_Some}
 use Rattle.ira_event.specs.Scan.{number_at}
 use Rattle.ira_event.proofs.Numerals.{number-again}
 use Rattle.ira_event.proofs.Spelled.{decimal_is_numeral, numeral_is_decimal}
+use Rattle.ira_event.specs.RingSize.{IsRingSize}
 use Rattle.ira_pred.specs.Formula.{Formula}
 use Rattle.ira_pred.specs.Case.{Conjunct, IsCase, IsConjunct}
 use Rattle.ira_pred.specs.Question.{QuestionCases, IsQuestion}
 use Rattle.ira_pred.specs.QuestionText.{IsQuestionText, clause_text, question_text}
 use Rattle.ira_pred.proofs.QuestionTexts.{one_question, one_text}
+use Rattle.ira_ask.specs.Asked.{asked_at}
 use Rattle.ira_ask.specs.Reading.{IsClauseText}
 use Rattle.ira_ask.specs.SentenceText.{IsClause}
 
@@ -43,13 +45,13 @@ abbrev pub probe : List ℕ → List ℕ
 probe text = codes "irask 1\nnodes 2\ncase\n0: " ++ text ++ codes "\nend\n"
 
 abbrev probed : Formula → QuestionCases
-probed f = record { nodes = 2; cases = (record { place = 0; formula = f } ∷ []) ∷ [] }
+probed = asked_at 2 0
 
 regrouped : (a d b c p s l n e : List ℕ) → a ++ d ++ b ++ ((c ++ ((p ++ s ++ l ++ n) ++ [])) ++ []) ++ e
     ≡ a ++ (d ++ (b ++ (c ++ (p ++ (s ++ (l ++ (n ++ e)))))))
 regrouped a d b c p s l n e = simp (append_assoc, append-nil)
 
-asked-one : (n : ℕ) (c : Conjunct) → question_text (record { nodes = n; cases = (c ∷ []) ∷ [] })
+pub asked-one : (n : ℕ) (c : Conjunct) → question_text (record { nodes = n; cases = (c ∷ []) ∷ [] })
     ≡ codes "irask 1\nnodes " ++ (decimal n ++ (codes "\ncase\n" ++ (decimal c.place ++ (codes ": "
     ++ (clause_text c.formula ++ codes "\nend\n")))))
 asked-one n c =
@@ -82,20 +84,20 @@ clause-of text n c small low e =
     (number-again (decimal c.place) c.place other (decimal_is_numeral c.place low) refl) (ap number_at line) in
     append_cancel_right text (clause_text c.formula) (codes "\nend\n") (append_cancel_left (codes ": ") _ _ place)
 
-probed-is : (f : Formula) → IsClause f → IsQuestion (probed f)
-probed-is f h = record {
-  size = (omega arith, omega arith);
+pub asked-is : (n p : ℕ) (f : Formula) → IsRingSize n → p < n → IsClause f → IsQuestion (asked_at n p f)
+asked-is n p f size low h = record {
+  size = size;
   some = omega arith;
   count = omega arith;
-  cases_are = All-cons (IsCase 2) (record { place = 0; formula = f } ∷ []) [] (record {
+  cases_are = All-cons (IsCase n) (record { place = p; formula = f } ∷ []) [] (record {
     some = λ e. cc;
     conjuncts_are = record {
-      each = All-cons (IsConjunct 2) (record { place = 0; formula = f }) []
-          (record { in_ring = omega arith; deep = h.1; numbers = h.0 }) (All-nil (IsConjunct 2));
-      rising = AllPairs-cons (λ a b. a.place < b.place) (record { place = 0; formula = f }) []
-          (All-nil (λ b. 0 < b.place)) (λ p q d lt within. absurd (omega arith));
+      each = All-cons (IsConjunct n) (record { place = p; formula = f }) []
+          (record { in_ring = low; deep = h.1; numbers = h.0 }) (All-nil (IsConjunct n));
+      rising = AllPairs-cons (λ a b. a.place < b.place) (record { place = p; formula = f }) []
+          (All-nil (λ b. p < b.place)) (λ p q d lt within. absurd (omega arith));
     };
-  }) (All-nil (IsCase 2));
+  }) (All-nil (IsCase n));
 }
 
 probe-is : (f : Formula) → probe (clause_text f) ≡ question_text (probed f)
@@ -116,7 +118,7 @@ probed-text text f short h e =
     let a = length-append (codes "irask 1\nnodes 2\ncase\n0: " ++ text) (codes "\nend\n") in
     let b = length-append (codes "irask 1\nnodes 2\ncase\n0: ") text in
     let long = ap length is in
-    (one_text (probe text) (probed f)).1 (probed-is f h, omega (arith, a, b, long), is)
+    (one_text (probe text) (probed f)).1 (asked-is 2 0 f (omega arith, omega arith) (omega arith) h, omega (arith, a, b, long), is)
 
 asked-clause : (q : QuestionCases) (c : Conjunct) → IsQuestion q → q.cases ≡ (c ∷ []) ∷ [] → IsConjunct q.nodes c
 asked-clause q c h e =

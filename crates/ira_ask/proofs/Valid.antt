@@ -20,17 +20,18 @@ use Rattle.ira_ask.specs.declared.picks.Picks.TheVariants.{Nobody, One, Two, Ali
 use Rattle.ira_ask.specs.declared.places.Places.{Places}
 use Rattle.ira_ask.specs.Asked.{asked, case_of, own, placed, together, wanted}
 use Rattle.ira_ask.specs.Choices.{PicksOf, choices, one}
-use Rattle.ira_ask.specs.Sentence.{IsPicked, Sentence}
-use Rattle.ira_ask.specs.SentenceAnswer.{HasClauses, IsAsked}
-use Rattle.ira_ask.specs.SentenceText.{IsSentenceText, MayBeClause, sentence_text}
+use Rattle.ira_ask.specs.Sentence.{IsPicked, Parts}
+use Rattle.ira_ask.specs.SentenceAnswer.{HasClauses, IsAsked, asks_node, asks_parts}
+use Rattle.ira_ask.specs.SentenceText.{IsTextOfParts, MayBeClause, sentence_text}
 use Rattle.ira_ask.proofs.Lists.{All-flat_numbers, Contains-flat_numbers, Contains-map_numbers}
+use Rattle.ira_ask.proofs.Nodes.{node_has_text}
 use Rattle.ira_ask.proofs.Parting.{ends-in-comma}
 use Rattle.ira_ask.proofs.Picking.{Anything, MayPick, among-alike, among-two, choices_may, is_or_not, own-any}
 use Rattle.ira_ask.proofs.Picking.{own-other, own-rest}
 
 -- ---- lines of a case
 
-asked-clause : (s : Sentence) (c : Places) (p : ℕ) → HasClauses s → MayBeClause (wanted s c p)
+asked-clause : (s : Parts) (c : Places) (p : ℕ) → HasClauses s → MayBeClause (wanted s c p)
 asked-clause s c p h =
     elim (is_or_not c.any p) [
       | inl e ↦ subst (λ o. MayBeClause (together o s.all)) (sym (own-any s c p e)) h.any
@@ -87,13 +88,13 @@ not-empty : {X : Type 0} (xs : List X) (x : X) → Contains xs x → xs ≢ []
 not-empty [] x c e = absurd (omega (arith, c.1))
 not-empty (y ∷ ys) x c e = cc
 
-case-some : (n : ℕ) (s : Sentence) (c : Places) (p : ℕ) → p < n → wanted s c p ≢ None → case_of n s c ≢ []
+case-some : (n : ℕ) (s : Parts) (c : Places) (p : ℕ) → p < n → wanted s c p ≢ None → case_of n s c ≢ []
 case-some n s c p low h =
     let line = placed-some p (wanted s c p) h in
     not-empty (case_of n s c) line.0
     (Contains-flat_numbers (λ q. placed q (wanted s c q)) 0 n p line.0 (omega arith) (omega (arith, low)) line.1)
 
-something : (s : Sentence) (text : List ℕ) → IsSentenceText text s → (s.any ≢ None) ⊎ (s.all ≢ None)
+something : (s : Parts) (text : List ℕ) → IsTextOfParts text s → (s.any ≢ None) ⊎ (s.all ≢ None)
 something s text h =
     some-part s.any s.other s.each_other s.all h.parts.others (λ e. ends-in-comma text (sym (h.spelled ∙ e)))
   where
@@ -112,7 +113,7 @@ picked-some n None i h k = absurd (h refl)
 picked-some n (Some f) None h k = absurd k
 picked-some n (Some f) (Some p) h k = (p, k.0, refl)
 
-has-line : (n : ℕ) (s : Sentence) (c : Places) → 2 ≤ n → MayPick n s.any s.other c → (s.any ≢ None) ⊎ (s.all ≢ None)
+has-line : (n : ℕ) (s : Parts) (c : Places) → 2 ≤ n → MayPick n s.any s.other c → (s.any ≢ None) ⊎ (s.all ≢ None)
     → case_of n s c ≢ []
 has-line n s c size may (inl some) =
     let at = picked-some n s.any c.any some may.any_is in
@@ -120,7 +121,7 @@ has-line n s c size may (inl some) =
     (subst (λ o. together o s.all ≢ None) (sym (own-any s c at.0 at.2)) (own-some s.any s.all some))
 has-line n s c size may (inr some) = case-some n s c 0 (omega (arith, size)) (all-some (own s c 0) s.all some)
 
-case-is : (n : ℕ) (s : Sentence) (c : Places) → 2 ≤ n → MayPick n s.any s.other c → HasClauses s
+case-is : (n : ℕ) (s : Parts) (c : Places) → 2 ≤ n → MayPick n s.any s.other c → HasClauses s
     → (s.any ≢ None) ⊎ (s.all ≢ None) → IsCase n (case_of n s c)
 case-is n s c size may h some = record {
   some = has-line n s c size may some;
@@ -144,7 +145,7 @@ choices-some n Two size =
     let c = among-two n 0 1 (omega (arith, size)) (omega (arith, size)) (λ e. cc) in omega (arith, c.1)
 choices-some n Alike size = let c = among-alike n 0 1 (omega arith) (omega (arith, size)) in omega (arith, c.1)
 
-pub asked_is : (n : ℕ) (text : List ℕ) (s : Sentence) (picks : Picks) → IsRingSize n → IsSentenceText text s
+pub asked_is : (n : ℕ) (text : List ℕ) (s : Parts) (picks : Picks) → IsRingSize n → IsTextOfParts text s
     → HasClauses s
     → PicksOf s.any s.other picks → length (choices n picks) ≤ MAX_CASES → IsQuestion (asked n s picks)
 asked_is n text s picks size is clauses of few =
@@ -162,9 +163,11 @@ asked_is n text s picks size is clauses of few =
 
 pub question_has_text : (n : ℕ) (text : List ℕ) (q : QuestionCases) → IsRingSize n → IsAsked n text q
     → IsQuestionText (question_text q) q
-question_has_text n text q size h =
+question_has_text n text q size (asks_parts h) =
     (one_text (question_text q) q).1 (
       subst IsQuestion (sym h.is) (asked_is n text h.sentence h.picks size h.text_is h.clauses h.picks_are h.few),
       h.short,
       refl,
     )
+question_has_text n text q size (asks_node p f short is low e) =
+    subst (λ x. IsQuestionText (question_text x) x) (sym e) (node_has_text n p f text size short is low)

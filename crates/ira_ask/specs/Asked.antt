@@ -8,7 +8,7 @@ use Rattle.ira_pred.specs.Question.{QuestionCases}
 use Rattle.ira_ask.specs.declared.picks.Picks.{Picks}
 use Rattle.ira_ask.specs.declared.places.Places.{Places}
 use Rattle.ira_ask.specs.Choices.{choices}
-use Rattle.ira_ask.specs.Sentence.{Sentence}
+use Rattle.ira_ask.specs.Sentence.{Parts}
 
 -- both, where both are asked, else the one that is
 abbrev pub together : Option Formula → Option Formula → Option Formula
@@ -21,11 +21,11 @@ is_place None p = false
 is_place (Some i) p = i == p
 
 -- what is asked of the node at the place alone
-abbrev pub own : Sentence → Places → ℕ → Option Formula
+abbrev pub own : Parts → Places → ℕ → Option Formula
 own s picked p = if is_place picked.any p then s.any else if is_place picked.other p then s.other else s.each_other
 
 -- what is asked of it, with what is asked of all
-abbrev pub wanted : Sentence → Places → ℕ → Option Formula
+abbrev pub wanted : Parts → Places → ℕ → Option Formula
 wanted s picked p = together (own s picked p) s.all
 
 -- a line for the place, if something is asked of it
@@ -34,9 +34,13 @@ placed p None = []
 placed p (Some f) = record { place = p; formula = f } ∷ []
 
 -- the case of these places in a ring of n nodes
-abbrev pub case_of : ℕ → Sentence → Places → List Conjunct
+abbrev pub case_of : ℕ → Parts → Places → List Conjunct
 case_of n s picked = flat_map (λ p. placed p (wanted s picked p)) (numbers_from 0 n)
 
 -- the question: a case for each way to pick nodes
-abbrev pub asked : ℕ → Sentence → Picks → QuestionCases
+abbrev pub asked : ℕ → Parts → Picks → QuestionCases
 asked n s picks = record { nodes = n; cases = map (case_of n s) (choices n picks) }
+
+-- the question on the node at place p alone
+abbrev pub asked_at : ℕ → ℕ → Formula → QuestionCases
+asked_at n p f = record { nodes = n; cases = (record { place = p; formula = f } ∷ []) ∷ [] }

@@ -4,6 +4,7 @@ use Rattle.std.specs.Prelude.{Result, Ok, Err}
 use Rattle.std.specs.Borrow.{Bor}
 use Rattle.std.specs.List.{list_any}
 use Rattle.std.specs.Option.{option_map}
+use Rattle.ira_event.specs.Scan.{◌>>=◌, after_word, kept_at}
 use Rattle.ira_pred.specs.Formula.{Formula}
 use Rattle.ira_pred.specs.QuestionText.{clause_text}
 use Rattle.ira_ask.specs.declared.sentence.Sentence.{Sentence as Spelled}
@@ -14,9 +15,13 @@ use Rattle.ira_ask.specs.declared.sentence_part.SentencePart.TheVariants.{All}
 use Rattle.ira_ask.specs.declared.picks.Picks.{Picks}
 use Rattle.ira_ask.specs.Asked.{together}
 use Rattle.ira_ask.specs.Choices.{PicksOf}
-use Rattle.ira_ask.specs.Sentence.{Sentence}
-use Rattle.ira_ask.specs.SentenceText.{ArePartsOfSentence, BeginsWith, HasWord, IsClause, IsSentenceText, MayBeClause}
+use Rattle.ira_ask.specs.Sentence.{Parts}
+use Rattle.ira_ask.specs.SentenceText.{ArePartsOfSentence, BeginsWith, HasWord, IsClause, IsTextOfParts, MayBeClause}
 use Rattle.ira_ask.specs.SentenceText.{MayFollow, StopsAt, part_text, sentence_text, word_of}
+
+-- the place in front, with the space after it, and what follows them
+abbrev pub place_at : List ℕ → Option (ℕ × List ℕ)
+place_at text = kept_at text >>= (λ n. option_map (λ r. (n.0, r)) (after_word (codes " ") n.1))
 
 -- the text is that of a clause
 abbrev pub IsClauseText : List ℕ → Type 0
@@ -83,7 +88,7 @@ pub record AreShort (spelled : Spelled) : Type 0 where
 
 -- the text begins with these parts, what is left follows them, and of what may follow only a part with `all` may
 pub record HasRead (text : List ℕ) (left any other each_other : Option (List ℕ)) : Type 0 where
-  pub sentence : Sentence
+  pub sentence : Parts
   pub any_is : Spells any sentence.any
   pub other_is : Spells other sentence.other
   pub each_other_is : Spells each_other sentence.each_other
@@ -97,7 +102,7 @@ pub record HasRead (text : List ℕ) (left any other each_other : Option (List �
   pub last : (part : SentencePart) → MayFollow sentence part → Comes part left → part ≡ All
 
 -- these are the clauses of the sentence
-pub record AreSpelled (spelled : Spelled) (s : Sentence) : Type 0 where
+pub record AreSpelled (spelled : Spelled) (s : Parts) : Type 0 where
   pub any : Spells (texts spelled.any) s.any
   pub other : Spells (texts spelled.other) s.other
   pub each_other : Spells (texts spelled.each_other) s.each_other
@@ -105,11 +110,11 @@ pub record AreSpelled (spelled : Spelled) (s : Sentence) : Type 0 where
 
 -- so many nodes are picked by these clauses
 abbrev pub Picked : Spelled → Picks → Type 0
-Picked spelled picks = (s : Sentence) → AreSpelled spelled s → ArePartsOfSentence s → PicksOf s.any s.other picks
+Picked spelled picks = (s : Parts) → AreSpelled spelled s → ArePartsOfSentence s → PicksOf s.any s.other picks
 
 -- the text was read, or where it stops, or memory ran out
 abbrev pub Reads : List ℕ → Result Spelled SentenceFault → Type 0
-Reads text (Ok spelled) = (s : Sentence) × IsSentenceText text s × AreSpelled spelled s × AreShort spelled
+Reads text (Ok spelled) = (s : Parts) × IsTextOfParts text s × AreSpelled spelled s × AreShort spelled
 Reads text (Err f) = (f ≡ OutOfMemory) ⊎ StopsAt text f
 
 -- the clause of both was made, where there is something to ask, or why not

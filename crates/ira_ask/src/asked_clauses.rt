@@ -4,7 +4,7 @@ ghost use Rattle.ira_pred.specs.QuestionText.{case_text};
 ghost use Rattle.ira_ask.specs.Asked.{case_of, wanted};
 ghost use Rattle.ira_ask.specs.AskedTexts.{AreAsked, AsksClauses};
 ghost use Rattle.ira_ask.specs.Reading.{AreShort, IsClauseText, Joins, JoinsBoth, Spells, texts, fits};
-ghost use Rattle.ira_ask.specs.Sentence.{Sentence as Said};
+ghost use Rattle.ira_ask.specs.Sentence.{Parts as Said};
 
 use crate::is_clause::is_clause;
 use crate::places::Places;
@@ -70,7 +70,7 @@ impl<A: Allocator + Clone> AskedClauses<A> {
 }
 
 /// Adds the line of a place.
-fn push_line<A: Allocator>(
+pub(crate) fn push_line<A: Allocator>(
     place: u8,
     clause: &[u8],
     text: &mut Vec<u8, A>,

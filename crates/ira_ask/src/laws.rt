@@ -1,5 +1,5 @@
 //! Laws over the definitions: each is the contract of a function that does nothing.
-ghost use Rattle.ira_ask.specs.Laws.{QuestionsMeanTheirSentences, QuestionsHaveTexts, NoTextIsTwoSentences, NoTextHasTwoQuestions, NoQuestionHasFaults, NoSentenceHasTwoFaults, NoSentenceIsOutOfMemory};
+ghost use Rattle.ira_ask.specs.Laws.{QuestionsMeanTheirSentences, QuestionsHaveTexts, NoTextIsTwoSentences};
 
 /// A cut meets a case of a sentence's question exactly where the sentence holds of it.
 pub fn questions_mean_their_sentences()
@@ -11,11 +11,7 @@ pub fn questions_have_texts()
     ensures { QuestionsHaveTexts }
 {}
 
-/// A text is of one sentence at the most, and has one question or one fault at the most, which isn't that memory ran out.
-pub fn a_sentence_has_one_answer()
-    ensures sentence { NoTextIsTwoSentences }
-    ensures question { NoTextHasTwoQuestions }
-    ensures question_or_fault { NoQuestionHasFaults }
-    ensures one_fault { NoSentenceHasTwoFaults }
-    ensures memory { NoSentenceIsOutOfMemory }
+/// A text is of one sentence at the most.
+pub fn no_text_is_two_sentences()
+    ensures { NoTextIsTwoSentences }
 {}

@@ -13,7 +13,7 @@ mod sentence;
 mod sentence_fault;
 mod sentence_part;
 
-pub use laws::{a_sentence_has_one_answer, questions_have_texts, questions_mean_their_sentences};
+pub use laws::{no_text_is_two_sentences, questions_have_texts, questions_mean_their_sentences};
 pub use limits::MAX_SENTENCE;
 pub use question::ask;
 pub use sentence_fault::SentenceFault;

@@ -1,6 +1,6 @@
 ghost use Rattle.std.specs.Prelude.{◌≡◌, ◌≤◌, ℕ, List, length};
 ghost use Rattle.ira_ask.specs.Reading.{AreSpelled, HasRead, Picked, Reads, fits, texts};
-ghost use Rattle.ira_ask.specs.Sentence.{Sentence as Said};
+ghost use Rattle.ira_ask.specs.Sentence.{Parts as Said};
 ghost use Rattle.ira_ask.specs.SentenceText.{last_part};
 
 use crate::parts::Parts;

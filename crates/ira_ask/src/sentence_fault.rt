@@ -18,6 +18,12 @@ pub enum SentenceFault {
     /// This part's word is followed by no clause, up to a comma and a space or the end.
     #[error("no clause")]
     NoClause(SentencePart),
+    /// The word `node` is followed by no place and clause.
+    #[error("no place and clause")]
+    NoNode,
+    /// The ring has no node of that place.
+    #[error("no such place")]
+    NoPlace,
     /// The clause of a node and that of all nodes are nested too deep together.
     #[error("too deep")]
     TooDeep,

@@ -116,13 +116,13 @@ one_found given a b h k = one_of_two (MakeNoCertificate h.0) (MakeNoCertificate 
     (make_none given.texts given.question.text h.0 k.0 h.1 k.1)
     (make_none given.texts given.question.text k.0 h.0 k.1 h.1) h.2 k.2
 
-decided : {A : Type 0} (form : Form) (certify : Bool) (findings : Findings A) (reply : Reply)
-    → PrintsDecided form certify findings reply → IsFindingsStatus findings (counted reply)
-decided form certify findings reply (no_certificate none told) = inl (none, ap counted told.2)
-decided form certify findings reply (absent plain some told) = inr (some, ap counted told.2)
-decided form certify findings reply (certified wanted c text of is lines e) =
+decided : {A : Type 0} (form : Form) (is_brief certify : Bool) (findings : Findings A) (reply : Reply)
+    → PrintsDecided form is_brief certify findings reply → IsFindingsStatus findings (counted reply)
+decided form is_brief certify findings reply (no_certificate none told) = inl (none, ap counted told.2)
+decided form is_brief certify findings reply (absent plain some told) = inr (some, ap counted told.2)
+decided form is_brief certify findings reply (certified wanted c text of is lines e) =
     inr (made_or_none findings c of, ap counted e)
-decided form certify findings reply (past_limits wanted c text of past lines e) =
+decided form is_brief certify findings reply (past_limits wanted c text of past lines e) =
     inr (made_or_none findings c of, ap counted e)
 
 asked_findings : (A : Type 0) (form : Form) (case : Option ℕ) (given : Given) (reply : Reply)
@@ -162,9 +162,9 @@ one_status A B (asks.Explain form) given a b apart h k =
 one_status A B (asks.ExplainExpected form expected) given a b apart h k =
     one_judged given.texts expected a b (explained_met given.texts form a A expected h.0 h.1.texts_are h.2)
     (explained_met given.texts form b B expected k.0 k.1.texts_are k.2)
-one_status A B (asks.Decide form certify) given a b apart h k =
-    one_found {A = A} {B = B} given a b (h.findings, h.found, decided form certify h.findings a h.told)
-    (k.findings, k.found, decided form certify k.findings b k.told)
+one_status A B (asks.Decide form is_brief certify) given a b apart h k =
+    one_found {A = A} {B = B} given a b (h.findings, h.found, decided form is_brief certify h.findings a h.told)
+    (k.findings, k.found, decided form is_brief certify k.findings b k.told)
 one_status A B (asks.ExplainQuestion form case) given a b apart h k =
     one_found {A = A} {B = B} given a b (asked_findings A form case given a h) (asked_findings B form case given b k)
 one_status A B (asks.Check form) given a b apart h k =

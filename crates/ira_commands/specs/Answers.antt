@@ -29,8 +29,8 @@ Answers A (Explain form) given reply =
     (files : List NamedText) × AreFiles given.names given.texts files × ExplainsAll A form files reply
 Answers A (ExplainExpected form expected) given reply =
     (files : List NamedText) × AreFiles given.names given.texts files × ExplainsExpected A form expected files reply
-Answers A (Decide form certify) given reply =
-    DecidesTexts {A = A} (PrintsDecided form certify) given.question.text given.texts reply
+Answers A (Decide form is_brief certify) given reply =
+    DecidesTexts {A = A} (PrintsDecided form is_brief certify) given.question.text given.texts reply
 Answers A (ExplainQuestion form case) given reply = (asked : AskedFiles) × AreAsked given asked
     × DecidesTexts {A = A} (ExplainsFindings form case asked) asked.question.now.text.now (texts_of asked.logs.now) reply
 Answers A (Check form) given reply =

@@ -9,6 +9,16 @@ use Rattle.ira_commands.specs.Reply.{Reply, printed, refused}
 use Rattle.ira_commands.specs.declared.command_fault.CommandFault.TheVariants.{NoSentence, RingSize}
 use Rattle.ira_view.specs.declared.status.Status.TheVariants.{Yes}
 
+-- the text is that of the question of the sentence, where a ring has so many nodes
+abbrev pub IsAskedText : ℕ → List ℕ → List ℕ → Type 0
+IsAskedText nodes sentence text = IsRingSize nodes
+    → (question : QuestionCases) × IsAsked nodes sentence question × (text ≡ question_text question)
+
+-- the sentence has no question, and is refused for that
+abbrev pub RefusesSentence : ℕ → List ℕ → Reply → Type 0
+RefusesSentence nodes sentence reply =
+    (fault : SentenceFault) × IsSentenceFault nodes sentence fault × (reply ≡ refused (NoSentence fault))
+
 -- the question of the sentence for a ring of so many nodes is printed; or the text has none; or no ring has so many
 pub data AsksSentence (nodes : ℕ) (sentence : List ℕ) (reply : Reply) : Type 0 where
   asked : IsRingSize nodes → (question : QuestionCases) → IsAsked nodes sentence question

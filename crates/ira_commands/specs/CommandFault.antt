@@ -14,7 +14,7 @@ use Rattle.ira_commands.specs.declared.command_fault.CommandFault.TheVariants.{N
 
 -- what may stand after a part of a sentence, or at its beginning
 abbrev pub due_after : Option SentencePart → List ℕ
-due_after None = codes "a sentence begins with `any CLAUSE` or `all CLAUSE`"
+due_after None = codes "a sentence begins with `any CLAUSE`, `all CLAUSE` or `node P CLAUSE`"
 due_after (Some of_sentence.Any) =
     codes "after `any CLAUSE` may stand `, other CLAUSE`, `, each other CLAUSE` or `, all CLAUSE`"
 due_after (Some of_sentence.Other) = codes "after `other CLAUSE` may stand `, each other CLAUSE` or `, all CLAUSE`"
@@ -28,6 +28,9 @@ sentence_fault_text (sentence.NoPart last) = codes "ira: " ++ due_after last ++ 
 sentence_fault_text (sentence.NoClause part) =
     codes "ira: after `" ++ word_of part
     ++ codes "` a clause is due, as `leader` or `(active and round > 1)`; see `ira guide questions`\n"
+sentence_fault_text sentence.NoNode =
+    codes "ira: after `node ` a place and a clause are due, as `node 3 leader`; see `ira guide questions`\n"
+sentence_fault_text sentence.NoPlace = codes "ira: SENTENCE names a node that the ring has not\n"
 sentence_fault_text sentence.TooDeep = codes "ira: with that of all nodes a clause is nested deeper than 32\n"
 sentence_fault_text sentence.ManyCases = codes "ira: a question has at most 32,385 cases\n"
 sentence_fault_text sentence.LongQuestion = codes "ira: a question has at most 64 MiB\n"

@@ -5,6 +5,7 @@ pub mod Begun
 pub mod Check
 pub mod CommandFault
 pub mod Decide
+pub mod DecidedLine
 pub mod Expected
 pub mod Explain
 pub mod ExplainExpected

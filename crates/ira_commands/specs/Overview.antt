@@ -22,7 +22,7 @@ use Rattle.ira_commands.specs.declared.ring_moment.RingMoment.{RingMoment}
 
 -- what is found for a question, with its certificate, and why; and the answer of a certificate, and why
 abbrev pub found_commands : List LogsCommand
-found_commands = Decide Words true ∷ ExplainQuestion Words None ∷ []
+found_commands = Decide Words false true ∷ ExplainQuestion Words None ∷ []
 
 abbrev pub check_commands : List LogsCommand
 check_commands = Check Words ∷ ExplainCheck Words ∷ []

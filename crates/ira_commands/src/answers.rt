@@ -9,9 +9,8 @@ use crate::check::check_alone;
 use crate::decide::decide_asked;
 use crate::expected::answer_expected;
 use crate::explain::explain_all;
-use crate::explain_check::explain_check_alone;
 use crate::explain_expected::explain_expected;
-use crate::explain_question::explain_asked;
+use crate::explain_question::{explain_asked, explain_certificate};
 use crate::given_files::GivenFiles;
 use crate::logs::answer_logs;
 use crate::logs_command::LogsCommand;
@@ -48,9 +47,11 @@ pub fn answer<A: Allocator + Clone>(
         LogsCommand::ExplainExpected { form, expected } => {
             explain_expected(alloc, form, expected, logs, &judged)
         }
-        LogsCommand::Decide { form, certify } => {
-            decide_asked(alloc, form, certify, question.text, &judged)
-        }
+        LogsCommand::Decide {
+            form,
+            is_brief,
+            certify,
+        } => decide_asked(alloc, form, is_brief, certify, question.text, &judged),
         LogsCommand::ExplainQuestion { form, case } => {
             let asked = AskedFiles {
                 logs,
@@ -66,7 +67,7 @@ pub fn answer<A: Allocator + Clone>(
                 logs,
                 question: &question,
             };
-            explain_check_alone(alloc, form, asked, &certificate, &judged)
+            explain_certificate(alloc, form, asked, &certificate, &judged)
         }
         LogsCommand::Show(form, moment) => {
             let told = told_in_page(alloc.clone()?, form, logs, &judged)?;

@@ -1,5 +1,5 @@
-ghost use Rattle.std.specs.Prelude.{IfOk};
-ghost use Rattle.ira_commands.specs.Ask.{AsksSentence};
+ghost use Rattle.std.specs.Prelude.{IfOk, MatchResult};
+ghost use Rattle.ira_commands.specs.Ask.{AsksSentence, IsAskedText, RefusesSentence};
 
 use crate::command_fault::CommandFault;
 use crate::reply::Reply;
@@ -9,6 +9,29 @@ use ira_ring::ring_size;
 use ira_view::Status;
 use std::alloc::Allocator;
 
+/// The text of the question that a sentence stands for, of a ring of so many nodes; any text where none has so many. Or what
+/// comes of asking for it is that it is refused.
+pub fn asked_text<A: Allocator + Clone>(
+    alloc: A,
+    nodes: u64,
+    sentence: &[u8],
+) -> Result<Result<Vec<u8, A>, Reply<A>>, OutOfMemory>
+    ensures { IfOk result (λ asked. MatchResult asked
+        (λ text. IsAskedText nodes sentence.now text.items)
+        (RefusesSentence nodes sentence.now)) }
+{
+    let Some(nodes) = ring_size(nodes) else {
+        return Ok(Ok(Vec::new(alloc)));
+    };
+    match ask(alloc.clone()?, nodes, sentence) {
+        Ok(text) => Ok(Ok(text)),
+        Err(fault) => match fault {
+            SentenceFault::OutOfMemory => Err(OutOfMemory),
+            _ => Ok(Err(Reply::refused(alloc, CommandFault::NoSentence(fault)))),
+        },
+    }
+}
+
 /// The question that a sentence stands for, of a ring of so many nodes.
 pub fn ask_sentence<A: Allocator + Clone>(
     alloc: A,
@@ -17,10 +40,10 @@ pub fn ask_sentence<A: Allocator + Clone>(
 ) -> Result<Reply<A>, OutOfMemory>
     ensures { IfOk result (AsksSentence nodes sentence.now) }
 {
-    let Some(nodes) = ring_size(nodes) else {
+    if ring_size(nodes).is_none() {
         return Ok(Reply::refused(alloc, CommandFault::RingSize));
-    };
-    match ask(alloc.clone()?, nodes, sentence) {
+    }
+    match asked_text(alloc.clone()?, nodes, sentence)? {
         Ok(question) => {
             let mut text = MemorySink::new(alloc);
             let Ok(()) = write_bytes(&question, &mut text) else {
@@ -28,9 +51,6 @@ pub fn ask_sentence<A: Allocator + Clone>(
             };
             Ok(Reply::printed(Status::Yes, text))
         }
-        Err(fault) => match fault {
-            SentenceFault::OutOfMemory => Err(OutOfMemory),
-            _ => Ok(Reply::refused(alloc, CommandFault::NoSentence(fault))),
-        },
+        Err(refused) => Ok(refused),
     }
 }

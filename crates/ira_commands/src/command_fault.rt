@@ -38,7 +38,7 @@ fn due_after(part: Option<SentencePart>) -> &'static [u8]
     ensures short { length result.now ≤ 90 }
 {
     match part {
-        None => b"a sentence begins with `any CLAUSE` or `all CLAUSE`",
+        None => b"a sentence begins with `any CLAUSE`, `all CLAUSE` or `node P CLAUSE`",
         Some(part) => match part {
             SentencePart::Any => {
                 b"after `any CLAUSE` may stand `, other CLAUSE`, `, each other CLAUSE` or `, all CLAUSE`"
@@ -84,6 +84,15 @@ fn write_sentence_fault<W: Sink>(fault: SentenceFault, err: &mut W) -> Result<()
         SentenceFault::TooLong => write_bytes(b"ira: a sentence has at most 65,536 bytes\n", err),
         SentenceFault::NoPart(last) => part_line(last).write(err),
         SentenceFault::NoClause(part) => clause_line(part).write(err),
+        SentenceFault::NoNode => {
+            write_bytes(
+                b"ira: after `node ` a place and a clause are due, as `node 3 leader`; see `ira guide questions`\n",
+                err,
+            )
+        }
+        SentenceFault::NoPlace => {
+            write_bytes(b"ira: SENTENCE names a node that the ring has not\n", err)
+        }
         SentenceFault::TooDeep => {
             write_bytes(
                 b"ira: with that of all nodes a clause is nested deeper than 32\n",

@@ -21,7 +21,7 @@ use std::alloc::Allocator;
 const HEADING: &[u8] = b"\nWhat is left, as far as it fits together:\n\n";
 
 /// An answer, and why it is so, in words or as JSON, with how the election stands where that is known.
-pub fn tell_view<'v, A: Allocator + Clone>(
+pub(crate) fn tell_view<'v, A: Allocator + Clone>(
     alloc: A,
     form: Form,
     view: &'v View<A>,

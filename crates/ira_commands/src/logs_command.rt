@@ -10,21 +10,42 @@ use ira_view::Form;
 #[derive(Clone, Copy)]
 pub enum LogsCommand<'v> {
     /// Their answer.
-    Answer { form: Form },
+    Answer {
+        form: Form,
+    },
     /// The same, and after a yes whether their election is as expected.
-    Expect { form: Form, expected: Expected<'v> },
+    Expect {
+        form: Form,
+        expected: Expected<'v>,
+    },
     /// Their answer, and why it is so.
-    Explain { form: Form },
+    Explain {
+        form: Form,
+    },
     /// The same, and after a yes whether their election is as expected.
-    ExplainExpected { form: Form, expected: Expected<'v> },
-    /// What is found for a question about them, and its certificate where that is wanted.
-    Decide { form: Form, certify: bool },
+    ExplainExpected {
+        form: Form,
+        expected: Expected<'v>,
+    },
+    /// What is found for a question about them, for each case or in one line, and its certificate where that is wanted.
+    Decide {
+        form: Form,
+        is_brief: bool,
+        certify: bool,
+    },
     /// What is found, and why it is so: for the case of a number, counted from 0, or for the first ones.
-    ExplainQuestion { form: Form, case: Option<u64> },
+    ExplainQuestion {
+        form: Form,
+        case: Option<u64>,
+    },
     /// The answer of them, of a question and of a certificate.
-    Check { form: Form },
+    Check {
+        form: Form,
+    },
     /// The same, and why it is so.
-    ExplainCheck { form: Form },
+    ExplainCheck {
+        form: Form,
+    },
     /// Their ring at a moment.
     Show(RingForm<'v>, RingMoment<'v>),
 }

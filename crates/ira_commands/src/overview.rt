@@ -8,8 +8,7 @@ ghost use Rattle.ira_commands.specs.Overview.{overview_commands, question_comman
 use crate::check::check_alone;
 use crate::decide::decide_asked;
 use crate::explain::explain_all;
-use crate::explain_check::explain_check_alone;
-use crate::explain_question::explain_asked;
+use crate::explain_question::{explain_asked, explain_certificate};
 use crate::logs::answer_logs;
 use crate::reply::Reply;
 use crate::ring_moment::RingMoment;
@@ -52,7 +51,7 @@ fn tell_found<A: Allocator + Clone>(
         AreAnswers A found_commands (given_in files.entry certificate) (told.0 ∷ told.1 ∷ [])) }
 {
     let text = files.question.text;
-    let decided = decide_asked(alloc.clone()?, Form::Words, true, text, judged)?;
+    let decided = decide_asked(alloc.clone()?, Form::Words, false, true, text, judged)?;
     Ok((
         decided,
         explain_asked(alloc, Form::Words, None, files, judged)?,
@@ -74,7 +73,7 @@ fn tell_certificate<A: Allocator + Clone>(
     let checked = check_alone(alloc.clone()?, Form::Words, text, certificate.text, judged)?;
     Ok((
         checked,
-        explain_check_alone(alloc, Form::Words, files, certificate, judged)?,
+        explain_certificate(alloc, Form::Words, files, certificate, judged)?,
     ))
 }
 

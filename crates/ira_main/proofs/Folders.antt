@@ -4,14 +4,14 @@ use Rattle.std.proofs.Common.{◌≤◌, Err, Ok, Result, append-nil, append_ass
 use Rattle.std.proofs.Math.Seq.{take-add}
 use Rattle.std.proofs.lemmas.List.{length-take, take_all, take_more}
 use Rattle.std.specs.Borrow.{Bor}
-use Rattle.std.specs.List.{AllZip}
-use Rattle.std.specs.Prelude.{IfOk, slice_get, slice_index_or}
+use Rattle.std.specs.List.{AllZip, filter_map}
+use Rattle.std.specs.Prelude.{⊤, IfOk, slice_get, slice_index_or}
 use Rattle.ira_event.proofs.Writing.{Appends-nothing, Takes-StopsIn}
 use Rattle.ira_event.specs.Sink.{SinkState, Takes}
 use Rattle.ira_audit.specs.Report.{IsReportable}
 use Rattle.ira_commands.specs.declared.expected.Expected.{Expected}
-use Rattle.ira_main.specs.Each.{AreTold, FolderTelling, IsBelow, IsExplained, IsUntold, TellsEach}
-use Rattle.ira_main.specs.Each.TellsEach.{no_memory, stopped}
+use Rattle.ira_main.specs.Each.{AreTold, FolderTelling, IsBelow, IsExplained, IsUntold, Summing, TellsEach}
+use Rattle.ira_main.specs.Each.TellsEach.{no_memory, stopped, stopped_summing}
 use Rattle.ira_main.specs.Judge.{asked_of, has_reasons}
 use Rattle.ira_main_cli.specs.declared.folder_detail.FolderDetail.{FolderDetail}
 use Rattle.ira_main_cli.specs.declared.folder_detail.FolderDetail.TheVariants.{Line, Reasons}
@@ -19,10 +19,12 @@ use Rattle.ira_main.specs.JudgedFolder.{IsJudgedOf}
 use Rattle.ira_main.specs.JudgedFolder.IsJudgedOf.{good, no}
 use Rattle.ira_main.specs.Outcome.{Outcome}
 use Rattle.ira_main.specs.ProgramFault.{show_fault}
+use Rattle.ira_view.specs.ViewText.{WroteText}
+use Rattle.ira_view_json.specs.declared.run_features.RunFeatures.{RunFeatures}
 use Rattle.ira_view.specs.declared.form.Form.{Form}
 use Rattle.ira_view_page.specs.declared.show_fault.ShowFault.{ShowFault}
 use Rattle.ira_view_page.specs.declared.show_fault.ShowFault.TheVariants.{OutOfMemory, WrongColumns, Write}
-use Rattle.ira_main.specs.FolderText.{FolderAnswer}
+use Rattle.ira_main.specs.FolderText.{FolderAnswer, features_of}
 use Rattle.ira_main.specs.declared.judged_folder.JudgedFolder.{JudgedFolder}
 
 -- what came of the first
@@ -116,21 +118,33 @@ module _ (Told : FolderTelling) (folders : List (Bor (List ℕ))) (answers : Lis
       subst (λ (fs : List (Bor (List ℕ))). AreTold Told fs answers text) whole are
 
   -- the output stopped within the next ones, or there was no memory for them
-  pub stops_next : {A : Type 0} (size here : ℕ) (some : List (Bor (List ℕ)))
+  pub stops_next : {A : Type 0} {Sums : Summing} (size here : ℕ) (some : List (Bor (List ℕ)))
       (out out' out'' : SinkState) (f : ShowFault) (outcome : Outcome A) → here ≡ length answers → length answers < length folders
       → some ≡ take size (drop here folders) → Takes text out out' → IsUntold Told some out' out'' f
-      → outcome ≡ Err (show_fault f) → TellsEach Told folders out out'' outcome
-  stops_next size here some out out' out'' f outcome same few are_some took stops is =
+      → outcome ≡ Err (show_fault f) → TellsEach Told Sums folders out out'' outcome
+  stops_next {Sums = Sums} size here some out out' out'' f outcome same few are_some took stops is =
       stops_by f (subst (λ (fs : List (Bor (List ℕ))). IsUntold Told fs out' out'' f)
       (are_some ∙ ap (λ (n : ℕ). take size (drop n folders)) same) stops) is
     where
       stops_by : (f : ShowFault) → IsUntold Told (take size (drop (length answers) folders)) out' out'' f
-          → outcome ≡ Err (show_fault f) → TellsEach Told folders out out'' outcome
+          → outcome ≡ Err (show_fault f) → TellsEach Told Sums folders out out'' outcome
       stops_by Write stops is =
           stopped (first + size) (answers ++ stops.0) (text ++ stops.1) (told_next size stops.0 stops.1 few stops.2)
           (Takes-StopsIn _ _ _ _ _ took stops.3) is
       stops_by OutOfMemory same is = no_memory first answers text are (subst (Takes text out) (sym same) took) is
       stops_by WrongColumns stops is = absurd stops
+
+  -- the output stopped within the sum, or there was no memory for it
+  pub stops_summing : {A : Type 0} {Sums : Summing} (runs : List RunFeatures) (out out' out'' : SinkState) (f : ShowFault)
+      (outcome : Outcome A) → runs ≡ filter_map features_of answers → length folders ≤ length answers → Takes text out out'
+      → WroteText {T = ⊤} (Sums runs) (Err f) out' out'' → outcome ≡ Err (show_fault f)
+      → TellsEach Told Sums folders out out'' outcome
+  stops_summing {Sums = Sums} runs out out' out'' Write outcome are_runs all took stops is =
+      stopped_summing answers text stops.0 (told_whole all)
+      (subst (λ (those : List RunFeatures). Sums those stops.0) are_runs stops.1) (Takes-StopsIn _ _ _ _ _ took stops.2) is
+  stops_summing runs out out' out'' OutOfMemory outcome are_runs all took same is =
+      no_memory first answers text are (subst (Takes text out) (sym same) took) is
+  stops_summing runs out out' out'' WrongColumns outcome are_runs all took stops is = absurd stops
 
   -- as many more as there is room for
   pub more_told : (size : ℕ) (more : List FolderAnswer) (rest : List ℕ)
@@ -139,11 +153,11 @@ module _ (Told : FolderTelling) (folders : List (Bor (List ℕ))) (answers : Lis
   more_told size more rest is = told_many Told _ _ _ is ∙ length-take size (drop (length answers) folders)
 
 -- an answer that was given can be told
-pub judged_tellable : (expected : Expected) (texts : List (List ℕ)) (judged : JudgedFolder)
-    → IsJudgedOf expected texts judged → IsReportable judged.answer
-judged_tellable expected texts judged (good logs unmet are runs is same) =
+pub judged_tellable : (expected : Expected) (is_summed : Bool) (texts : List (List ℕ)) (judged : JudgedFolder)
+    → IsJudgedOf expected is_summed texts judged → IsReportable judged.answer
+judged_tellable expected is_summed texts judged (good logs unmet features are runs is had same) =
     subst (λ (j : JudgedFolder). IsReportable j.answer) (sym same) tt
-judged_tellable expected texts judged (no reason is same) =
+judged_tellable expected is_summed texts judged (no reason is same) =
     subst (λ (j : JudgedFolder). IsReportable j.answer) (sym same) is.1
 
 -- nothing stands below the line of a folder where no reasons are due

@@ -2,7 +2,6 @@ pub mod Delivering
 pub mod FilesRead
 pub mod Folders
 pub mod GivenFiles
-pub mod InputAudits
 pub mod LeftLogs
 pub mod LogFiles
 pub mod PartsAt

@@ -17,7 +17,7 @@ use Rattle.ira_main_cli.specs.declared.folder_detail.FolderDetail.TheVariants.{R
 use Rattle.ira_main_cli.specs.declared.log_source.LogSource.TheVariants.{Folder}
 use Rattle.ira_main_files.specs.Shelf.{Reading}
 use Rattle.ira_main.specs.FilesRead.{HasTakenFiles, ReadsFiles, Stops}
-use Rattle.ira_main.specs.FolderText.{FolderAnswer, IsFolderText, is_no}
+use Rattle.ira_main.specs.FolderText.{FolderAnswer, IsFolderText, features_of, is_no}
 use Rattle.ira_main.specs.Judge.{IsExpectedBy, asked_of, has_reasons}
 use Rattle.ira_main.specs.JudgedFolder.{IsJudgedOf}
 use Rattle.ira_main.specs.LeadersFile.{HasLeadersIn, IsNoLeaders}
@@ -28,8 +28,10 @@ use Rattle.ira_main.specs.declared.judged_folder.JudgedFolder.{JudgedFolder}
 use Rattle.ira_main.specs.declared.file_fault.FileFault.{FileFault}
 use Rattle.ira_main.specs.FileFault.{name_of}
 use Rattle.ira_main.specs.declared.program_fault.ProgramFault.TheVariants.{CannotReadSome, CannotWriteAnswer, OutOfMemory}
+use Rattle.ira_view_json.specs.declared.run_features.RunFeatures.{RunFeatures}
 use Rattle.ira_view_page.specs.declared.show_fault.ShowFault.{ShowFault}
 use Rattle.ira_view_page.specs.declared.show_fault.ShowFault.TheVariants as show
+use Rattle.ira_view.specs.ViewText.{IsSumText}
 use Rattle.ira_view.specs.declared.status.Status.{Status}
 use Rattle.ira_view.specs.declared.status.Status.TheVariants as status
 
@@ -64,12 +66,13 @@ IsBelow A form true true asked names texts why =
 IsBelow A form _ _ asked names texts why = why ≡ []
 
 -- the logs in a folder gave these texts, and are judged so: its line is printed, and what stands below it
-pub record TellsJudged (A : Type 0) (form : Form) (expected : Expectation) (detail : FolderDetail) (leaders : List ℕ)
-    (names texts : List (List ℕ)) (folder : List ℕ) (answer : FolderAnswer) (text : List ℕ) : Type 0 where
+pub record TellsJudged (A : Type 0) (form : Form) (expected : Expectation) (detail : FolderDetail) (is_summed : Bool)
+    (leaders : List ℕ) (names texts : List (List ℕ)) (folder : List ℕ) (answer : FolderAnswer) (text : List ℕ)
+    : Type 0 where
   pub asked : Expected
   pub asked_is : IsExpectedBy expected leaders asked
   pub judged : JudgedFolder
-  pub judged_is : IsJudgedOf asked texts judged
+  pub judged_is : IsJudgedOf asked is_summed texts judged
   pub answer_is : answer ≡ Ok judged
   pub line : List ℕ
   pub line_is : IsFolderText form folder answer line
@@ -102,36 +105,45 @@ IsEachOutcome answers (Ok s) = (unread_names answers ≡ []) × (s ≡ each_stat
 IsEachOutcome answers (Err (CannotReadSome names)) = (names.items ≡ unread_names answers) × (names.items ≢ [])
 IsEachOutcome answers (Err other) = ⊥
 
--- this was told of the folders in their order; or the output stopped within what is told of a first part of them, or
--- memory ran out after that was printed
-pub data TellsEach {A : Type 0} (Told : FolderTelling) (folders : List (Bor (List ℕ))) (out out' : SinkState) (outcome : Outcome A)
-    : Type 0 where
-  told : (answers : List FolderAnswer) (text : List ℕ) → AreTold Told folders answers text
-      → Takes text out out' → IsEachOutcome answers outcome → TellsEach Told folders out out' outcome
+-- such a text says how many of some runs had what
+abbrev pub Summing : Type 1
+Summing = List RunFeatures → List ℕ → Type 0
+
+-- this was told of the folders in their order, and such a sum of their runs after it; or the output stopped within these, or
+-- within what is told of a first part of the folders, or memory ran out after that was printed
+pub data TellsEach {A : Type 0} (Told : FolderTelling) (Sums : Summing) (folders : List (Bor (List ℕ))) (out out' : SinkState)
+    (outcome : Outcome A) : Type 0 where
+  told : (answers : List FolderAnswer) (text sum : List ℕ) → AreTold Told folders answers text
+      → Sums (filter_map features_of answers) sum → Takes (text ++ sum) out out' → IsEachOutcome answers outcome
+      → TellsEach Told Sums folders out out' outcome
+  stopped_summing : (answers : List FolderAnswer) (text sum : List ℕ) → AreTold Told folders answers text
+      → Sums (filter_map features_of answers) sum → StopsIn (text ++ sum) out out'
+      → outcome ≡ Err CannotWriteAnswer → TellsEach Told Sums folders out out' outcome
   stopped : (first : ℕ) (answers : List FolderAnswer) (text : List ℕ)
       → AreTold Told (take first folders) answers text → StopsIn text out out'
-      → outcome ≡ Err CannotWriteAnswer → TellsEach Told folders out out' outcome
+      → outcome ≡ Err CannotWriteAnswer → TellsEach Told Sums folders out out' outcome
   no_memory : (first : ℕ) (answers : List FolderAnswer) (text : List ℕ)
       → AreTold Told (take first folders) answers text → Takes text out out'
-      → outcome ≡ Err OutOfMemory → TellsEach Told folders out out' outcome
+      → outcome ≡ Err OutOfMemory → TellsEach Told Sums folders out out' outcome
 
 -- the file of leaders, if one is named, and those of a folder's logs were read, and the logs are judged; or a file can't be
 -- read, and the line of the folder says so
 pub data IsTold (A : Type 0) {S : Type 0} (reads : Reading S) (form : Form) (expected : Expectation) (detail : FolderDetail)
-    (shelf : S) (folder : Bor (List ℕ)) (answer : FolderAnswer) (text : List ℕ) : Type 0 where
+    (is_summed : Bool) (shelf : S) (folder : Bor (List ℕ)) (answer : FolderAnswer) (text : List ℕ) : Type 0 where
   judged : (leaders : List ℕ) (names texts : List (List ℕ))
       → HasLeadersIn reads shelf (Folder folder) expected.leaders leaders
       → HasNames reads shelf (Folder folder) names → ReadsFiles reads shelf names texts None
-      → TellsJudged A form expected detail leaders names texts folder.now answer text
-      → IsTold A reads form expected detail shelf folder answer text
+      → TellsJudged A form expected detail is_summed leaders names texts folder.now answer text
+      → IsTold A reads form expected detail is_summed shelf folder answer text
   unread : (fault : FileFault A) → IsFolderFault reads expected shelf folder fault → answer ≡ Err (name_of fault)
-      → IsFolderText form folder.now answer text → IsTold A reads form expected detail shelf folder answer text
+      → IsFolderText form folder.now answer text → IsTold A reads form expected detail is_summed shelf folder answer text
 
--- each of the folders was judged for itself, and this printed of it
-abbrev pub JudgesEach : (A : Type 0) → {S : Type 0} → Reading S → Form → Expectation → FolderDetail
+-- each of the folders was judged for itself, and this printed of it, and below all how many of their runs had what, where
+-- that is asked
+abbrev pub JudgesEach : (A : Type 0) → {S : Type 0} → Reading S → Form → Expectation → FolderDetail → Bool
     → List (Bor (List ℕ)) → S → SinkState → SinkState → Outcome A → Type 0
-JudgesEach A reads form expected detail folders shelf out out' outcome =
-    TellsEach (IsTold A reads form expected detail shelf) folders out out' outcome
+JudgesEach A reads form expected detail is_summed folders shelf out out' outcome =
+    TellsEach (IsTold A reads form expected detail is_summed shelf) (IsSumText is_summed form) folders out out' outcome
 
 -- ---- Helpers, no definitions.
 

@@ -1,10 +1,11 @@
 -- What is printed of a folder.
-use Rattle.std.specs.Prelude.{◌++◌, ℕ, Bool, List, Result, Ok, Err, Some, codes, false, true, ⊤}
+use Rattle.std.specs.Prelude.{◌++◌, ℕ, Bool, List, None, Option, Result, Ok, Err, Some, codes, false, true, ⊤}
 use Rattle.std.specs.Prelude.{◌≡◌}
 use Rattle.ira_audit.specs.Report.{IsReportable}
 use Rattle.ira_view_page.specs.Printable.{shown}
 use Rattle.ira_view_json.specs.FolderValue.{folder_answer_value, unread_value}
 use Rattle.ira_view_json.specs.Line.{IsLineOf}
+use Rattle.ira_view_json.specs.declared.run_features.RunFeatures.{RunFeatures}
 use Rattle.ira_view.specs.Status.{status_number}
 use Rattle.ira_view.specs.declared.form.Form.{Form}
 use Rattle.ira_view.specs.declared.form.Form.TheVariants.{Json, Words}
@@ -48,3 +49,8 @@ is_no_status other = false
 abbrev pub is_no : FolderAnswer → Bool
 is_no (Ok judged) = is_no_status (judged_status judged)
 is_no (Err name) = false
+
+-- what the run had, where that is asked
+abbrev pub features_of : FolderAnswer → Option RunFeatures
+features_of (Ok judged) = judged.features
+features_of (Err name) = None

@@ -1,5 +1,5 @@
 -- What the logs in a folder are judged to be, where something may be expected of their election.
-use Rattle.std.specs.Prelude.{◌≡◌, ℕ, List, MatchOption, None, Option, Some, codes}
+use Rattle.std.specs.Prelude.{◌≡◌, ℕ, Bool, List, MatchOption, None, Option, Some, codes}
 use Rattle.ira_event.specs.Log.{Log}
 use Rattle.ira_audit.specs.GoodLogs.{AreGoodLogs}
 use Rattle.ira_audit.specs.Refusal.{IsLogsReason}
@@ -12,9 +12,11 @@ use Rattle.ira_commands.specs.Expected.{IsMet, IsUnmet}
 use Rattle.ira_commands.specs.declared.expected.Expected.{Expected}
 use Rattle.ira_commands.specs.declared.expected.Unmet.{Unmet}
 use Rattle.ira_commands.specs.declared.expected.Unmet.TheVariants.{NoLeader, NotOver, OtherLeaders}
+use Rattle.ira_view.specs.RunFeatures.{AreFeatures}
 use Rattle.ira_view.specs.Status.{answer_status}
 use Rattle.ira_view.specs.declared.status.Status.{Status}
 use Rattle.ira_view.specs.declared.status.Status.TheVariants as status
+use Rattle.ira_view_json.specs.declared.run_features.RunFeatures.{RunFeatures}
 use Rattle.ira_main.specs.declared.judged_folder.JudgedFolder.{JudgedFolder}
 
 -- the status that goes with an answer, and with what isn't as expected
@@ -35,11 +37,12 @@ line_with answer (Some OtherLeaders) = codes "yes, other leaders\n"
 abbrev pub judged_line : JudgedFolder → List ℕ
 judged_line judged = line_with judged.answer judged.unmet
 
--- the texts of good logs, which are those of runs, are judged so: a yes, and where not all is as expected of their
--- election what isn't; or others, with the reason against them
-pub data IsJudgedOf (expected : Expected) (texts : List (List ℕ)) (judged : JudgedFolder) : Type 0 where
-  good : (logs : List Log) (unmet : Option Unmet) → AreGoodLogs texts logs → AreTextsOfRuns texts
-      → MatchOption unmet (IsMet logs expected) (IsUnmet logs expected)
-      → judged ≡ record { answer = Yes; unmet = unmet } → IsJudgedOf expected texts judged
-  no : (reason : Reason) → IsLogsReason texts reason → judged ≡ record { answer = No reason; unmet = None }
-      → IsJudgedOf expected texts judged
+-- the texts of good logs, which are those of runs, are judged so: a yes, where not all is as expected of their election
+-- what isn't, and where that is asked what their run had; or others, with the reason against them
+pub data IsJudgedOf (expected : Expected) (is_summed : Bool) (texts : List (List ℕ)) (judged : JudgedFolder) : Type 0 where
+  good : (logs : List Log) (unmet : Option Unmet) (features : Option RunFeatures) → AreGoodLogs texts logs
+      → AreTextsOfRuns texts → MatchOption unmet (IsMet logs expected) (IsUnmet logs expected)
+      → AreFeatures is_summed logs features → judged ≡ record { answer = Yes; unmet = unmet; features = features }
+      → IsJudgedOf expected is_summed texts judged
+  no : (reason : Reason) → IsLogsReason texts reason
+      → judged ≡ record { answer = No reason; unmet = None; features = None } → IsJudgedOf expected is_summed texts judged

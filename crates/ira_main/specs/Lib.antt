@@ -10,7 +10,6 @@ pub mod FilesRead
 pub mod FolderText
 pub mod Given
 pub mod Guide
-pub mod InputAudit
 pub mod Judge
 pub mod JudgedFolder
 pub mod LeadersFile

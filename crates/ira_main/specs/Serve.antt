@@ -1,5 +1,5 @@
 -- What the program does.
-use Rattle.std.specs.Prelude.{◌≡◌, ◌≢◌, ◌⊎◌, ℕ, ◌+◌, true, Err, List, [], None, Option, Some, codes}
+use Rattle.std.specs.Prelude.{◌≡◌, ◌≢◌, ◌⊎◌, ℕ, ◌+◌, Bool, false, not, true, Err, List, [], None, Option, Some, codes}
 use Rattle.std.specs.Borrow.{Bor}
 use Rattle.std.specs.Option.{is_some}
 use Rattle.ira_event.specs.Limits.{MAX_TEXT}
@@ -30,6 +30,8 @@ use Rattle.ira_main_cli.specs.declared.guide_topic.GuideTopic.{GuideTopic}
 use Rattle.ira_main_cli.specs.declared.log_source.LogSource.{LogSource}
 use Rattle.ira_main_cli.specs.declared.logs_request.LogsRequest.{LogsRequest}
 use Rattle.ira_main_cli.specs.declared.mend_request.MendRequest.{MendRequest}
+use Rattle.ira_main_cli.specs.declared.question_source.QuestionSource.{QuestionSource}
+use Rattle.ira_main_cli.specs.declared.question_source.QuestionSource.TheVariants.{File, Sentence}
 use Rattle.ira_main_cli.specs.declared.rewrite_request.RewriteRequest.{RewriteRequest}
 use Rattle.ira_main_cli.specs.declared.ask_request.AskRequest.{AskRequest}
 use Rattle.ira_main_cli.specs.declared.run_request.RunRequest.{RunRequest}
@@ -66,7 +68,7 @@ abbrev pub IsInputFault : {A : Type 0} → Reads → FileFault A → Type 0
 IsInputFault new fault = (new.has_failed ≡ true) × (new.is_over ≡ true) × (fault ≡ Unread (codes "-"))
 
 -- what comes of a command on files that are read is told
-abbrev pub TellsOfLogs : (A : Type 0) → {S : Type 0} → Reading S → Option (Bor (List ℕ)) → Option (Bor (List ℕ)) → LogSource → S
+abbrev pub TellsOfLogs : (A : Type 0) → {S : Type 0} → Reading S → Option QuestionSource → Option (Bor (List ℕ)) → LogSource → S
     → SinkState → SinkState → Outcome A → LogsCommand → Type 0
 TellsOfLogs A reads question certificate source shelf out out' outcome command =
     Tells (OfFiles reads None question certificate source shelf (Answers A command))
@@ -81,7 +83,7 @@ AnswersLogs A reads detail form expected source shelf out out' outcome =
     × Tells (JudgesFiles A reads detail form expected source shelf) (IsUnjudged reads expected source shelf) out out'
     outcome)
     ⊎ ((folders : List (Bor (List ℕ))) × AreSeveralFolders reads shelf source folders
-    × JudgesEach A reads form expected detail folders shelf out out' outcome)
+    × JudgesEach A reads form expected detail false folders shelf out out' outcome)
 
 -- the answer that is asked for was explained; that of one log is none of these, since it comes of the input
 abbrev pub ExplainsAnswer : (A : Type 0) → Form → {S : Type 0} → Reading S → ExplainedAnswer → S → SinkState → SinkState
@@ -93,6 +95,11 @@ ExplainsAnswer A form reads (Findings asked source) shelf out out' outcome =
     TellsOfLogs A reads (Some asked.question) None source shelf out out' outcome (ExplainQuestion form asked.case)
 ExplainsAnswer A form reads (Certificate question certificate source) shelf out out' outcome =
     TellsOfLogs A reads (Some question) (Some certificate) source shelf out out' outcome (ExplainCheck form)
+
+-- whether it is told in one line what was found: for a sentence, where no JSON is wanted
+abbrev pub is_brief : QuestionSource → Bool → Bool
+is_brief (File name) is_json = false
+is_brief (Sentence sentence) is_json = not is_json
 
 -- what is done for words: they are refused; or they ask for logs, or for the evidence of an answer, and their texts are
 -- judged together, or those of each of some folders, which may stand in place of files; or to show logs, and what happened
@@ -111,7 +118,8 @@ pub data CommandOutcome (A : Type 0) {S : Type 0} (reads : Reading S) (writes : 
       → AnswersLogs A reads Line (json_form logs.is_json) logs.expected logs.logs shelf out out' outcome
       → CommandOutcome A reads writes words shelf shelf' out out' outcome
   each : (asked : EachRequest) → IsEachLine words asked → shelf' ≡ shelf
-      → JudgesEach A reads (json_form asked.is_json) asked.expected asked.detail asked.folders.items shelf out out' outcome
+      → JudgesEach A reads (json_form asked.is_json) asked.expected asked.detail asked.is_summed asked.folders.items shelf out
+      out' outcome
       → CommandOutcome A reads writes words shelf shelf' out out' outcome
   explained : (explain : ExplainRequest) → IsExplainLine words explain → shelf' ≡ shelf
       → ExplainsAnswer A (json_form explain.is_json) reads explain.answer shelf out out' outcome
@@ -124,13 +132,13 @@ pub data CommandOutcome (A : Type 0) {S : Type 0} (reads : Reading S) (writes : 
       shelf shelf' out out' outcome
       → CommandOutcome A reads writes words shelf shelf' out out' outcome
   certified : (check : CheckRequest) → IsCheckLine words check → shelf' ≡ shelf
-      → TellsOfLogs A reads (Some check.question) (Some check.certificate) check.logs shelf out out' outcome
+      → TellsOfLogs A reads (Some (File check.question)) (Some check.certificate) check.logs shelf out out' outcome
       (Check (json_form check.is_json))
       → CommandOutcome A reads writes words shelf shelf' out out' outcome
   decided : (decide : DecideRequest) → IsDecideLine words decide
       → TellsAndKeeps writes decide.certificate
       (OfFiles reads decide.certificate (Some decide.question) None decide.logs shelf
-      (Answers A (Decide (json_form decide.is_json) (is_some decide.certificate))))
+      (Answers A (Decide (json_form decide.is_json) (is_brief decide.question decide.is_json) (is_some decide.certificate))))
       (IsUnread reads decide.certificate (Some decide.question) None decide.logs shelf)
       shelf shelf' out out' outcome
       → CommandOutcome A reads writes words shelf shelf' out out' outcome

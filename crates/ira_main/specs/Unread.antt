@@ -2,15 +2,20 @@
 use Rattle.std.specs.Prelude.{◌≡◌, ◌⊎◌, ◌==◌, ◌&&◌, ◌||◌, ℕ, Bool, true, false, not, List, [], ◌∷◌, None, Err, codes, if◌then◌else◌}
 use Rattle.std.specs.List.{ends_with}
 use Rattle.std.specs.Str.{bytes_eq}
+use Rattle.ira_ask.specs.declared.sentence_fault.SentenceFault.{SentenceFault}
 use Rattle.ira_event.specs.Sink.{SinkState, StopsIn, Takes}
+use Rattle.ira_commands.specs.declared.command_fault.CommandFault.TheVariants.{NoSentence}
 use Rattle.ira_main_files.specs.Shelf.{Reading}
 use Rattle.ira_main_files.specs.declared.file_entry.FileEntry.{FileEntry}
 use Rattle.ira_main_files.specs.declared.file_entry.FileEntry.TheVariants.{Folder, Missing}
 use Rattle.ira_view_json.specs.FolderValue.{unread_value}
 use Rattle.ira_view_json.specs.Line.{IsLineOf}
+use Rattle.ira_view_page.specs.Printable.{IsPrintable}
 use Rattle.ira_main.specs.Outcome.{Outcome}
-use Rattle.ira_main.specs.declared.program_fault.ProgramFault.TheVariants.{CannotWrite, CannotWriteLog, File}
+use Rattle.ira_main.specs.declared.program_fault.ProgramFault.TheVariants.{CannotWrite, CannotWriteLog, Command, File}
 use Rattle.ira_main.specs.declared.file_fault.FileFault.TheVariants.{Unread}
+use Rattle.ira_main.specs.declared.tell_why.Why.{Why}
+use Rattle.ira_main.specs.declared.tell_why.Why.TheVariants.{Line, Page}
 
 -- `--json` is one of the words, and `--` doesn't stand before it
 abbrev pub wants_json : List (List ℕ) → Bool
@@ -39,6 +44,11 @@ entry_text name _ = codes "  the system refuses to open or read it; `ls -l` says
 abbrev pub unwritten_why : List ℕ
 unwritten_why = codes "  it is a folder, its folder isn't there or can't be written in, or the disk is full\n"
 
+-- the text that is told
+abbrev pub why_text : {A : Type 0} → Why A → List ℕ
+why_text (Line line) = line.now
+why_text (Page page) = page
+
 -- the line after that of an outcome: of a file that wasn't read or written this, if one; of others none
 abbrev pub IsWhy : {A S : Type 0} → Reading S → S → Outcome A → List ℕ → Type 0
 IsWhy reads shelf (Err (File (Unread name))) line =
@@ -46,3 +56,9 @@ IsWhy reads shelf (Err (File (Unread name))) line =
 IsWhy reads shelf (Err (CannotWrite name)) line = line ≡ unwritten_why
 IsWhy reads shelf (Err (CannotWriteLog folder place)) line = line ≡ unwritten_why
 IsWhy reads shelf outcome line = line ≡ []
+
+-- what is told after the line of an outcome: that line, or of a refused sentence printable text
+abbrev pub IsTold : {A S : Type 0} → Reading S → S → Outcome A → List ℕ → Type 0
+IsTold reads shelf outcome text =
+    IsWhy reads shelf outcome text
+    ⊎ ((fault : SentenceFault) × (outcome ≡ Err (Command (NoSentence fault))) × IsPrintable text)

@@ -4,10 +4,10 @@ ghost use Rattle.ira_commands.specs.Answers.{Answers};
 ghost use Rattle.ira_commands.specs.Given.{file_of};
 ghost use Rattle.ira_commands.specs.LogsCommand.{needs_texts};
 ghost use Rattle.ira_main.specs.FilesRead.{Gives};
-ghost use Rattle.ira_main.specs.Given.{IsUnread, OfFiles, named_file};
+ghost use Rattle.ira_main.specs.Given.{IsUnread, OfFiles};
 
 use crate::file_fault::Answered;
-use crate::given::{Inputs, read_given};
+use crate::given::{Inputs, named_file, read_given};
 use crate::read_files::{FoundLogs, named_texts};
 use crate::source_names::paths;
 use ira_audit::Judged;
@@ -17,14 +17,6 @@ use ira_main_files::{FileName, TextSource};
 use ira_view_page::NamedText;
 use std::alloc::Allocator;
 use std::thread::Threads;
-
-/// The file that is named, with its text.
-fn named_file<'f>(name: Option<&'f str>, text: &'f [u8]) -> NamedText<'f>
-    ensures { file_of result ≡ named_file name.entry text.now }
-{
-    let name = name.unwrap_or("");
-    NamedText { name, text }
-}
 
 /// The reply to a command on files that were read: logs in files of these names, which were judged, with these texts where
 /// they were kept, a question and a certificate.
@@ -78,8 +70,12 @@ where
 {
     match read_given(rt, &alloc, inputs, command.needs_texts(), shelf)? {
         Ok(given) => {
+            let asked = match inputs.asked(&alloc, given.names.len())? {
+                Ok(text) => text,
+                Err(refused) => return Ok(Ok(refused)),
+            };
             let FoundLogs { audit, texts } = given.logs;
-            let question = named_file(inputs.question, given.question.bytes());
+            let question = inputs.question(&asked, given.question.bytes());
             let certificate = named_file(inputs.certificate, given.certificate.bytes());
             let (names, judged) = (&given.names, audit.judge()?);
             Ok(Ok(answer_read(alloc, command, question, certificate, names, &texts, judged)?))

@@ -1,3 +1,4 @@
+ghost use Rattle.std.specs.Prelude.{◌≡◌, false};
 ghost use Rattle.ira_main.specs.Serve.{AnswersLogs};
 
 use crate::delivery::deliver;
@@ -27,6 +28,7 @@ where
     A: Allocator + Clone + Send + Sync,
     F: Shelf + Sync,
     W: Sink,
+    requires { asked.is_summed ≡ false }
     ensures { AnswersLogs A F.reads asked.entry.detail asked.entry.form asked.entry.expected.now logs.now shelf.now
         (W.state out.old) (W.state out.new) result }
 {

@@ -55,6 +55,6 @@ where
         return Ok(Err(FileFault::OtherEnding(FileName::given(alloc, draw.picture)?)));
     };
     let question = question_of(&draw.moment);
-    let inputs = Inputs::asked(question, &draw.logs, Some(draw.picture));
+    let inputs = Inputs::asking(question, &draw.logs, Some(draw.picture));
     answer_files(rt, alloc, command, inputs, shelf)
 }

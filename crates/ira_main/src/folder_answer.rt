@@ -3,7 +3,7 @@ ghost use Rattle.ira_audit.specs.Judged.{IsJudged};
 ghost use Rattle.ira_event.specs.Sink.{Wrote};
 ghost use Rattle.ira_main.specs.Each.{HasFolderTexts, IsExplained, IsFolderFault, IsTold, TellsJudged};
 ghost use Rattle.ira_main.specs.FilesRead.{Gives, HasFound};
-ghost use Rattle.ira_main.specs.FolderText.{IsFolderText, IsTellable, folder_line, is_no};
+ghost use Rattle.ira_main.specs.FolderText.{IsFolderText, IsTellable, features_of, folder_line, is_no};
 ghost use Rattle.ira_main.specs.Judge.{has_reasons};
 ghost use Rattle.ira_view.specs.declared.form.Form.TheVariants.{Json};
 
@@ -21,7 +21,7 @@ use ira_event::{MemorySink, OutOfMemory, Sink, WriteFault, write_bytes};
 use ira_main_cli::LogSource;
 use ira_main_files::{FileName, TextSource};
 use ira_view::{Form, Status};
-use ira_view_json::{folder_answer_line, unread_line};
+use ira_view_json::{RunFeatures, folder_answer_line, unread_line};
 use ira_view_page::NamedText;
 use std::alloc::Allocator;
 
@@ -43,6 +43,16 @@ pub(crate) fn is_no<A: Allocator>(answer: &FolderAnswer<A>) -> bool
     match answer {
         Ok(judged) => matches!(judged.status(), Status::No),
         Err(_) => false,
+    }
+}
+
+/// What the run had, where that is asked.
+pub(crate) fn features_of<A: Allocator>(answer: &FolderAnswer<A>) -> Option<RunFeatures>
+    ensures { result ≡ features_of answer.now }
+{
+    match answer {
+        Ok(judged) => judged.features,
+        Err(_) => None,
     }
 }
 
@@ -185,12 +195,12 @@ fn tell_read<A: Allocator + Clone>(
         × (length texts ≡ length read.names.items) }
     ensures { (texts : List (List ℕ)) → HasFound (has_reasons asked.entry.detail) read.logs texts
         → IfOk result (λ told. TellsJudged A asked.entry.form asked.entry.expected.now asked.entry.detail
-        read.leaders.items read.names.items texts folder.now told.answer told.text.bytes) }
+        asked.entry.is_summed read.leaders.items read.names.items texts folder.now told.answer told.text.bytes) }
 {
     let FoundLogs { audit, texts } = read.logs;
     let judged = audit.judge()?;
     let expected = expected_by(asked.expected, &read.leaders);
-    let answer = judge_as_expected(alloc.clone()?, expected, &judged)?;
+    let answer = judge_as_expected(alloc.clone()?, expected, asked.is_summed, &judged)?;
     let mut told = told(alloc.clone()?, asked.form, folder, Ok(answer))?;
     if !asked.has_reasons() || !is_no(&told.answer) {
         return Ok(told);
@@ -214,8 +224,8 @@ pub(crate) fn tell_folder<A: Allocator + Clone, F: TextSource>(
     folder: &str,
     shelf: &F,
 ) -> Result<ToldFolder<A>, OutOfMemory>
-    ensures { IfOk result (λ told. IsTold A F.reads asked.entry.form asked.entry.expected.now asked.entry.detail shelf.now
-        folder.entry told.answer told.text.bytes) }
+    ensures { IfOk result (λ told. IsTold A F.reads asked.entry.form asked.entry.expected.now asked.entry.detail
+        asked.entry.is_summed shelf.now folder.entry told.answer told.text.bytes) }
 {
     match read_folder(alloc, asked, folder, shelf)? {
         Ok(read) => tell_read(alloc, asked, folder, read),

@@ -16,15 +16,15 @@ const COMMANDS_GUIDE: &[u8] = b"\
 
     ira < LOG
     ira logs [--over] [--leads <P,..|any|FILE>] [--json] <LOGS>
-    ira logs --each [--over] [--leads <P,..|any|FILE>] [--json] <DIR>...
+    ira logs --each [--sum] [--over] [--leads <P,..|any|FILE>] [--json] <DIR>...
     ira explain [--json] [<LOGS>]
     ira explain [--over] [--leads <P,..|any|FILE>] [--json] <LOGS>
     ira explain --each [--over] [--leads <P,..|any|FILE>] [--json] <DIR>...
-    ira explain --question <Q> [--case <K> | --cert <C>] [--json] <LOGS>
+    ira explain (--question <Q> | --ask <SENTENCE>) [--case <K> | --cert <C>] [--json] <LOGS>
     ira show [OPTIONS] <LOGS>
     ira draw --out <FILE> [OPTIONS] <LOGS>
     ira check --question <Q> --cert <C> [--depth <D>] [--json] <LOGS>
-    ira decide --question <Q> [--out <C>] [--json] <LOGS>
+    ira decide (--question <Q> | --ask <SENTENCE>) [--out <C>] [--json] <LOGS>
     ira pairs <N>
     ira ask --nodes <N> <SENTENCE>
     ira ask --dir <DIR> <SENTENCE>
@@ -95,10 +95,12 @@ and `ira explain --question FILE` why. `ira show` and `ira draw` show the first 
     any active, each other passive    one node is active, and all others are passive
     any owes, all term = 1            all nodes are in the first term, and one owes something
     all (not leader)                  nobody leads
+    node 3 leader                     node 3 leads
 
 A sentence has up to four parts in this order, each with a clause and `, ` between: `any`, after it
 `other` and `each other`, and `all`. `other` speaks of one more node, and `each other` of all nodes
-that were picked for neither.
+that were picked for neither. `node P CLAUSE`, on the node at place P, stands alone. With logs,
+`ira decide --ask 'SENTENCE'`, `explain`, `show` and `draw` take a sentence in place of a question's file.
 ";
 
 const LOGS_GUIDE: &[u8] = b"\

@@ -1,16 +1,17 @@
 ghost use Rattle.std.specs.Prelude.{◌≡◌, ◌<◌, ℕ, IfOk, List, MatchResult, Some, length, slice_get};
 ghost use Rattle.std.specs.Borrow.{Bor};
-ghost use Rattle.std.specs.List.{list_any};
+ghost use Rattle.std.specs.List.{filter_map, list_any};
 ghost use Rattle.ira_main.specs.Each.{AreTold, IsTold, IsUntold, JudgesEach, TellsSome, each_status, unread_names};
-ghost use Rattle.ira_main.specs.FolderText.{is_no};
+ghost use Rattle.ira_main.specs.FolderText.{features_of, is_no};
 
-use crate::folder_answer::{FolderAnswer, ToldFolder, is_no, tell_folder};
+use crate::folder_answer::{FolderAnswer, ToldFolder, features_of, is_no, tell_folder};
 use crate::judge_files::AskedLogs;
 use crate::program_fault::ProgramFault;
 use crate::read_files::{chunk_from, thread_count};
 use ira_event::{MemorySink, OutOfMemory, Sink, WriteFault, write_bytes};
 use ira_main_files::{FileName, Shelf, TextSource};
-use ira_view::Status;
+use ira_view::{Status, write_sum};
+use ira_view_json::RunFeatures;
 use ira_view_page::ShowFault;
 use std::alloc::{AllocError, Allocator};
 use std::thread::{self, Threads};
@@ -24,10 +25,10 @@ fn settled<A: Allocator + Clone, F: TextSource>(
     folder: &str,
     shelf: &F,
 ) -> Result<ToldFolder<A>, OutOfMemory>
-    requires { IfOk first (λ told. IsTold A F.reads asked.form asked.expected.now asked.detail shelf.now folder
-        told.answer told.text.bytes) }
-    ensures { IfOk result (λ told. IsTold A F.reads asked.entry.form asked.entry.expected.now asked.entry.detail shelf.now
-        folder.entry told.answer told.text.bytes) }
+    requires { IfOk first (λ told. IsTold A F.reads asked.form asked.expected.now asked.detail asked.is_summed shelf.now
+        folder told.answer told.text.bytes) }
+    ensures { IfOk result (λ told. IsTold A F.reads asked.entry.form asked.entry.expected.now asked.entry.detail
+        asked.entry.is_summed shelf.now folder.entry told.answer told.text.bytes) }
 {
     if let Ok(told) = first {
         if told.answer.is_ok() {
@@ -52,13 +53,13 @@ where
     A: Allocator + Clone + Send + Sync,
     F: TextSource + Sync,
     ensures { IfOk result (λ told. AreTold (IsTold A F.reads asked.entry.form asked.entry.expected.now
-        asked.entry.detail shelf.now) folders.now told.0.items told.1.bytes) }
+        asked.entry.detail asked.entry.is_summed shelf.now) folders.now told.0.items told.1.bytes) }
 {
     let tell = |i: usize| -> Result<ToldFolder<A>, OutOfMemory>
         requires { i < length folders.now }
         ensures { IfOk result (λ told. (folder : Bor (List ℕ)) → slice_get folders.entry.now i ≡ Some folder
-            → IsTold A F.reads asked.entry.form asked.entry.expected.now asked.entry.detail shelf.entry.now folder
-            told.answer told.text.bytes) }
+            → IsTold A F.reads asked.entry.form asked.entry.expected.now asked.entry.detail asked.entry.is_summed
+            shelf.entry.now folder told.answer told.text.bytes) }
     { tell_folder(alloc, asked, folders[i], shelf) };
     let first = thread::map_indices(rt, alloc.clone()?, folders.len(), &tell)?;
     let mut text = MemorySink::new(alloc.clone()?);
@@ -83,6 +84,19 @@ fn unread<A: Allocator>(
     answers
         .into_iter()
         .filter_map(|answer| answer.err())
+        .collect(alloc)
+}
+
+/// What the runs had of which that is asked.
+fn runs_of<A: Allocator>(
+    alloc: A,
+    answers: &[FolderAnswer<A>],
+) -> Result<Vec<RunFeatures, A>, AllocError>
+    ensures { IfOk result (λ runs. runs.items ≡ filter_map features_of answers.now) }
+{
+    answers
+        .iter()
+        .filter_map(|answer| features_of(answer))
         .collect(alloc)
 }
 
@@ -119,10 +133,10 @@ where
     F: TextSource + Sync,
     W: Sink,
     ensures { MatchResult result
-        (λ answers. TellsSome (IsTold A F.reads asked.entry.form asked.entry.expected.now asked.entry.detail shelf.now)
-        folders.now (W.state out.old) (W.state out.new) answers.items)
-        (IsUntold (IsTold A F.reads asked.entry.form asked.entry.expected.now asked.entry.detail shelf.now) folders.now
-        (W.state out.old) (W.state out.new)) }
+        (λ answers. TellsSome (IsTold A F.reads asked.entry.form asked.entry.expected.now asked.entry.detail
+        asked.entry.is_summed shelf.now) folders.now (W.state out.old) (W.state out.new) answers.items)
+        (IsUntold (IsTold A F.reads asked.entry.form asked.entry.expected.now asked.entry.detail asked.entry.is_summed
+        shelf.now) folders.now (W.state out.old) (W.state out.new)) }
 {
     let (answers, text) = tell_at_once(rt, alloc, asked, folders, shelf)?;
     write_bytes(text.bytes(), out)?;
@@ -130,7 +144,7 @@ where
 }
 
 /// Judges the logs in each of some folders, and prints what is told of them in their order: of as many as threads run at a
-/// time once these are judged.
+/// time once these are judged. Below them it prints how many of their runs had what, where that is asked.
 pub(crate) fn judge_each<'a, R, A, F, W>(
     rt: &R,
     alloc: A,
@@ -144,8 +158,8 @@ where
     A: Allocator + Clone + Send + Sync,
     F: Shelf + Sync,
     W: Sink,
-    ensures { JudgesEach A F.reads asked.entry.form asked.entry.expected.now asked.entry.detail folders.now shelf.now
-        (W.state out.old) (W.state out.new) result }
+    ensures { JudgesEach A F.reads asked.entry.form asked.entry.expected.now asked.entry.detail asked.entry.is_summed
+        folders.now shelf.now (W.state out.old) (W.state out.new) result }
 {
     let size = thread_count(rt);
     let mut answers = Vec::new(alloc.clone()?);
@@ -154,7 +168,9 @@ where
         answers.append(&mut tell_some(rt, &alloc, asked, some, shelf, out)?)?;
     }
     let status = status_of(&answers);
-    let unread = unread(alloc, answers)?;
+    let runs = runs_of(alloc.clone()?, &answers)?;
+    let unread = unread(alloc.clone()?, answers)?;
+    write_sum(alloc, asked.is_summed, asked.form, &runs, out)?;
     if unread.is_empty() {
         Ok(status)
     } else {

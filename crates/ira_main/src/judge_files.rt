@@ -6,6 +6,9 @@ ghost use Rattle.ira_commands.specs.Check.{ChecksTexts};
 ghost use Rattle.ira_commands.specs.Judging.{JudgesLog};
 ghost use Rattle.ira_commands.specs.Reply.{Reports, ReportsAs};
 ghost use Rattle.ira_commands.specs.declared.logs_command.LogsCommand.TheVariants.{Check};
+ghost use Rattle.ira_main_cli.specs.declared.question_source.QuestionSource.TheVariants.{File};
+ghost use Rattle.ira_main_files.specs.ReadText.{IsReadTo};
+ghost use Rattle.ira_main.specs.Explain.{ExplainsInput};
 ghost use Rattle.ira_main.specs.FilesRead.{Gives};
 ghost use Rattle.ira_main.specs.Given.{IsUnread, OfFiles};
 ghost use Rattle.ira_main.specs.Judge.{IsExpectedBy, IsUnjudged, JudgesFiles, asked_of, has_reasons};
@@ -14,20 +17,37 @@ ghost use Rattle.ira_main.specs.Serve.{IsInputFault, OfInput};
 use crate::answer_files::answer_files;
 use crate::file_fault::{Answered, FileFault};
 use crate::given::{Given, Inputs, read_given};
-use crate::input_audit::audit_input;
 use crate::leaders_file::leaders_in;
 use crate::show_command::leaders_of;
-use ira_commands::{Expected, LogsCommand, Reply, RingLeaders};
+use ira_audit::audit_one;
+use ira_commands::{Expected, LogsCommand, Reply, RingLeaders, explain_one};
 use ira_event::{MAX_TEXT, OutOfMemory};
 use ira_links::OpenGate;
-use ira_main_cli::{CheckRequest, Expectation, FolderDetail, LogSource};
-use ira_main_files::{CountingReader, FileName, Shelf, ShelfFault, TextSource};
+use ira_main_cli::{CheckRequest, Expectation, FolderDetail, LogSource, QuestionSource};
+use ira_main_files::{CountingReader, FileName, Shelf, ShelfFault, TextBuffer, TextSource};
 use ira_view::Form;
+use ira_view_page::NamedText;
 use std::alloc::Allocator;
 use std::io::Read;
 use std::sync::Wait;
 use std::thread::Threads;
 use std::time::Clock;
+
+/// The text that the input has left, to its end or to one byte more than `MAX_TEXT`.
+fn read_input<A: Allocator + Clone, I: Read>(
+    alloc: A,
+    input: &mut CountingReader<I>,
+) -> Result<Result<TextBuffer<A>, FileFault<A>>, OutOfMemory>
+    ensures text { Gives result (IsReadTo (MAX_TEXT + 1) input.old input.new) (IsInputFault input.new) }
+    ensures reads { input.new.reads ≤ input.old.reads + (MAX_TEXT + 1) }
+{
+    let mut text = TextBuffer::new(alloc.clone()?);
+    match text.fill(input) {
+        Ok(()) => Ok(Ok(text)),
+        Err(ShelfFault::OutOfMemory) => Err(OutOfMemory),
+        Err(_) => Ok(Err(FileFault::Unread(FileName::given(alloc, "-")?))),
+    }
+}
 
 /// Judges the log on the input.
 pub(crate) fn judge_input<A: Allocator + Clone, I: Read>(
@@ -37,10 +57,33 @@ pub(crate) fn judge_input<A: Allocator + Clone, I: Read>(
     ensures judged { Gives result (OfInput (JudgesLog Reports) input.old input.new) (IsInputFault input.new) }
     ensures reads { input.new.reads ≤ input.old.reads + (MAX_TEXT + 1) }
 {
-    match audit_input(alloc.clone()?, input) {
-        Ok(answer) => Ok(Ok(Reply::of_answer(alloc, &answer)?)),
-        Err(ShelfFault::OutOfMemory) => Err(OutOfMemory),
-        Err(_) => Ok(Err(FileFault::Unread(FileName::given(alloc, "-")?))),
+    match read_input(alloc.clone()?, input)? {
+        Ok(text) => {
+            let answer = audit_one(alloc.clone()?, text.bytes())?;
+            Ok(Ok(Reply::of_answer(alloc, &answer)?))
+        }
+        Err(fault) => Ok(Err(fault)),
+    }
+}
+
+/// Judges the log on the input, and says why the answer is as it is.
+pub(crate) fn explain_input<A: Allocator + Clone, I: Read>(
+    alloc: A,
+    form: Form,
+    input: &mut CountingReader<I>,
+) -> Result<Answered<A>, OutOfMemory>
+    ensures judged { Gives result (OfInput (ExplainsInput A form) input.old input.new) (IsInputFault input.new) }
+    ensures reads { input.new.reads ≤ input.old.reads + (MAX_TEXT + 1) }
+{
+    match read_input(alloc.clone()?, input)? {
+        Ok(text) => {
+            let log = NamedText {
+                name: "-",
+                text: text.bytes(),
+            };
+            Ok(Ok(explain_one(alloc, form, &log)?))
+        }
+        Err(fault) => Ok(Err(fault)),
     }
 }
 
@@ -62,6 +105,8 @@ pub(crate) struct AskedLogs<'t, 'a> {
     pub(crate) expected: &'t Expectation<'a>,
     /// Whether reasons are due as well.
     pub(crate) detail: FolderDetail,
+    /// Whether it is asked how many runs had what.
+    pub(crate) is_summed: bool,
 }
 
 impl AskedLogs<'_, '_> {
@@ -110,7 +155,7 @@ where
     };
     let expected = expected_by(asked.expected, &read);
     let command = asked_of(asked.detail, asked.form, expected);
-    answer_files(rt, alloc, command, Inputs::asked(None, logs, None), shelf)
+    answer_files(rt, alloc, command, Inputs::asking(None, logs, None), shelf)
 }
 
 /// The answer of logs, of a question and of a certificate that were read.
@@ -148,12 +193,12 @@ where
     F: Shelf + Sync,
     requires depth { check.now.depth ≤ 4 }
     ensures { Gives result
-        (OfFiles F.reads None (Some check.now.question) (Some check.now.certificate) check.now.logs shelf.now
+        (OfFiles F.reads None (Some (File check.now.question)) (Some check.now.certificate) check.now.logs shelf.now
         (Answers A (Check (json_form check.now.is_json))))
-        (IsUnread F.reads None (Some check.now.question) (Some check.now.certificate) check.now.logs shelf.now) }
+        (IsUnread F.reads None (Some (File check.now.question)) (Some check.now.certificate) check.now.logs shelf.now) }
 {
     let inputs = Inputs {
-        question: Some(check.question),
+        question: Some(QuestionSource::File(check.question)),
         certificate: Some(check.certificate),
         logs: &check.logs,
         made: None,

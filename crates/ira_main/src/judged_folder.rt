@@ -7,7 +7,8 @@ ghost use Rattle.ira_main.specs.JudgedFolder.{IsJudgedOf, judged_line, judged_st
 use ira_audit::{Answer, Judged, write_report};
 use ira_commands::{Expected, Unmet};
 use ira_event::{OutOfMemory, Sink, WriteFault, write_bytes};
-use ira_view::Status;
+use ira_view::{Status, features_of_run};
+use ira_view_json::RunFeatures;
 use std::alloc::Allocator;
 
 /// What the logs in a folder are judged to be.
@@ -17,6 +18,8 @@ pub(crate) struct JudgedFolder {
     pub(crate) answer: Answer,
     /// What isn't as expected of their election, after a yes.
     unmet: Option<Unmet>,
+    /// What their run had, where that is asked, after a yes.
+    pub(crate) features: Option<RunFeatures>,
 }
 
 impl JudgedFolder {
@@ -44,20 +47,26 @@ impl JudgedFolder {
     }
 }
 
-/// What the logs of a ring are judged to be, of whose election this is expected.
+/// What the logs of a ring are judged to be, of whose election this is expected, and of whose run it is asked what it had.
 pub(crate) fn judge_as_expected<A: Allocator + Clone>(
     alloc: A,
     expected: Expected<'_>,
+    is_summed: bool,
     judged: &Judged<A>,
 ) -> Result<JudgedFolder, OutOfMemory>
     requires { (texts : List (List ℕ)) × IsJudged texts judged.now }
-    ensures { (texts : List (List ℕ)) → IsJudged texts judged.now → IfOk result (IsJudgedOf expected.entry texts) }
+    ensures { (texts : List (List ℕ)) → IsJudged texts judged.now → IfOk result (IsJudgedOf expected.entry is_summed texts) }
 {
     let reason = match judged {
         Judged::Good(logs) => {
-            let unmet = expected.unmet(alloc, logs)?;
+            let unmet = expected.unmet(alloc.clone()?, logs)?;
+            let features = features_of_run(alloc, is_summed, logs)?;
             let answer = Answer::Yes;
-            return Ok(JudgedFolder { answer, unmet });
+            return Ok(JudgedFolder {
+                answer,
+                unmet,
+                features,
+            });
         }
         Judged::Refused(refused) => refused.reason(),
         Judged::NoRing(reason) => *reason,
@@ -65,5 +74,6 @@ pub(crate) fn judge_as_expected<A: Allocator + Clone>(
     Ok(JudgedFolder {
         answer: Answer::No(reason),
         unmet: None,
+        features: None,
     })
 }

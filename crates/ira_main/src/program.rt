@@ -6,8 +6,8 @@ ghost use Rattle.ira_main.specs.FilesRead.{Gives};
 ghost use Rattle.ira_main.specs.Given.{HasNoFault};
 ghost use Rattle.ira_main.specs.Outcome.{Outcome, ReportsOutcome, outcome_number};
 ghost use Rattle.ira_main.specs.Progress.{ServesOrLeaves};
-ghost use Rattle.ira_main.specs.Unread.{IsWhy, TellsUnread, wants_json};
-ghost use Rattle.ira_main.specs.Serve.{Serves};
+ghost use Rattle.ira_main.specs.Unread.{IsTold, TellsUnread, wants_json};
+ghost use Rattle.ira_main.specs.Serve.{Serves, is_brief};
 
 use crate::answer_files::answer_files;
 use crate::answer_logs::answer_logs;
@@ -15,25 +15,24 @@ use crate::ask_files::ask_files;
 use crate::asked_run::{record_run_alone, record_run_on_threads};
 use crate::delivery::{deliver, deliver_and_keep, record_and_deliver};
 use crate::draw_files::draw_files;
-use crate::explain_files::{explain_check_files, explain_input};
 use crate::file_fault::Answered;
 use crate::given::Inputs;
 use crate::guide::print_guide;
 use crate::judge_each::judge_each;
-use crate::judge_files::{AskedLogs, check_files, judge_input};
+use crate::judge_files::{AskedLogs, check_files, explain_input, judge_input};
 use crate::mend_files::mend_files;
 use crate::program_fault::{ProgramFault, report_outcome};
 use crate::progress::Progress;
 use crate::show_command::show_files;
 use crate::tell_unread::tell_unread;
-use crate::tell_why::why_unread;
+use crate::tell_why::told_why;
 use crate::upgrade_files::upgrade_files;
 use crate::version::print_version;
 use ira_commands::{LogsCommand, ask_pairs};
 use ira_event::{MAX_TEXT, OutOfMemory, Sink};
 use ira_main_cli::{
-    CaseSelection, EachRequest, ExplainRequest, ExplainedAnswer, FolderDetail, LogsRequest,
-    Request, read_words,
+    CaseSelection, DecideRequest, EachRequest, ExplainRequest, ExplainedAnswer, FolderDetail,
+    LogsRequest, QuestionSource, Request, read_words,
 };
 use ira_main_files::{CountingReader, Shelf};
 use ira_view::{Form, Status};
@@ -50,8 +49,18 @@ fn pairs<A: Allocator + Clone>(alloc: A, nodes: u64) -> Result<Answered<A>, OutO
     Ok(Ok(ask_pairs(alloc, nodes)?))
 }
 
-/// Does what the words ask for, unless that waits: it leaves a check, the evidence of one, and a run with a thread for
-/// each node. So all else is done when it returns, which it does. (The threads that read logs end by themselves.)
+/// Whether it is told in one line what was found: for a sentence, where no JSON is wanted.
+fn is_brief(decide: &DecideRequest<'_>) -> bool
+    ensures { result ≡ is_brief decide.now.question decide.now.is_json }
+{
+    match decide.question {
+        QuestionSource::File(_) => false,
+        QuestionSource::Sentence(_) => !decide.is_json,
+    }
+}
+
+/// Does what the words ask for, unless that waits: it leaves a check, and a run with a thread for each node. So all else is
+/// done when it returns, which it does. (The threads that read logs end by themselves.)
 pub fn serve_without_wait<'a, R, A, I, F, W>(
     rt: &R,
     alloc: A,
@@ -88,6 +97,7 @@ where
                 form: Form::of_json(is_json),
                 expected: &expected,
                 detail: FolderDetail::Line,
+                is_summed: false,
             };
             Progress::Ended(answer_logs(rt, alloc, asked, &logs, shelf, out))
         }
@@ -96,6 +106,7 @@ where
                 is_json,
                 expected,
                 detail,
+                is_summed,
                 folders,
             },
         ) => {
@@ -103,6 +114,7 @@ where
                 form: Form::of_json(is_json),
                 expected: &expected,
                 detail,
+                is_summed,
             };
             Progress::Ended(judge_each(rt, alloc, asked, &folders, shelf, out))
         }
@@ -117,25 +129,30 @@ where
                         form,
                         expected: &expected,
                         detail: FolderDetail::Reasons,
+                        is_summed: false,
                     };
                     Progress::Ended(answer_logs(rt, alloc, asked, &logs, shelf, out))
                 }
                 ExplainedAnswer::Findings { asked, logs } => {
                     let CaseSelection { question, case } = asked;
                     let command = LogsCommand::ExplainQuestion { form, case };
-                    let inputs = Inputs::asked(Some(question), &logs, None);
+                    let inputs = Inputs::asking(Some(question), &logs, None);
                     Progress::Ended(deliver(answer_files(rt, alloc, command, inputs, shelf), out))
                 }
                 ExplainedAnswer::Certificate {
                     question,
                     certificate,
                     logs,
-                } => Progress::ExplainCheck {
-                    form,
-                    question,
-                    certificate,
-                    logs,
-                },
+                } => {
+                    let command = LogsCommand::ExplainCheck { form };
+                    let inputs = Inputs {
+                        question: Some(question),
+                        certificate: Some(certificate),
+                        logs: &logs,
+                        made: None,
+                    };
+                    Progress::Ended(deliver(answer_files(rt, alloc, command, inputs, shelf), out))
+                }
             }
         }
         Request::Show(show) => {
@@ -149,10 +166,11 @@ where
         Request::Decide(decide) => {
             let command = LogsCommand::Decide {
                 form: Form::of_json(decide.is_json),
+                is_brief: is_brief(&decide),
                 certify: decide.certificate.is_some(),
             };
             let question = Some(decide.question);
-            let inputs = Inputs::asked(question, &decide.logs, decide.certificate);
+            let inputs = Inputs::asking(question, &decide.logs, decide.certificate);
             let reply = answer_files(rt, alloc, command, inputs, shelf);
             Progress::Ended(deliver_and_keep(reply, decide.certificate, shelf, out))
         }
@@ -203,15 +221,6 @@ where
     match serve_without_wait(rt, alloc.clone()?, words, input, shelf, out) {
         Progress::Ended(outcome) => outcome,
         Progress::Check(check) => deliver(check_files(rt, waiting, &check, shelf), out),
-        Progress::ExplainCheck {
-            form,
-            question,
-            certificate,
-            logs,
-        } => {
-            let reply = explain_check_files(rt, waiting, form, question, certificate, &logs, shelf);
-            deliver(reply, out)
-        }
         Progress::Run(ring) => {
             let reply = record_run_on_threads(rt, &waiting, &ring);
             record_and_deliver(&waiting, reply, ring.folder, shelf, out)
@@ -250,11 +259,11 @@ where
         (W.state out.old) told outcome
         × TellsUnread (wants_json (map (λ word. word.now) words.now)) outcome told (W.state out.new)
         × (result ≡ outcome_number outcome)
-        × (why : List ℕ) × IsWhy F.reads shelf.new outcome why
+        × (why : List ℕ) × IsTold F.reads shelf.new outcome why
         × ReportsOutcome outcome why (V.state err.old) (V.state err.new) }
 {
     let outcome = execute(rt, &alloc, words, input, shelf, out);
-    let why = why_unread(&outcome, shelf);
+    let why = told_why(rt.alloc(), &alloc, words, &outcome, shelf);
     tell_unread(alloc, words, &outcome, out);
-    report_outcome(outcome, why, err)
+    report_outcome(outcome, why.bytes(), err)
 }

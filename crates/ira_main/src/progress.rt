@@ -1,6 +1,6 @@
 use crate::program_fault::ProgramFault;
-use ira_main_cli::{CheckRequest, LogSource, RunRequest};
-use ira_view::{Form, Status};
+use ira_main_cli::{CheckRequest, RunRequest};
+use ira_view::Status;
 use std::alloc::Allocator;
 
 /// How far the program comes without waiting.
@@ -10,13 +10,6 @@ pub enum Progress<'a, A: Allocator> {
     Ended(Result<Status, ProgramFault<'a, A>>),
     /// They ask for a check, of which nothing was done.
     Check(CheckRequest<'a>),
-    /// They ask for the evidence of a check, of which nothing was done.
-    ExplainCheck {
-        form: Form,
-        question: &'a str,
-        certificate: &'a str,
-        logs: LogSource<'a>,
-    },
     /// They ask for a run with a thread for each node, of which nothing was done.
     Run(RunRequest<'a>),
 }

@@ -9,7 +9,7 @@ use crate::given::Inputs;
 use crate::leaders_file::leaders_in;
 use ira_commands::{LinesForm, LogsCommand, RingForm, RingLeaders, RingMoment};
 use ira_event::OutOfMemory;
-use ira_main_cli::{AskedLeaders, AskedMoment, ShowRequest};
+use ira_main_cli::{AskedLeaders, AskedMoment, QuestionSource, ShowRequest};
 use ira_main_files::TextSource;
 use ira_view::Form;
 use std::alloc::Allocator;
@@ -26,8 +26,8 @@ pub(crate) fn moment_of<'t>(asked: &'t AskedMoment<'_>) -> RingMoment<'t>
     }
 }
 
-/// The file of the question whose first moment is asked for, if one is.
-pub(crate) fn question_of<'a>(asked: &AskedMoment<'a>) -> Option<&'a str>
+/// The question whose first moment is asked for, if one is.
+pub(crate) fn question_of<'a>(asked: &AskedMoment<'a>) -> Option<QuestionSource<'a>>
     ensures { result ≡ question_of asked.now }
 {
     match asked {
@@ -89,6 +89,6 @@ where
         Ok(places) => places,
         Err(fault) => return Ok(Err(fault)),
     };
-    let inputs = Inputs::asked(question_of(&show.moment), &show.logs, None);
+    let inputs = Inputs::asking(question_of(&show.moment), &show.logs, None);
     answer_files(rt, alloc, show_command(show, &read), inputs, shelf)
 }

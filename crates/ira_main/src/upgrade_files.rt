@@ -27,7 +27,7 @@ where
         (OfFiles F.reads None None None upgrade.now.logs shelf.now (λ given. UpgradesTexts given.texts))
         (IsUnread F.reads None None None upgrade.now.logs shelf.now) }
 {
-    let inputs = Inputs::asked(None, &upgrade.logs, None);
+    let inputs = Inputs::asking(None, &upgrade.logs, None);
     match read_given(rt, alloc, inputs, false, shelf)? {
         Ok(given) => {
             let logs = given.logs;

@@ -12,10 +12,12 @@ use Rattle.clap.specs.declared.error.Error.{Error}
 use Rattle.clap.specs.declared.error.kind.ErrorKind.TheVariants as kind
 use Rattle.clap.specs.declared.parser.matches.ArgMatches.{ArgMatches}
 use Rattle.ira_main_cli.specs.CommandLine.{IsOneOf, commands, ira_app, logs_app}
-use Rattle.ira_main_cli.specs.Asked.{HasLogs, MayNameLogs, NamesLogs}
+use Rattle.ira_main_cli.specs.Asked.{HasLogs, HasSource, MayNameLogs, NamesLogs, NamesNoQuestion}
 use Rattle.ira_main_cli.specs.Request.{AreAcceptedWords, Asks, GoTogether, GoTogetherAfter, IsCommandLine, IsLogsLine}
 use Rattle.ira_main_cli.specs.Request.{IsMadeOf, found_after}
 use Rattle.ira_main_cli.specs.declared.logs_request.LogsRequest.{LogsRequest}
+use Rattle.ira_main_cli.specs.declared.question_source.QuestionSource.{QuestionSource}
+use Rattle.ira_main_cli.specs.declared.question_source.QuestionSource.TheVariants as source
 use Rattle.ira_main_cli.specs.declared.request.Request.{Request}
 use Rattle.ira_main_cli.specs.declared.request.Request.TheVariants.{OneLog, Logs, Each, Explain, Show, Draw, Check, Decide}
 use Rattle.ira_main_cli.specs.declared.request.Request.TheVariants.{Ask, Pairs, Run, Upgrade, Mend, Guide, Version}
@@ -148,3 +150,8 @@ named_once rows names = (one (first_of (codes "dir") rows) (all_of (codes "LOG")
     one None files differ = inl refl
     one (Some folder) None differ = inr refl
     one (Some folder) (Some files) differ = absurd (differ refl)
+
+-- what a question comes from is given
+pub not_both : (rows : List Row) (question : QuestionSource) → HasSource rows question → NamesNoQuestion rows → ⊥
+not_both rows (source.File name) has none = let e = sym none.0 ∙ has.0 in cc
+not_both rows (source.Sentence sentence) has none = let e = sym none.1 ∙ has.0 in cc

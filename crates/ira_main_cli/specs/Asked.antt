@@ -30,6 +30,8 @@ use Rattle.ira_main_cli.specs.declared.logs_request.LogsRequest.{LogsRequest}
 use Rattle.ira_main_cli.specs.declared.mend_request.MendRequest.{MendRequest}
 use Rattle.ira_main_cli.specs.declared.request.Request.{Request}
 use Rattle.ira_main_cli.specs.declared.request.Request.TheVariants.{Each, Explain, Logs}
+use Rattle.ira_main_cli.specs.declared.question_source.QuestionSource.{QuestionSource}
+use Rattle.ira_main_cli.specs.declared.question_source.QuestionSource.TheVariants as source
 use Rattle.ira_main_cli.specs.declared.rewrite_request.RewriteRequest.{RewriteRequest}
 use Rattle.ira_main_cli.specs.declared.run_request.RunRequest.{RunRequest}
 use Rattle.ira_main_cli.specs.declared.show_request.ShowRequest.{ShowRequest}
@@ -70,9 +72,29 @@ HasText rows name = first_of name rows ≢ None
 
 -- ---- a question, and perhaps a case of it
 
--- the question and the case are the values of these options
+-- the question is that of the file of this name, or of this sentence; never both are given
+abbrev pub HasSource : List Row → QuestionSource → Type 0
+HasSource rows (source.File name) =
+    (first_of (codes "question") rows ≡ Some name.now) × IsLeftOut (codes "ask") rows
+HasSource rows (source.Sentence sentence) =
+    (first_of (codes "ask") rows ≡ Some sentence.now) × IsLeftOut (codes "question") rows
+
+-- neither is given
+abbrev pub NamesNoQuestion : List Row → Type 0
+NamesNoQuestion rows = IsLeftOut (codes "question") rows × IsLeftOut (codes "ask") rows
+
+-- or there is none, where neither is
+abbrev pub MayHaveSource : List Row → Option QuestionSource → Type 0
+MayHaveSource rows (Some given) = HasSource rows given
+MayHaveSource rows None = NamesNoQuestion rows
+
+-- both aren't given
+abbrev pub MayNameQuestion : List Row → Type 0
+MayNameQuestion rows = IsLeftOut (codes "question") rows ⊎ IsLeftOut (codes "ask") rows
+
+-- the question comes from what is named, and the case is the value of this option
 pub record HasQuestion (rows : List Row) (asked : CaseSelection) : Type 0 where
-  pub question : first_of (codes "question") rows ≡ Some asked.question.now
+  pub question : HasSource rows asked.question
   pub case : MayHaveNumber rows (codes "case") asked.case
 
 -- ---- a moment of the logged run
@@ -80,17 +102,18 @@ pub record HasQuestion (rows : List Row) (asked : CaseSelection) : Type 0 where
 -- the moment is the one that is named: by a cut, by a question, or the end, where neither is given
 abbrev pub HasMoment : List Row → AskedMoment → Type 0
 HasMoment rows AtEnd =
-    IsLeftOut (codes "at") rows × IsLeftOut (codes "question") rows × IsLeftOut (codes "case") rows
+    IsLeftOut (codes "at") rows × NamesNoQuestion rows × IsLeftOut (codes "case") rows
 HasMoment rows (AtCut events) =
-    HasNumbers rows (codes "at") events.items × IsLeftOut (codes "question") rows × IsLeftOut (codes "case") rows
+    HasNumbers rows (codes "at") events.items × NamesNoQuestion rows × IsLeftOut (codes "case") rows
 HasMoment rows (OfQuestion asked) = IsLeftOut (codes "at") rows × HasQuestion rows asked
 
--- options that go together: a cut is a list of numbers, it isn't named with a question, and a case isn't named without
--- one
+-- options that go together: a cut is a list of numbers, it isn't named with a question, which is named in one way, and a
+-- case isn't named without one
 pub record NamesMoment (rows : List Row) : Type 0 where
   pub cut : ListsNumbers (codes "at") rows
-  pub one : IsLeftOut (codes "at") rows ⊎ IsLeftOut (codes "question") rows
-  pub question : IsLeftOut (codes "question") rows → IsLeftOut (codes "case") rows
+  pub one : IsLeftOut (codes "at") rows ⊎ NamesNoQuestion rows
+  pub source : MayNameQuestion rows
+  pub question : NamesNoQuestion rows → IsLeftOut (codes "case") rows
   pub case : ListsNumber (codes "case") rows
 
 -- ---- leaders
@@ -117,7 +140,7 @@ ExpectsNothing rows = (is_set (codes "over") rows ≡ false) × IsLeftOut (codes
 
 -- neither a question nor anything of one is named
 pub record AsksNothing (rows : List Row) : Type 0 where
-  pub question : IsLeftOut (codes "question") rows
+  pub question : NamesNoQuestion rows
   pub case : IsLeftOut (codes "case") rows
   pub certificate : IsLeftOut (codes "cert") rows
 
@@ -129,8 +152,9 @@ pub record HasFindings (rows : List Row) (asked : CaseSelection) (logs : LogSour
   pub logs_are : HasLogs rows logs
 
 -- what is named is the question, the certificate and the logs
-pub record HasCertificate (rows : List Row) (question certificate : List ℕ) (logs : LogSource) : Type 0 where
-  pub question_is : first_of (codes "question") rows ≡ Some question
+pub record HasCertificate (rows : List Row) (question : QuestionSource) (certificate : List ℕ) (logs : LogSource)
+    : Type 0 where
+  pub question_is : HasSource rows question
   pub case : IsLeftOut (codes "case") rows
   pub certificate_is : first_of (codes "cert") rows ≡ Some certificate
   pub expected : ExpectsNothing rows
@@ -142,16 +166,18 @@ HasAnswer rows explained.OneLog =
     AsksNothing rows × ExpectsNothing rows × IsLeftOut (codes "dir") rows × (all_of (codes "LOG") rows ≡ None)
 HasAnswer rows (explained.Logs expected source) = AsksNothing rows × HasExpectation rows expected × HasLogs rows source
 HasAnswer rows (explained.Findings asked logs) = HasFindings rows asked logs
-HasAnswer rows (explained.Certificate question certificate logs) = HasCertificate rows question.now certificate.now logs
+HasAnswer rows (explained.Certificate question certificate logs) = HasCertificate rows question certificate.now logs
 
--- options and names that go together: the logs aren't named by both, a case or a certificate, and not both, is named
--- with a question alone, a question with logs alone, and something is expected of an election with logs and no question
+-- options and names that go together: neither the logs nor the question are named by both, a case or a certificate, and not
+-- both, is named with a question alone, a question with logs alone, and something is expected of an election with logs and
+-- no question
 pub record NamesAnswer (rows : List Row) : Type 0 where
   pub logs : MayNameLogs rows
-  pub question : IsLeftOut (codes "question") rows → IsLeftOut (codes "case") rows × IsLeftOut (codes "cert") rows
-  pub asked_of_logs : IsLeftOut (codes "question") rows ⊎ NamesLogs rows
+  pub source : MayNameQuestion rows
+  pub question : NamesNoQuestion rows → IsLeftOut (codes "case") rows × IsLeftOut (codes "cert") rows
+  pub asked_of_logs : NamesNoQuestion rows ⊎ NamesLogs rows
   pub one : IsLeftOut (codes "case") rows ⊎ IsLeftOut (codes "cert") rows
-  pub expected : ExpectsNothing rows ⊎ (IsLeftOut (codes "question") rows × NamesLogs rows)
+  pub expected : ExpectsNothing rows ⊎ (NamesNoQuestion rows × NamesLogs rows)
   pub case : ListsNumber (codes "case") rows
 
 -- the answer is that of what is named together, and JSON is wanted exactly where `--json` is given
@@ -167,7 +193,7 @@ pub record HasAnswerToExplain (rows : List Row) (explain : ExplainRequest) : Typ
 pub record HasLogsToJudge (rows : List Row) (request : LogsRequest) : Type 0 where
   pub json : request.is_json ≡ is_set (codes "json") rows
   pub expected : HasExpectation rows request.expected
-  pub together : is_set (codes "each") rows ≡ false
+  pub together : (is_set (codes "each") rows ≡ false) × (is_set (codes "sum") rows ≡ false)
   pub logs : HasLogs rows request.logs
 
 -- the names are those of the folders, of which there is at least one, and none is empty
@@ -177,12 +203,13 @@ pub record HasFolders (rows : List Row) (folders : List (Bor Text)) : Type 0 whe
   pub named : All (λ folder. folder.now ≢ []) folders
   pub folder : IsLeftOut (codes "dir") rows
 
--- the same where `--each` is given, with what is expected of each election
+-- the same where `--each` or `--sum` is given, with what is expected of each election, and a sum exactly where `--sum` is
 pub record HasFoldersToJudge (rows : List Row) (request : EachRequest) : Type 0 where
   pub detail : request.detail ≡ Line
   pub json : request.is_json ≡ is_set (codes "json") rows
   pub expected : HasExpectation rows request.expected
-  pub each : is_set (codes "each") rows ≡ true
+  pub sum : request.is_summed ≡ is_set (codes "sum") rows
+  pub each : (is_set (codes "each") rows ≡ true) ⊎ (is_set (codes "sum") rows ≡ true)
   pub folders : HasFolders rows request.folders.items
 
 -- the same where reasons are asked for as well; neither a question nor anything of one is named
@@ -191,6 +218,7 @@ pub record HasFoldersToExplain (rows : List Row) (request : EachRequest) : Type 
   pub json : request.is_json ≡ is_set (codes "json") rows
   pub expected : HasExpectation rows request.expected
   pub nothing : AsksNothing rows
+  pub no_sum : request.is_summed ≡ false
   pub each : is_set (codes "each") rows ≡ true
   pub folders : HasFolders rows request.folders.items
 
@@ -205,7 +233,7 @@ pub record NamesFolders (rows : List Row) : Type 0 where
 -- where each folder is to be judged folders are named, and else logs are
 pub record NamesLogsToJudge (rows : List Row) : Type 0 where
   pub logs : NamesLogs rows
-  pub folders : is_set (codes "each") rows ≡ true → NamesFolders rows
+  pub folders : (is_set (codes "each") rows ≡ true) ⊎ (is_set (codes "sum") rows ≡ true) → NamesFolders rows
 
 -- where each folder is to be explained folders are named, and neither a question nor anything of one; else an answer is
 pub record NamesAnswers (rows : List Row) : Type 0 where
@@ -261,17 +289,18 @@ pub record NamesFiles (rows : List Row) : Type 0 where
   pub depth : HasNumberTo 4 rows (codes "depth")
   pub logs : NamesLogs rows
 
--- the files are the values of these options, of which that of the certificate may be left out, and the logs come from
--- what is named beside them; JSON is wanted exactly where `--json` is given
+-- the file of the certificate is the value of this option, which may be left out, and question and logs come from what is
+-- named beside it; JSON is wanted exactly where `--json` is given
 pub record HasFilesToDecide (rows : List Row) (decide : DecideRequest) : Type 0 where
-  pub question : first_of (codes "question") rows ≡ Some decide.question.now
+  pub question : HasSource rows decide.question
   pub certificate : first_of (codes "out") rows ≡ option_map (λ name. name.now) decide.certificate
   pub json : decide.is_json ≡ is_set (codes "json") rows
   pub logs : HasLogs rows decide.logs
 
--- what is needed is given
+-- what is needed is given, the question in one way
 pub record NamesFilesToDecide (rows : List Row) : Type 0 where
-  pub question : HasText rows (codes "question")
+  pub source : MayNameQuestion rows
+  pub question : ¬ (NamesNoQuestion rows)
   pub logs : NamesLogs rows
 
 -- the folder is the value of this option, and the logs come from what is named beside it

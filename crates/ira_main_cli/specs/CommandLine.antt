@@ -60,7 +60,8 @@ source_rules = folder_rule (codes "dir") ∷ files_rule (codes "LOG") ∷ []
 
 -- a moment of the logged run
 abbrev pub moment_rules : List Rule
-moment_rules = text_rule (codes "at") ∷ text_rule (codes "question") ∷ number_rule (codes "case") ∷ []
+moment_rules =
+    text_rule (codes "at") ∷ text_rule (codes "question") ∷ text_rule (codes "ask") ∷ number_rule (codes "case") ∷ []
 
 -- ---- commands
 
@@ -71,13 +72,14 @@ command_app name rules = on_top (λ s. record s { rules = rules }) (new_app name
 abbrev pub logs_app : App
 logs_app =
     command_app (codes "logs")
-    (flag_rule (codes "each") ∷ flag_rule (codes "over") ∷ text_rule (codes "leads") ∷ json_rule ∷ source_rules)
+    (flag_rule (codes "each") ∷ flag_rule (codes "sum") ∷ flag_rule (codes "over") ∷ text_rule (codes "leads") ∷ json_rule
+    ∷ source_rules)
 
 abbrev pub explain_app : App
 explain_app =
     command_app (codes "explain")
     (flag_rule (codes "each") ∷ flag_rule (codes "over") ∷ text_rule (codes "leads") ∷ text_rule (codes "question")
-    ∷ number_rule (codes "case") ∷ text_rule (codes "cert") ∷ json_rule ∷ source_rules)
+    ∷ text_rule (codes "ask") ∷ number_rule (codes "case") ∷ text_rule (codes "cert") ∷ json_rule ∷ source_rules)
 
 abbrev pub show_app : App
 show_app =
@@ -99,7 +101,7 @@ check_app =
 abbrev pub decide_app : App
 decide_app =
     command_app (codes "decide")
-    (required (text_rule (codes "question")) ∷ text_rule (codes "out") ∷ json_rule ∷ source_rules)
+    (text_rule (codes "question") ∷ text_rule (codes "ask") ∷ text_rule (codes "out") ∷ json_rule ∷ source_rules)
 
 abbrev pub pairs_app : App
 pairs_app = command_app (codes "pairs") (required (word_rule (Unsigned 0 18446744073709551615) (codes "N")) ∷ [])

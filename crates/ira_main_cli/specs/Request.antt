@@ -89,7 +89,7 @@ abbrev pub IsFileName : Text → Type 0
 IsFileName [] = Unit {0}
 IsFileName (b ∷ bs) = b ≢ 45
 
--- `logs` and others without `--each`, which name the source of logs, and `--json` perhaps. Where none of the others begins with a dash,
+-- `logs` and others without `--each` and `--sum`, which name the source of logs, and `--json` perhaps. Where none of the others begins with a dash,
 -- these are names of files; where one is the first that does, and is `--`, the words after it are names too
 pub record IsLogsLine (words : List Text) (request : LogsRequest) : Type 0 where
   pub line : IsCommandLine words (Logs request)
@@ -97,7 +97,7 @@ pub record IsLogsLine (words : List Text) (request : LogsRequest) : Type 0 where
   pub marked : (front back : List Text) → All IsFileName front → line.others ≡ front ++ codes "--" ∷ back
       → IsOfFiles request.logs (front ++ back)
 
--- `logs` or `explain`, `--each`, and folders, which ask for each of these to be judged
+-- `logs` or `explain`, `--each` or `--sum`, and folders, which ask for each of these to be judged
 abbrev pub IsEachLine : List Text → EachRequest → Type 0
 IsEachLine words request = IsCommandLine words (Each request)
 

@@ -1,8 +1,9 @@
+use crate::question_source::QuestionSource;
+
 /// Cases of a question: one of them, or all.
 #[derive(Clone, Copy)]
 pub struct CaseSelection<'a> {
-    /// The file of the question.
-    pub question: &'a str,
+    pub question: QuestionSource<'a>,
     /// The case that is selected, counted from 0, and not only one that the question has; all if this is left out.
     pub case: Option<u64>,
 }

@@ -4,7 +4,8 @@ ghost use Rattle.clap.specs.declared.error.kind.ErrorKind.TheVariants as kind;
 ghost use Rattle.ira_main_cli.specs.Asked.{AsksLogs, AsksNothing, AsksReasons, HasAnswer, HasExpectation, HasFiles};
 ghost use Rattle.ira_main_cli.specs.Asked.{HasFilesToDecide, HasFilesToRewrite, HasFolders, HasLeaders, HasLogs};
 ghost use Rattle.ira_main_cli.specs.Asked.{HasLogsToDraw, HasLogsToMend, HasLogsToShow, HasLost, HasMoment, HasOptions};
-ghost use Rattle.ira_main_cli.specs.Asked.{HasSentence, HasSize, HasTopic, MayHaveLogs, MayNameLogs, NamesAnswer};
+ghost use Rattle.ira_main_cli.specs.Asked.{HasSentence, HasSize, HasTopic, MayHaveLogs, MayHaveSource, MayNameLogs};
+ghost use Rattle.ira_main_cli.specs.Asked.{MayNameQuestion, NamesAnswer};
 ghost use Rattle.ira_main_cli.specs.Asked.{NamesAnswers, NamesFolders, NamesLogs, NamesLogsToDraw};
 ghost use Rattle.ira_main_cli.specs.Asked.{NamesLogsToJudge, NamesLogsToMend, NamesLogsToShow, NamesMoment, NamesSize};
 ghost use Rattle.ira_main_cli.specs.Asked.{NamesFiles, NamesFilesToDecide, NamesFilesToRewrite, NamesOptions};
@@ -42,6 +43,7 @@ use crate::logs_request::LogsRequest;
 use crate::mend_request::MendRequest;
 use crate::options::{flag, given_number, given_text, names, number, text};
 use crate::options_fault::OptionsFault;
+use crate::question_source::QuestionSource;
 use crate::request::Request;
 use crate::rewrite_request::RewriteRequest;
 use crate::run_request::RunRequest;
@@ -54,15 +56,15 @@ use std::alloc::{AllocError, Global};
 
 const USAGE: &str =
     "ira < LOG\n       ira logs [--over] [--leads <P,..|any|FILE>] [--json] <LOGS>\n       \
-    ira logs --each [--over] [--leads <P,..|any|FILE>] [--json] <DIR>...\n       \
+    ira logs --each [--sum] [--over] [--leads <P,..|any|FILE>] [--json] <DIR>...\n       \
     ira explain [--json] [<LOGS>]\n       \
     ira explain [--over] [--leads <P,..|any|FILE>] [--json] <LOGS>\n       \
     ira explain --each [--over] [--leads <P,..|any|FILE>] [--json] <DIR>...\n       \
-    ira explain --question <Q> [--case <K> | --cert <C>] [--json] <LOGS>\n       \
+    ira explain (--question <Q> | --ask <SENTENCE>) [--case <K> | --cert <C>] [--json] <LOGS>\n       \
     ira show [OPTIONS] <LOGS>\n       \
     ira draw --out <FILE> [OPTIONS] <LOGS>\n       \
     ira check --question <Q> --cert <C> [--depth <D>] [--json] <LOGS>\n       \
-    ira decide --question <Q> [--out <C>] [--json] <LOGS>\n       \
+    ira decide (--question <Q> | --ask <SENTENCE>) [--out <C>] [--json] <LOGS>\n       \
     ira pairs <N>\n       \
     ira ask --nodes <N> <SENTENCE>\n       \
     ira ask --dir <DIR> <SENTENCE>\n       \
@@ -104,6 +106,9 @@ const WHY_CERT_HELP: &str = "The file with a certificate: the answer of `check` 
 const EACH_HELP: &str =
     "The names are those of folders, each with the logs of a ring, and each is judged";
 
+const SUM_HELP: &str =
+    "As --each, and below the answers how many of the runs had a tie, a second round and more";
+
 const OVER_HELP: &str =
     "Ask too whether the election is over: if not, lines say so, and the status is 1";
 
@@ -136,6 +141,9 @@ const FROM_HELP: &str = "The column that the picture begins with; the first if n
 const TO_HELP: &str = "The column that the picture ends with; the last if not given";
 
 const QUESTION_HELP: &str = "The file with the question";
+
+const ASK_HELP: &str =
+    "In place of the file with the question: a sentence that stands for it, as `ira ask` takes";
 
 const CERT_HELP: &str = "The file with the certificate";
 
@@ -179,6 +187,8 @@ const AT: Argument = Argument("at", Value("N0,N1,..", TEXT), Optional, AT_HELP);
 
 const MET_QUESTION: Argument = Argument("question", Value("Q", TEXT), Optional, MET_QUESTION_HELP);
 
+const ASK: Argument = Argument("ask", Value("SENTENCE", TEXT), Optional, ASK_HELP);
+
 const MET_CASE: Argument = Argument("case", Value("K", NUMBER), Optional, MET_CASE_HELP);
 
 const COMMANDS: &[CommandEntry] = &[
@@ -187,6 +197,7 @@ const COMMANDS: &[CommandEntry] = &[
         about: "Judges the logs of all nodes of a ring together",
         arguments: &[
             Argument("each", Flag, Optional, EACH_HELP),
+            Argument("sum", Flag, Optional, SUM_HELP),
             OVER,
             LEADS,
             JSON,
@@ -202,6 +213,7 @@ const COMMANDS: &[CommandEntry] = &[
             OVER,
             LEADS,
             Argument("question", Value("Q", TEXT), Optional, WHY_QUESTION_HELP),
+            ASK,
             Argument("case", Value("K", NUMBER), Optional, WHY_CASE_HELP),
             Argument("cert", Value("C", TEXT), Optional, WHY_CERT_HELP),
             JSON,
@@ -216,6 +228,7 @@ const COMMANDS: &[CommandEntry] = &[
             LEADS,
             AT,
             MET_QUESTION,
+            ASK,
             MET_CASE,
             Argument("events", Flag, Optional, EVENTS_HELP),
             JSON,
@@ -230,6 +243,7 @@ const COMMANDS: &[CommandEntry] = &[
             Argument("out", Value("FILE", TEXT), Required, PICTURE_HELP),
             AT,
             MET_QUESTION,
+            ASK,
             MET_CASE,
             Argument("from", Value("A", NUMBER), Optional, FROM_HELP),
             Argument("to", Value("B", NUMBER), Optional, TO_HELP),
@@ -253,7 +267,8 @@ const COMMANDS: &[CommandEntry] = &[
         name: "decide",
         about: "Decides for each case of a question whether some moment of the logged run met it",
         arguments: &[
-            Argument("question", Value("Q", TEXT), Required, QUESTION_HELP),
+            Argument("question", Value("Q", TEXT), Optional, QUESTION_HELP),
+            ASK,
             Argument("out", Value("C", TEXT), Optional, MADE_CERT_HELP),
             JSON,
             DIR,
@@ -401,6 +416,23 @@ fn folders<'a>(alloc: Global, matches: &ArgMatches<'a>) -> Result<Vec<&'a str>, 
     }
 }
 
+/// Where the question comes from, if one is named. It isn't named twice.
+fn question_source<'a>(matches: &ArgMatches<'a>) -> Result<Option<QuestionSource<'a>>, OptionsFault>
+    ensures found { IfOk result (MayHaveSource (rows_of (found_of matches.now))) }
+    ensures refused { IfErr result (λ why. MayNameQuestion (rows_of (found_of matches.now)) → ⊥) }
+{
+    match text(matches, "question") {
+        None => match text(matches, "ask") {
+            None => Ok(None),
+            Some(sentence) => Ok(Some(QuestionSource::Sentence(sentence))),
+        },
+        Some(name) => match text(matches, "ask") {
+            None => Ok(Some(QuestionSource::File(name))),
+            Some(_) => Err(OptionsFault::Question),
+        },
+    }
+}
+
 /// What is expected of the election.
 fn expectation<'a>(alloc: Global, matches: &ArgMatches<'a>) -> Result<Expectation<'a>, OptionsFault>
     ensures found { IfOk result (HasExpectation (rows_of (found_of matches.now))) }
@@ -420,11 +452,13 @@ fn logs<'a>(alloc: Global, matches: &ArgMatches<'a>) -> Result<Request<'a>, Opti
 {
     let is_json = flag(matches, "json");
     let expected = expectation(alloc, matches)?;
-    if flag(matches, "each") {
+    let is_summed = flag(matches, "sum");
+    if is_summed || flag(matches, "each") {
         return Ok(Request::Each(EachRequest {
             is_json,
             expected,
             detail: FolderDetail::Line,
+            is_summed,
             folders: folders(alloc, matches)?,
         }));
     }
@@ -448,7 +482,7 @@ fn explain<'a>(alloc: Global, matches: &ArgMatches<'a>) -> Result<Request<'a>, O
             is_json,
         }));
     }
-    if text(matches, "question").is_some()
+    if question_source(matches)?.is_some()
         || number(matches, "case")?.is_some()
         || text(matches, "cert").is_some()
     {
@@ -458,6 +492,7 @@ fn explain<'a>(alloc: Global, matches: &ArgMatches<'a>) -> Result<Request<'a>, O
         is_json,
         expected: expectation(alloc, matches)?,
         detail: FolderDetail::Reasons,
+        is_summed: false,
         folders: folders(alloc, matches)?,
     }))
 }
@@ -470,7 +505,7 @@ fn explained_answer<'a>(
     ensures asked { IfOk result (HasAnswer (rows_of (found_of matches.now))) }
     ensures refused { IfErr result (λ why. NamesAnswer (rows_of (found_of matches.now)) → why ≡ options.OutOfMemory) }
 {
-    match text(matches, "question") {
+    match question_source(matches)? {
         None => match number(matches, "case")? {
             Some(_) => Err(OptionsFault::CaseWithoutQuestion),
             None => match text(matches, "cert") {
@@ -564,7 +599,7 @@ fn asked_moment<'a>(
     ensures asked { IfOk result (HasMoment (rows_of (found_of matches.now))) }
     ensures refused { IfErr result (λ why. NamesMoment (rows_of (found_of matches.now)) → why ≡ options.OutOfMemory) }
 {
-    match text(matches, "question") {
+    match question_source(matches)? {
         None => match number(matches, "case")? {
             Some(_) => Err(OptionsFault::CaseWithoutQuestion),
             None => match text(matches, "at") {
@@ -637,9 +672,12 @@ fn decide<'a>(alloc: Global, matches: &ArgMatches<'a>) -> Result<DecideRequest<'
     ensures asked { IfOk result (HasFilesToDecide (rows_of (found_of matches.now))) }
     ensures refused { IfErr result (λ why. NamesFilesToDecide (rows_of (found_of matches.now)) → why ≡ options.OutOfMemory) }
 {
+    let Some(question) = question_source(matches)? else {
+        return Err(OptionsFault::Question);
+    };
     let logs = log_source(alloc, matches)?;
     Ok(DecideRequest {
-        question: given_text(matches, "question")?,
+        question,
         certificate: text(matches, "out"),
         is_json: flag(matches, "json"),
         logs,

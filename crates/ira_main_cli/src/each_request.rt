@@ -9,6 +9,8 @@ pub struct EachRequest<'a> {
     /// What is expected of each election.
     pub expected: Expectation<'a>,
     pub detail: FolderDetail,
+    /// Whether it is wanted below all answers how many of the runs had what.
+    pub is_summed: bool,
     /// The folders, in the order of the answers. Each has the logs of a ring, named by their places.
     pub folders: Vec<&'a str>,
 }

@@ -1,6 +1,7 @@
 use crate::case_selection::CaseSelection;
 use crate::expectation::Expectation;
 use crate::log_source::LogSource;
+use crate::question_source::QuestionSource;
 
 /// An answer to explain, as the words name it.
 #[derive(Drop)]
@@ -17,9 +18,9 @@ pub enum ExplainedAnswer<'a> {
         asked: CaseSelection<'a>,
         logs: LogSource<'a>,
     },
-    /// That of logs together with the question and the certificate of these files.
+    /// That of logs together with the question and the certificate that these name.
     Certificate {
-        question: &'a str,
+        question: QuestionSource<'a>,
         certificate: &'a str,
         logs: LogSource<'a>,
     },

@@ -18,6 +18,8 @@ pub enum OptionsFault {
     EmptyFolder,
     /// A question is named, and something is expected of the election.
     ExpectationAndQuestion,
+    /// A question is named both by a file and by a sentence, or by neither where one is due.
+    Question,
     /// A case is named, and no question.
     CaseWithoutQuestion,
     /// A certificate is named, and no question.
@@ -57,6 +59,7 @@ impl OptionsFault {
             | OptionsFault::ExpectationAndQuestion
             | OptionsFault::CaseAndCertificate
             | OptionsFault::CutAndQuestion
+            | OptionsFault::Question
             | OptionsFault::Size => ErrorKind::ArgumentConflict,
             OptionsFault::CaseWithoutQuestion | OptionsFault::CertificateWithoutQuestion => {
                 ErrorKind::MissingRequiredArgument
@@ -75,18 +78,26 @@ impl OptionsFault {
     pub fn text(self) -> &'static str {
         match self {
             OptionsFault::Sources => "the logs are named either by <LOG>... or by --dir <DIR>",
-            OptionsFault::Folders => "--each takes the names of folders alone: --each <DIR>...",
+            OptionsFault::Folders => "--each and --sum take folders alone: --each <DIR>...",
             OptionsFault::EachAndQuestion =>
-                "--each goes with none of --question, --case and --cert",
+                "--each goes with none of --question, --ask, --case and --cert",
             OptionsFault::EmptyFolder => "--each takes names of folders, and none is empty",
             OptionsFault::ExpectationAndQuestion => {
-                "--question <Q> goes with neither --over nor --leads <P,..|any|FILE>"
+                "--question <Q> and --ask <SENTENCE> go with neither --over nor --leads <P,..|any|FILE>"
             }
-            OptionsFault::CaseWithoutQuestion => "--case <K> needs --question <Q>",
-            OptionsFault::CertificateWithoutQuestion => "--cert <C> needs --question <Q>",
+            OptionsFault::Question => {
+                "the question is named either by --question <Q> or by --ask <SENTENCE>"
+            }
+            OptionsFault::CaseWithoutQuestion => {
+                "--case <K> needs --question <Q> or --ask <SENTENCE>"
+            }
+            OptionsFault::CertificateWithoutQuestion => {
+                "--cert <C> needs --question <Q> or --ask <SENTENCE>"
+            }
             OptionsFault::CaseAndCertificate => "--case <K> and --cert <C> exclude one another",
-            OptionsFault::CutAndQuestion =>
-                "--at <N0,N1,..> and --question <Q> exclude one another",
+            OptionsFault::CutAndQuestion => {
+                "--at <N0,N1,..> goes with neither --question <Q> nor --ask <SENTENCE>"
+            }
             OptionsFault::NoNumbers => {
                 "--lost <P,..> and --at <N0,N1,..> are numbers with commas between them, as 2,3"
             }

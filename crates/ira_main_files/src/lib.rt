@@ -24,7 +24,6 @@ pub use file_shelf::FileShelf;
 pub use leaders_text::{LeadersFault, read_leaders};
 pub use new_file::NewFile;
 pub use piped_writer::PipedWriter;
-pub use read_text::read_after;
 pub use retrying_reader::RetryingReader;
 pub use shelf::Shelf;
 pub use shelf_fault::ShelfFault;

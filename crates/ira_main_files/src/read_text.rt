@@ -36,7 +36,7 @@ fn read_at<I: Read>(
 }
 
 /// Reads once, after the part of the buffer that is filled.
-pub fn read_after<A: Allocator, I: Read>(
+fn read_after<A: Allocator, I: Read>(
     input: &mut CountingReader<I>,
     buffer: &mut Vec<u8, A>,
     filled: usize,

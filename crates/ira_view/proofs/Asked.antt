@@ -28,14 +28,6 @@ pub found_of_asked : {A : Type 0} (texts : List (List ℕ)) (question : List ℕ
 found_of_asked texts question asked (Refused r) fits found = absurd found
 found_of_asked texts question asked (Cases nodes found) fits h = ((asked.logs, asked.question, fits, h.0, h.1), tt)
 
--- where the answer is that of the texts, no case of the question is met after a yes
-pub never_met : {V E : Type 0} (answer : V → Answer) (texts : List (List ℕ)) (question certificate : List ℕ)
-    (r : Result V E) → IfOk r (λ v. IsCheckAnswer texts question certificate (answer v))
-    → IfOk r (λ v. answer v ≡ Yes → NoCaseIsMet texts question certificate)
-never_met answer texts question certificate (Ok v) h = λ e.
-    no_case texts question certificate (subst (λ (a : Answer). IsCheckAnswer texts question certificate a) e h)
-never_met answer texts question certificate (Err f) h = tt
-
 -- what is found for a question that is asked is explained
 pub findings_explained : {A E : Type 0} (files : AskedFiles) (judged : Judged A) (case : Option ℕ)
     (asked : AskedQuestion) (r : Result (FindingsView A) E) → IsAsked files asked
@@ -49,7 +41,7 @@ pub check_explained : {A E : Type 0} (files : AskedFiles) (certificate : NamedTe
     (asked : AskedQuestion) (read : Certificate) (r : Result (View A) E)
     → IsPosed files certificate.text.now asked read → IfOk r (λ view. view.explanation.ring ≡ Some (counts asked.logs))
     → IfOk r (λ view.
-    IsSectionsExplanation files asked certificate.name.now read.sections view.answer view.explanation)
+    IsSectionsExplanation asked certificate.name.now read.sections view.answer view.explanation)
     → IfOk r (λ view. IsCheckExplanation files certificate judged view.answer view.explanation)
 check_explained files certificate judged asked read (Ok view) posed ring why = of_sections asked read posed ring why
 check_explained files certificate judged asked read (Err f) posed ring why = tt

@@ -95,14 +95,14 @@ IsPosed files certificate asked read =
 
 -- of the answer for the sections of a certificate's file of this name: nothing where they are sound, else why they
 -- aren't
-abbrev pub IsSectionsExplanation : {A : Type 0} → AskedFiles → AskedQuestion → List ℕ → List Section → Answer
-    → Explanation A → Type 0
-IsSectionsExplanation files asked file sections Yes explanation =
+abbrev pub IsSectionsExplanation : {A : Type 0} → AskedQuestion → List ℕ → List Section → Answer → Explanation A
+    → Type 0
+IsSectionsExplanation asked file sections Yes explanation =
     AreSound asked.logs asked.question.cases sections × (explanation.state_before ≡ None)
     × (explanation.evidence.items ≡ [])
-IsSectionsExplanation files asked file sections (No reason) explanation =
+IsSectionsExplanation asked file sections (No reason) explanation =
     IsSectionsRefusal asked.logs asked.question.cases sections reason
-    × IsUnsoundExplained files asked file sections reason explanation
+    × IsUnsoundExplained asked file sections reason explanation
 
 -- of an answer with a certificate: what comes of its sections, or why it is none for the ring of the question, or why
 -- the question isn't asked of the texts
@@ -111,7 +111,7 @@ pub data IsCheckExplanation {A : Type 0} (files : AskedFiles) (certificate : Nam
   of_sections :
       (asked : AskedQuestion) (read : Certificate) → IsPosed files certificate.text.now asked read
       → explanation.ring ≡ Some (counts asked.logs)
-      → IsSectionsExplanation files asked certificate.name.now read.sections answer explanation
+      → IsSectionsExplanation asked certificate.name.now read.sections answer explanation
       → IsCheckExplanation files certificate judged answer explanation
   no_certificate :
       (asked : AskedQuestion) (reason : Reason) → IsAsked files asked

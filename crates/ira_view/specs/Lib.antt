@@ -6,8 +6,8 @@ pub mod FirstCut
 pub mod Form
 pub mod Html
 pub mod MendedLines
-pub mod PosedCheck
 pub mod RunFaultLine
+pub mod RunFeatures
 pub mod ShownRing
 pub mod Status
 pub mod Texts

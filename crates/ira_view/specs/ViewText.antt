@@ -1,5 +1,5 @@
 -- What is written of answers and findings, for a person or as JSON.
-use Rattle.std.specs.Prelude.{◌≡◌, ℕ, List, ◌++◌, Option, Result, Ok, Err}
+use Rattle.std.specs.Prelude.{◌≡◌, ℕ, Bool, List, [], ◌++◌, Option, Result, Ok, Err, codes, count_by, decimal, false, length, true}
 use Rattle.ira_event.specs.Sink.{SinkState, StopsIn, Takes}
 use Rattle.ira_audit.specs.FindingsText.{findings_text}
 use Rattle.ira_audit.specs.Report.{report_line}
@@ -13,7 +13,9 @@ use Rattle.ira_view_election.specs.Election.{Standing}
 use Rattle.ira_view_json.specs.AnswerValue.{answer_value, findings_values}
 use Rattle.ira_view_json.specs.ExplainedFindings.{explained_findings}
 use Rattle.ira_view_json.specs.ExplainedValue.{explained_value}
+use Rattle.ira_view_json.specs.FolderValue.{sum_value}
 use Rattle.ira_view_json.specs.Line.{AreLinesOf, IsLineOf}
+use Rattle.ira_view_json.specs.declared.run_features.RunFeatures.{RunFeatures}
 use Rattle.ira_view.specs.Status.{IsFindingsStatus, answer_status, status_number}
 use Rattle.ira_view.specs.declared.form.Form.{Form}
 use Rattle.ira_view.specs.declared.form.Form.TheVariants.{Json, Words}
@@ -47,6 +49,21 @@ IsFindingsViewText Json findings explanation text =
     × AreLinesOf (explained_findings (status_number status) findings explanation) text
 IsFindingsViewText Words findings explanation text =
     IsPrintable explanation.page × (text ≡ findings_text findings ++ explanation.page)
+
+-- how many of the runs had what
+abbrev pub sum_words : List RunFeatures → List ℕ
+sum_words runs =
+    codes "of " ++ decimal (length runs) ++ codes " runs: "
+    ++ decimal (count_by (λ run. run.tie) runs) ++ codes " with a tie, "
+    ++ decimal (count_by (λ run. run.second_round) runs) ++ codes " with a second round, "
+    ++ decimal (count_by (λ run. run.second_term) runs) ++ codes " with a second term, "
+    ++ decimal (count_by (λ run. run.dropped) runs) ++ codes " with a dropped message\n"
+
+-- that as JSON, or in words, where it is asked
+abbrev pub IsSumText : Bool → Form → List RunFeatures → List ℕ → Type 0
+IsSumText true Json runs text = IsLineOf (sum_value runs) text
+IsSumText true Words runs text = text ≡ sum_words runs
+IsSumText false form runs text = text ≡ []
 
 -- the sink took such a text; a first part of one, where it failed; or nothing, where memory ran out
 abbrev pub WroteText : {T : Type 0} → (List ℕ → Type 0) → Result T ShowFault → SinkState → SinkState → Type 0

@@ -1,31 +1,17 @@
-ghost use Rattle.std.specs.Prelude.{◌≡◌, IfOk};
-ghost use Rattle.ira_audit.specs.CheckAnswer.{IsCheckAnswer};
+ghost use Rattle.std.specs.Prelude.{IfOk};
 ghost use Rattle.ira_audit.specs.Findings.{AreFindings, AreReportable};
 ghost use Rattle.ira_audit.specs.Judged.{IsJudged};
-ghost use Rattle.ira_audit.specs.Never.{NoCaseIsMet};
 ghost use Rattle.ira_audit.specs.QuestionFitsLogs.{QuestionFitsLogs};
-ghost use Rattle.ira_audit.specs.Report.{IsReportable};
-ghost use Rattle.ira_audit.specs.declared.answer.Answer.TheVariants.{Yes};
 ghost use Rattle.ira_view_explain_question.specs.Explanation.{AreFindingsExplained};
-ghost use Rattle.ira_view.specs.Explained.{IsCheckExplanation, IsFindingsExplanation};
+ghost use Rattle.ira_view.specs.Explained.{IsFindingsExplanation};
 ghost use Rattle.ira_view.specs.Texts.{texts_of};
 
 use crate::findings_view::FindingsView;
 use crate::not_asked::explain_not_asked;
-use crate::posed_check::{PosedCheck, explain_checked, pose_check};
-use crate::view::View;
 use ira_audit::{AskedQuestion, Findings, Judged, Refusal};
 use ira_event::OutOfMemory;
-use ira_links::OpenGate;
 use ira_view_explain_question::{AskedFiles, explain_found};
-use ira_view_page::NamedText;
 use std::alloc::Allocator;
-use std::sync::Wait;
-use std::thread::Threads;
-use std::time::Clock;
-
-/// How often the steps of a section are halved among threads. The answer is the same at every depth.
-const DEPTH: u8 = 2;
 
 /// Decides a question of judged logs, of one case or of the first ones, and says why what is found is so.
 pub fn explain_findings<A: Allocator + Clone>(
@@ -76,33 +62,4 @@ fn explain_asked<A: Allocator + Clone>(
         findings,
         explanation,
     })
-}
-
-/// Judges a certificate for a question about logs that were judged, and says why the answer is as it is.
-pub fn explain_certified<R, A>(
-    rt: &R,
-    alloc: A,
-    files: AskedFiles<'_>,
-    certificate: &NamedText<'_>,
-    judged: &Judged<A>,
-) -> Result<View<A>, OutOfMemory>
-where
-    R: Threads + Wait + Clock + Sync,
-    A: Allocator + Clone + Send + Sync,
-    requires { IsJudged (texts_of files.logs.now) judged.now }
-    ensures answer { IfOk result (λ view. IsCheckAnswer (texts_of files.entry.logs.now)
-        files.entry.question.now.text.now certificate.now.text.now view.answer) }
-    ensures reportable { IfOk result (λ view. IsReportable view.answer) }
-    ensures never { IfOk result (λ view. view.answer ≡ Yes → NoCaseIsMet (texts_of files.entry.logs.now)
-        files.entry.question.now.text.now certificate.now.text.now) }
-    ensures explained { IfOk result (λ view.
-        IsCheckExplanation files.entry certificate.now judged.now view.answer view.explanation) }
-{
-    match pose_check(alloc.clone()?, files, certificate, judged)? {
-        PosedCheck::Posed { asked, read } => {
-            let checked = asked.check(rt, &read, DEPTH, &OpenGate);
-            explain_checked(alloc, files, certificate, &asked, &read, checked)
-        }
-        PosedCheck::Refused(view) => Ok(view),
-    }
 }

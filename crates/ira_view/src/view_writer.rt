@@ -9,7 +9,7 @@ ghost use Rattle.ira_audit.specs.declared.findings.Findings.{Findings};
 ghost use Rattle.ira_view_election.specs.Election.{standing_of};
 ghost use Rattle.ira_view_page.specs.Printable.{IsPrintable};
 ghost use Rattle.ira_view.specs.declared.form.Form.TheVariants.{Json, Words};
-ghost use Rattle.ira_view.specs.ViewText.{IsAnswerText, IsFindingsText, IsFindingsViewText, IsViewText, WroteText};
+ghost use Rattle.ira_view.specs.ViewText.{IsAnswerText, IsFindingsText, IsFindingsViewText, IsSumText, IsViewText, WroteText, sum_words};
 
 use crate::findings_view::FindingsView;
 use crate::form::Form;
@@ -18,8 +18,10 @@ use crate::view::View;
 use ira_audit::{Answer, DecidedCases, write_findings, write_report};
 use ira_event::{MemorySink, OutOfMemory, Sink, WriteFault, write_bytes};
 use ira_view_election::Election;
-use ira_view_json::{answer_line, cases_lines, explained_findings_lines, explained_line};
-use ira_view_page::{Explanation, ShowFault};
+use ira_view_json::{
+    RunFeatures, answer_line, cases_lines, explained_findings_lines, explained_line, sum_line,
+};
+use ira_view_page::{Explanation, Page, PageText, ShowFault};
 use std::alloc::Allocator;
 
 /// Writes the line of an answer, and the page after it.
@@ -187,5 +189,43 @@ pub fn write_decided_as<A: Allocator + Clone, W: Sink>(
             let lines = decided_lines(alloc, decided)?;
             write_text(lines.bytes(), sink)
         }
+    }
+}
+
+/// The line on how many of these runs had what.
+fn sum_page<A: Allocator>(alloc: A, runs: &[RunFeatures]) -> Result<PageText<A>, OutOfMemory>
+    ensures { IfOk result (λ text. text ≡ sum_words runs.now) }
+{
+    let mut page = Page::new(alloc);
+    page.words("of ");
+    page.number(runs.len() as u64);
+    page.words(" runs: ");
+    page.number(runs.iter().filter(|run| run.tie).count() as u64);
+    page.words(" with a tie, ");
+    page.number(runs.iter().filter(|run| run.second_round).count() as u64);
+    page.words(" with a second round, ");
+    page.number(runs.iter().filter(|run| run.second_term).count() as u64);
+    page.words(" with a second term, ");
+    page.number(runs.iter().filter(|run| run.dropped).count() as u64);
+    page.words(" with a dropped message\n");
+    page.finish()
+}
+
+/// Writes how many of these runs had what, where that is asked.
+pub fn write_sum<A: Allocator + Clone, W: Sink>(
+    alloc: A,
+    is_asked: bool,
+    form: Form,
+    runs: &[RunFeatures],
+    sink: &mut W,
+) -> Result<(), ShowFault>
+    ensures { WroteText (IsSumText is_asked form runs.now) result (W.state sink.old) (W.state sink.new) }
+{
+    if !is_asked {
+        return Ok(());
+    }
+    match form {
+        Form::Json => write_text(sum_line(alloc, runs)?.as_bytes(), sink),
+        Form::Words => write_text(sum_page(alloc, runs)?.bytes(), sink),
     }
 }

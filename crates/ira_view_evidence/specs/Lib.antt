@@ -7,7 +7,6 @@ pub mod Laws
 pub mod LinkCause
 pub mod LinkEvidence
 pub mod LoadDifference
-pub mod LogBetween
 pub mod NodeEvidence
 pub mod RingOrder
 pub mod LinkSide

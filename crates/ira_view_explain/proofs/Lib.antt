@@ -6,6 +6,5 @@ mod Places
 mod Reading
 mod Reorderings
 mod RingHints
-mod RowsHints
 mod StopHints
 mod Told

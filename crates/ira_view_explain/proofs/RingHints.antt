@@ -1,7 +1,7 @@
 -- What is found of links and of orders of a ring, place by place.
-use Rattle.std.proofs.Common.{◌≡◌, ◌≢◌, ◌<◌, ◌+◌, ◌∙◌, ℕ, List, [], ◌∷◌, ◌++◌, Some, ap, append_assoc}
+use Rattle.std.proofs.Common.{◌≡◌, ◌≢◌, ◌<◌, ◌+◌, ◌∙◌, ℕ, List, [], ◌∷◌, ◌++◌, ap, append_assoc}
 use Rattle.std.proofs.Common.{arith, drop, get_or, inl, inr, length, subst, suc, sym, take}
-use Rattle.std.specs.Prelude.{⊤, slice_get}
+use Rattle.std.specs.Prelude.{⊤}
 use Rattle.std.proofs.Math.Seq.{drop-cons}
 use Rattle.std.proofs.lemmas.Bool.{cases_lt}
 use Rattle.std.proofs.lemmas.List.{take-append-drop, take_all}
@@ -9,9 +9,7 @@ use Rattle.ira_event.specs.declared.event.Event.{Event}
 use Rattle.ira_event.specs.declared.load.Load.{Load}
 use Rattle.ira_view_evidence.specs.LinkCause.{BeginsWith}
 use Rattle.ira_event.specs.Log.{Log}
-use Rattle.ira_order.specs.Ring.{next, prev}
-use Rattle.ira_view_explain.specs.RingHint.{Fits, IsUnreceived, IsUnsent, place_in}
-use Rattle.ira_view_explain.specs.declared.numbering.Numbering.{Numbering}
+use Rattle.ira_view_explain.specs.RingHint.{Fits, IsUnreceived, IsUnsent}
 use Rattle.ira_view_explain.specs.declared.other_faults.OtherFaults.{OtherFaults}
 use Rattle.ira_view_explain.specs.declared.other_faults.OtherFaults.TheVariants.{None, One, Several}
 
@@ -21,12 +19,6 @@ AreSoFar logs link k None = (i : ℕ) → i < k → i ≢ link → Fits logs i
 AreSoFar logs link k (One other) = (other < k) × (other ≢ link) × ¬ (Fits logs other)
     × ((i : ℕ) → i < k → i ≢ link → i ≢ other → Fits logs i)
 AreSoFar logs link k Several = ⊤
-
--- `IsAlong` of place i of the order
-abbrev pub IsAlongAt : ℕ → Numbering → List ℕ → ℕ → Type 0
-IsAlongAt nodes numbering order i = (writer reader : ℕ) → slice_get order (prev (length order) i) ≡ Some writer
-    → slice_get order i ≡ Some reader
-    → place_in nodes numbering reader ≡ next nodes (place_in nodes numbering writer)
 
 -- the same events were taken so far on both sides
 pub record AreSame (log other events others : List Event) : Type 0 where

@@ -33,7 +33,7 @@ none_more log position n load e at none not k le is = elim (cases_lt n k) [
   | inr before ↦ none k before is
 ]
 
-pub within : (es : List Event) (k : ℕ) (e : Event) → numbered es k ≡ Some e → k ≤ length es
+within : (es : List Event) (k : ℕ) (e : Event) → numbered es k ≡ Some e → k ≤ length es
 within es zero e is = omega arith
 within es (suc k) e is = omega (arith, slice_get_within es k e is)
 

@@ -1,6 +1,5 @@
 -- What a hint of a link says of the logs.
-use Rattle.std.specs.Prelude.{◌≡◌, ◌⊎◌, ◌<◌, ◌+◌, ◌-◌, ⊤, ℕ, IfSome, List, [], ◌∷◌, ◌++◌, All, Option, None, Some, drop, length}
-use Rattle.std.specs.Prelude.{slice_get, take}
+use Rattle.std.specs.Prelude.{◌≡◌, ◌⊎◌, ◌<◌, ◌+◌, ◌-◌, ℕ, IfSome, List, ◌++◌, None, Some, drop, length, slice_get, take}
 use Rattle.std.specs.List.Sorted.{IsPermutation}
 use Rattle.ira_event.specs.Log.{Log}
 use Rattle.ira_event.specs.declared.event.Event.{Event}
@@ -13,16 +12,14 @@ use Rattle.ira_order.specs.Matching.{got, sent}
 use Rattle.ira_order.specs.Ring.{log_of, prev}
 use Rattle.ira_replay.specs.LocalRun.{LeadsTo}
 use Rattle.ira_view_evidence.specs.LinkCause.{Explains}
+use Rattle.ira_view_evidence.specs.LoadDifference.{DifferAlike}
 use Rattle.ira_view_evidence.specs.declared.link_cause.LinkCause.TheVariants as cause
 use Rattle.ira_view_evidence.specs.declared.exchange.Exchange.{Exchange}
 use Rattle.ira_view_explain.specs.RingHint as ring
-use Rattle.ira_view_explain.specs.RowsHint as rows
 use Rattle.ira_view_explain.specs.declared.faulty_link.FaultyLink.{FaultyLink}
 use Rattle.ira_view_explain.specs.declared.link_hint.LinkHint.{LinkHint}
 use Rattle.ira_view_explain.specs.declared.link_hint.LinkHint.TheVariants.{CameTwice, Dropped, NeverSent, NoReceipt}
-use Rattle.ira_view_explain.specs.declared.link_hint.LinkHint.TheVariants.{NoSending, OwedAtEnd, PassedOn, Reordered}
-use Rattle.ira_view_explain.specs.declared.link_hint.LinkHint.TheVariants.{Ring, Rows, SentTwice, SeveralLost}
-use Rattle.ira_view_explain.specs.declared.link_hint.LinkHint.TheVariants.{SeveralTwice}
+use Rattle.ira_view_explain.specs.declared.link_hint.LinkHint.TheVariants.{NoSending, OwedAtEnd, Reordered, Ring, Rows, SentTwice}
 
 -- the messages from one number to another
 abbrev pub from_to : ℕ → ℕ → List Load → List Load
@@ -31,33 +28,6 @@ from_to first last loads = take (last - (first - 1)) (drop (first - 1) loads)
 -- none of these is the load
 abbrev pub IsNowhere : List Load → Load → Type 0
 IsNowhere loads load = (i : ℕ) → ¬ (slice_get loads i ≡ Some load)
-
--- the node that sends the load begins it
-abbrev pub IsBegun : Load → Type 0
-IsBegun (Message m) = m.hop ≡ 1
-IsBegun (Reset hop) = hop ≡ 1
-
--- those of the loads that their sender begins, in their order, are the first of these
-abbrev pub AreBegun : List Load → List Load → Type 0
-AreBegun sent [] = ⊤
-AreBegun sent (load ∷ received) =
-    (IsBegun load × (rest : List Load) × (sent ≡ load ∷ rest) × AreBegun rest received)
-    ⊎ (¬ (IsBegun load) × AreBegun sent received)
-
--- without so many of them these loads begin with those
-abbrev pub LeavesOut : ℕ → List Load → List Load → Type 0
-LeavesOut n loads [] = n ≡ 0
-LeavesOut n [] (other ∷ others) = ⊥
-LeavesOut n (load ∷ loads) (other ∷ others) =
-    ((load ≡ other) × LeavesOut n loads others)
-    ⊎ ((m : ℕ) × (n ≡ m + 1) × LeavesOut m loads (other ∷ others))
-
--- so many of what was received are the load before once more, and the others are what was sent, one by one
-abbrev pub Repeats : ℕ → Option Load → List Load → List Load → Type 0
-Repeats n last sent [] = n ≡ 0
-Repeats n last sent (load ∷ received) =
-    ((rest : List Load) × (sent ≡ load ∷ rest) × Repeats n (Some load) rest received)
-    ⊎ ((m : ℕ) × (n ≡ m + 1) × (last ≡ Some load) × Repeats m last sent received)
 
 -- a node in the state drops the load for its lesser pair
 abbrev pub Drops : NodeState → Load → Type 0
@@ -87,15 +57,13 @@ IsCallMissing logs writer load call =
 -- it is so of the link
 abbrev pub IsSo : {A B : Type 0} → FaultyLink A → LinkHint B → Type 0
 IsSo link (Ring hint) = ring.IsSo link.logs.now hint
-IsSo link (Rows hint) = rows.IsSo link hint
+-- all receipts that aren't their sendings differ from them so
+IsSo link (Rows how rows) = DifferAlike how link.sides.sent.items link.sides.received.items
 IsSo link (OwedAtEnd writer file line) =
     (writer ≡ link.link) × (link.sending ≡ None) × EndsOwing link.logs.now writer link.receipt.load line
 -- the reader drops this sending in the state, to which its log leads
 IsSo link (Dropped reader state load) = (reader ≡ link.reader) × LeadsAt link.logs.now reader state × Drops state load
     × ((sending : Exchange) × (link.sending ≡ Some sending) × (sending.load ≡ load))
--- what was sent are the messages that the writer begins, and of what was received those that it begins are these
-IsSo link (PassedOn writer) =
-    (writer ≡ link.link) × All IsBegun link.sides.sent.items × AreBegun link.sides.sent.items link.sides.received.items
 -- the receipts of these numbers are the sendings of these numbers, in some order
 IsSo link (Reordered first last) =
     IsPermutation (from_to first last link.sides.sent.items) (from_to first last link.sides.received.items)
@@ -112,10 +80,5 @@ IsSo link (NoSending first count writer) = (writer ≡ link.link)
 -- the receipt is of the load before it once more
 IsSo link (CameTwice receipt writer) = (writer ≡ link.link)
     × Explains cause.CameTwice link.sides.sent.items link.sides.received.items receipt
--- from the named receipt on so many sendings have none, or so many receipts are of the load before them
-IsSo link (SeveralLost count) =
-    LeavesOut count (drop (link.k - 1) link.sides.sent.items) (drop (link.k - 1) link.sides.received.items)
-IsSo link (SeveralTwice count writer) = (writer ≡ link.link) × (last : Option Load)
-    × Repeats count last (drop (link.k - 1) link.sides.sent.items) (drop (link.k - 1) link.sides.received.items)
 IsSo link (NeverSent writer load call) = (writer ≡ link.link) × IsNowhere link.sides.sent.items load
     × IfSome call (IsCallMissing link.logs.now writer load)

@@ -1,6 +1,5 @@
 -- What a hint of the ring says of the logs.
-use Rattle.std.specs.Prelude.{◌≡◌, ◌≢◌, ◌⊎◌, ◌<◌, ◌+◌, ◌-◌, ⊤, ℕ, List, ◌∷◌, ◌++◌, Some, if◌then◌else◌, length, nat_eq}
-use Rattle.std.specs.Prelude.{slice_get}
+use Rattle.std.specs.Prelude.{◌≡◌, ◌≢◌, ◌⊎◌, ◌<◌, ◌+◌, ⊤, ℕ, List, ◌∷◌, ◌++◌, Some, length, slice_get}
 use Rattle.ira_event.specs.Log.{Log}
 use Rattle.ira_event.specs.declared.load.Load.{Load}
 use Rattle.ira_event.specs.declared.load.Load.TheVariants.{Msg as Message, Reset}
@@ -9,15 +8,12 @@ use Rattle.ira_order.specs.Ring.{log_of, next, prev}
 use Rattle.ira_replay.specs.LocalRun.{IsLocalRun}
 use Rattle.ira_view_evidence.specs.LinkCause.{BeginsWith}
 use Rattle.ira_view_evidence.specs.LoadDifference.{DifferAlike}
-use Rattle.ira_view_evidence.specs.LogBetween.{IsBetween}
 use Rattle.ira_view_evidence.specs.RingOrder.{IsRingOrder, Takes}
-use Rattle.ira_view_explain.specs.declared.numbering.Numbering.{Numbering}
-use Rattle.ira_view_explain.specs.declared.numbering.Numbering.TheVariants.{Backwards, Exchanged}
 use Rattle.ira_view_explain.specs.declared.other_faults.OtherFaults.{OtherFaults}
 use Rattle.ira_view_explain.specs.declared.other_faults.OtherFaults.TheVariants as faults
 use Rattle.ira_view_explain.specs.declared.ring_hint.RingHint.{RingHint}
-use Rattle.ira_view_explain.specs.declared.ring_hint.RingHint.TheVariants.{AnotherRun, Hole, NodeBetween, Numbered}
-use Rattle.ira_view_explain.specs.declared.ring_hint.RingHint.TheVariants.{OneRecorder, OtherOrder, SameRecords, TwoRuns}
+use Rattle.ira_view_explain.specs.declared.ring_hint.RingHint.TheVariants.{AnotherRun, Hole, OneRecorder, OtherOrder, SameRecords}
+use Rattle.ira_view_explain.specs.declared.ring_hint.RingHint.TheVariants.{TwoRuns}
 
 -- the receipts of a link are its sendings, one by one, as far as they go
 abbrev pub Fits : List Log → ℕ → Type 0
@@ -38,18 +34,6 @@ AreOtherFaults logs link faults.Several = ⊤
 abbrev pub RunsAt : List Log → ℕ → Type 0
 RunsAt logs place = (log : Log) × (slice_get logs place ≡ Some log) × IsLocalRun log
 
--- the place along the links of the node with this number
-abbrev pub place_in : ℕ → Numbering → ℕ → ℕ
-place_in nodes Backwards number = if nat_eq number 0 then 0 else nodes - number
-place_in nodes (Exchanged a b) number =
-    if nat_eq number a then b else if nat_eq number b then a else number
-
--- numbered so, each node of the order is the next one after that before it, and the first after the last
-abbrev pub IsAlong : ℕ → Numbering → List ℕ → Type 0
-IsAlong nodes numbering order = (i writer reader : ℕ) → slice_get order (prev (length order) i) ≡ Some writer
-    → slice_get order i ≡ Some reader
-    → place_in nodes numbering reader ≡ next nodes (place_in nodes numbering writer)
-
 -- the log of a place fits neither that of the node before it nor that of the node after it, and all others fit
 pub record IsOdd (logs : List Log) (place before after : ℕ) : Type 0 where
   pub before_is : before ≡ prev (length logs) place
@@ -57,11 +41,6 @@ pub record IsOdd (logs : List Log) (place before after : ℕ) : Type 0 where
   pub takes_not : ¬ (Fits logs before)
   pub gives_not : ¬ (Fits logs place)
   pub others : OthersFit logs before place
-
--- the log of a node in a ring of so many nodes may stand between those of two places
-abbrev pub CanStand : List Log → ℕ → ℕ → ℕ → Type 0
-CanStand logs nodes writer reader =
-    (log : Log) × (log.nodes ≡ nodes) × IsBetween (log_of logs writer) (log_of logs reader) log
 
 -- a node may pass the one load on as the other
 abbrev pub IsPassedOn : Load → Load → Type 0
@@ -85,8 +64,7 @@ IsUnsent load sent received = (front rest : List Load) × (received ≡ front ++
 
 -- it is so of the logs
 abbrev pub IsSo : {A : Type 0} → List Log → RingHint A → Type 0
--- numbered so, or in this order, all links match
-IsSo logs (Numbered numbering) = (order : List ℕ) × IsRingOrder logs order × IsAlong (length logs) numbering order
+-- in this order all links match
 IsSo logs (OtherOrder order) = IsRingOrder logs order.items
 -- these logs fit one another, and those, but not these with those; and each is that of a node
 IsSo logs (TwoRuns first last others_first others_last) =
@@ -101,9 +79,4 @@ IsSo logs (OneRecorder place before after how) = IsOdd logs place before after
 IsSo logs (Hole place load before passed) = (after : ℕ) × IsOdd logs place before after × IsSkipped load passed
     × IsUnreceived load (sent (log_of logs before)) (got (log_of logs place))
     × IsUnsent passed (sent (log_of logs place)) (got (log_of logs after))
--- with another log of a node there all links would match
 IsSo logs (AnotherRun place before after) = IsOdd logs place before after × RunsAt logs place
-    × CanStand logs (length logs) before after
--- with this log of a node between them all links would match
-IsSo logs (NodeBetween writer reader nodes) = (reader ≡ next (length logs) writer) × (nodes ≡ length logs + 1)
-    × OthersFit logs writer writer × CanStand logs nodes writer reader

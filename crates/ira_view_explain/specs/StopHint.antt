@@ -10,19 +10,18 @@ use Rattle.ira_event.specs.declared.load.Load.TheVariants.{Msg as Message, Reset
 use Rattle.ira_event.specs.declared.msg.Msg.{Msg}
 use Rattle.ira_node.specs.NodeStep.{NodeStep}
 use Rattle.ira_node.specs.declared.node_state.NodeState.{NodeState}
-use Rattle.ira_node.specs.declared.phase.Phase.TheVariants.{Active, Yielding}
+use Rattle.ira_node.specs.declared.phase.Phase.TheVariants.{Yielding}
 use Rattle.ira_node.specs.declared.step_fault.StepFault.TheVariants.{Ended, MustDraw, NotChoosing, NotLeader}
 use Rattle.ira_order.specs.Matching.{got, sent}
 use Rattle.ira_order.specs.Ring.{numbered}
 use Rattle.ira_view_evidence.specs.LoadDifference.{IsOtherIn, IsRaised}
 use Rattle.ira_view_evidence.specs.declared.load_difference.LoadField.TheVariants.{Bit}
-use Rattle.ira_view_explain.specs.LinkHint.{IsBegun}
 use Rattle.ira_view_explain.specs.declared.stopped.Stopped.{Stopped}
 use Rattle.ira_view_explain.specs.declared.stop_hint.StopHint.{StopHint}
 use Rattle.ira_view_explain.specs.declared.stop_hint.StopHint.TheVariants.{BeginsByItself, BitContrary}
 use Rattle.ira_view_explain.specs.declared.stop_hint.StopHint.TheVariants.{BitKept, CalledLater, DrawsAfterReset}
 use Rattle.ira_view_explain.specs.declared.stop_hint.StopHint.TheVariants.{HasYielded, HopNotRaised, HopRaisedTwice}
-use Rattle.ira_view_explain.specs.declared.stop_hint.StopHint.TheVariants.{IdRange, LeadsLater, NeverReceived}
+use Rattle.ira_view_explain.specs.declared.stop_hint.StopHint.TheVariants.{IdRange, NeverReceived}
 use Rattle.ira_view_explain.specs.declared.stop_hint.StopHint.TheVariants.{NeverSends, NoReceipts, NotDrawn, OnlyBit}
 use Rattle.ira_view_explain.specs.declared.stop_hint.StopHint.TheVariants.{ResetBack, ResetFirst, ResetNotBack, RoundAgain}
 use Rattle.ira_view_explain.specs.declared.stop_hint.StopHint.TheVariants.{SentLater, SentTwice, WokenByMessage}
@@ -46,12 +45,10 @@ IsCalledNext log stopped load =
     (call : Load) × (numbered log.events (stopped.position + 1) ≡ Some (Got call))
     × CallsFor log.nodes stopped.state (Got call) load
 
--- the next event is the receipt of the node's own pair by which it leads
-abbrev pub LeadsNext : Log → Stopped → Type 0
-LeadsNext log stopped =
-    (round id : ℕ) × (stopped.state.phase ≡ Active round id)
-    × (numbered log.events (stopped.position + 1)
-    ≡ Some (Got (Message (record { round = round; id = id; hop = log.nodes; dirty = false }))))
+-- the node that sends the load begins it
+abbrev pub IsBegun : Load → Type 0
+IsBegun (Message m) = m.hop ≡ 1
+IsBegun (Reset hop) = hop ≡ 1
 
 -- the event sends a load, another is owed, and they differ so
 abbrev pub IsOther : Stopped → (Load → Load → Type 0) → Type 0
@@ -108,7 +105,6 @@ IsSo log stopped (ResetFirst is_passed) =
 IsSo log stopped (CalledLater line) =
     (load : Load) × (stopped.event ≡ Sent load) × IsCalledNext log stopped load
     × (line ≡ line_number (stopped.position + 1))
-IsSo log stopped (LeadsLater line) = LeadsNext log stopped × (line ≡ line_number (stopped.position + 1))
 IsSo log stopped SentTwice = numbered log.events (stopped.position - 1) ≡ Some stopped.event
 IsSo log stopped NoReceipts = got log.events ≡ []
 IsSo log stopped (ResetNotBack nodes) = nodes ≡ log.nodes

@@ -1,34 +1,37 @@
+use crate::load_differences::{exchanged, field_of, noun_of};
 use crate::numbered::fill;
-use crate::other_faults::OtherFaults;
 use crate::ring_hint::RingHint;
-use crate::rows_hint::RowsHint;
 use ira_event::Load;
 use ira_node::NodeState;
 use ira_view_evidence::{LoadDifference, LoadField};
 use ira_view_page::Page;
 use std::alloc::Allocator;
 
+/// How many receipts of a link aren't their sendings.
+#[derive(Clone, Copy, PartialEq, Eq)]
+pub(crate) enum RowCount {
+    One,
+    Several,
+    /// Several, and each is another.
+    All,
+}
+
 /// A usual cause why a link doesn't match: it explains all that the two nodes recorded of the link.
 #[derive(Drop)]
 pub(crate) enum LinkHint<'a, A: Allocator> {
     Ring(RingHint<A>),
-    Rows(RowsHint),
+    /// So many receipts aren't their sendings, and differ from them so.
+    Rows(LoadDifference, RowCount),
     /// The log of this sender, in this file, ends in this line, where it owes what was received.
     OwedAtEnd(u8, &'a str, usize),
     /// Each sending without a receipt is one that this reader drops, this one first, in this state.
     Dropped(u8, NodeState, Load),
-    /// This writer recorded its own messages alone.
-    PassedOn(u8),
     /// This sending is the one before it once more.
     SentTwice(u32),
     /// Sendings from this number on, so many, have no receipt.
     NoReceipt(u32, u32),
-    /// So many sendings have no receipt, not one after the other.
-    SeveralLost(usize),
     /// This receipt is of the load before it, or this writer's sending of it isn't recorded.
     CameTwice(u32, u8),
-    /// So many receipts are of the loads before them, or sendings of this writer aren't recorded.
-    SeveralTwice(usize, u8),
     /// Receipts from this number on, so many, have no sending of this writer.
     NoSending(u32, u32, u8),
     /// The receipts from one number to another are the sendings of these numbers, in another order.
@@ -43,27 +46,57 @@ fn last_of(first: u32, count: u32) -> u32 {
     first.saturating_add(count).saturating_sub(1)
 }
 
-impl<A: Allocator> LinkHint<'_, A> {
-    /// Whether a cause of the ring is likelier, where these other links don't match: that a node is missing on this one,
-    /// or that there are logs of two runs.
-    pub(crate) fn is_doubtful(&self, others: OtherFaults) -> bool {
-        match self {
-            LinkHint::NoReceipt(_, count) | LinkHint::NoSending(_, count, _) => {
-                others == OtherFaults::None && *count > 1
-            }
-            LinkHint::Rows(RowsHint::HopOfOneSide) => others == OtherFaults::None,
-            LinkHint::Rows(RowsHint::Each(LoadDifference::OneField(LoadField::Id))) => {
-                matches!(others, OtherFaults::One(_))
-            }
-            _ => false,
+/// Adds how so many receipts differ from their sendings.
+fn print_rows<A: Allocator>(text: &mut Page<A>, how: LoadDifference, rows: RowCount) {
+    match (field_of(how), how, rows) {
+        (Some(LoadField::Bit), _, RowCount::All) => text.words(
+            "only the bit differs, in every row: one side means the contrary by it. `clean` is \"unique so far\".",
+        ),
+        (Some(LoadField::Bit), _, _) => text.words(
+            "only the bit differs: the link changed it, or one side records it after a change.",
+        ),
+        (Some(field), _, RowCount::One) => {
+            text.words("only the ");
+            text.words(noun_of(field));
+            text.words(
+                " of this message differs: the link changed it, or one side recorded it wrongly.",
+            );
         }
+        (_, LoadDifference::RaisedHop | LoadDifference::LoweredHop, _) => text.words(
+            "only the hop differs, by one: perhaps one side records it before it is raised, the other after, or the log \
+             of a node between them is missing.",
+        ),
+        (Some(field), _, _) => {
+            text.words("in each row that differs it is the ");
+            text.words(noun_of(field));
+            text.words(" alone: one side records another ");
+            text.words(noun_of(field));
+            text.words(" than crosses the link.");
+        }
+        (None, _, _) => {
+            text.words(exchanged(how));
+            text.words(" are exchanged in each row that differs: their order is ROUND ID HOP BIT.");
+        }
+    }
+}
+
+impl<A: Allocator> LinkHint<'_, A> {
+    /// Whether logs of two runs are likelier.
+    pub(crate) fn is_doubtful(&self) -> bool {
+        matches!(
+            self,
+            LinkHint::Rows(
+                LoadDifference::OneField(LoadField::Id),
+                RowCount::Several | RowCount::All
+            )
+        )
     }
 
     /// Adds its sentence.
     pub(crate) fn print<P: Allocator>(&self, text: &mut Page<P>) {
         match self {
             LinkHint::Ring(hint) => hint.print(text),
-            LinkHint::Rows(hint) => hint.print(text),
+            LinkHint::Rows(how, rows) => print_rows(text, *how, *rows),
             LinkHint::OwedAtEnd(writer, file, line) => {
                 fill(text, "the log of node {} ends (", [*writer]);
                 text.place(file, *line);
@@ -81,11 +114,6 @@ impl<A: Allocator> LinkHint<'_, A> {
                     " for its lesser pair: a dropped message is a receipt too, and is recorded.",
                 );
             }
-            LinkHint::PassedOn(writer) => fill(
-                text,
-                "node {} records the messages that it begins, and none that it passes on: record each sending.",
-                [*writer],
-            ),
             LinkHint::SentTwice(sending) => fill(
                 text,
                 "sendings {} and {} are the same message: it was recorded twice, or sent twice.",
@@ -103,23 +131,11 @@ impl<A: Allocator> LinkHint<'_, A> {
                  receipts are not recorded.",
                 [*first, *count, *first, last_of(*first, *count)],
             ),
-            LinkHint::SeveralLost(count) => fill(
-                text,
-                "each receipt is a sending, in their order, and {} sendings between them have none: they were lost, or \
-                 their receipts are not recorded.",
-                [*count as u64],
-            ),
             LinkHint::CameTwice(receipt, writer) => fill(
                 text,
                 "from receipt {} on each is the sending before its own: message {} came twice, or its receipt is \
                  recorded twice, or a sending of node {} is not recorded.",
                 [*receipt, receipt.saturating_sub(1), u32::from(*writer)],
-            ),
-            LinkHint::SeveralTwice(count, writer) => fill(
-                text,
-                "{} receipts are of the load before them, and all others are the sendings, one by one: messages came \
-                 twice, or sendings of node {} are not recorded.",
-                [*count as u64, u64::from(*writer)],
             ),
             LinkHint::NoSending(first, 1, writer) => fill(
                 text,

@@ -1,22 +1,136 @@
-ghost use Rattle.std.specs.Prelude.{◌↔◌, All, IfOk, IfSome, IsTrue};
+ghost use Rattle.std.specs.Prelude.{◌≡◌, ◌↔◌, ℕ, All, IfOk, IfSome, IsTrue, Some, slice_get};
 ghost use Rattle.ira_view_evidence.specs.LinkCause.{Explains};
-ghost use Rattle.ira_view_explain.specs.LinkHint.{IsSo};
-ghost use Rattle.ira_view_explain.specs.RingHint.{AreOtherFaults};
+ghost use Rattle.ira_view_explain.specs.LinkHint.{Drops, IsNowhere, IsSo};
+ghost use Rattle.ira_view_explain.specs.RingHint.{AreOtherFaults, IsPassedOn};
 
 use crate::faulty_link::FaultyLink;
-use crate::link_hint::LinkHint;
+use crate::link_hint::{LinkHint, RowCount};
+use crate::load_differences::{DIFFERENCES, differing, field_of};
 use crate::other_faults::OtherFaults;
 use crate::reordering::{are_reordered, place_of};
-use ira_event::OutOfMemory;
-use ira_node::StepFault;
-use ira_order::FaultyEvent;
-use ira_view_evidence::LinkCause;
+use crate::ring_search::is_passed_on;
+use ira_event::{Event, Load, OutOfMemory};
+use ira_node::{NodeState, Phase, StepFault};
+use ira_order::{FaultyEvent, predecessor};
+use ira_replay::replay;
+use ira_view_evidence::{LinkCause, LinkSides, state_after};
 use std::alloc::Allocator;
 
 /// A change of order is looked for among at most so many messages.
 const MOST_TURNED: usize = 1_000;
 
+/// Whether a node in this state drops the load for its lesser pair.
+fn is_dropped(state: NodeState, load: Load) -> bool
+    ensures { IsTrue result → Drops state load }
+{
+    match (state.phase, load) {
+        (Phase::Active { round, id }, Load::Msg(message)) => {
+            (message.round, message.id) < (round, id)
+        }
+        _ => false,
+    }
+}
+
+/// What was sent to a node, isn't among its receipts, and would be passed on as this load.
+fn missing_call(sent: &[Load], received: &[Load], load: Load) -> Option<Load>
+    ensures { IfSome result (λ call. IsPassedOn call load × ((i : ℕ) × (slice_get sent.now i ≡ Some call))
+        × IsNowhere received.now call) }
+{
+    for call in sent {
+        if is_passed_on(*call, load) && place_of(received, *call).is_none() {
+            return Some(*call);
+        }
+    }
+    None
+}
+
 impl<'a, 'l, A: Allocator + Clone> FaultyLink<'a, 'l, A> {
+    /// Where the sender's log ends owing what was received.
+    fn owed_at_end(&self) -> Option<LinkHint<'a, &'l A>>
+        ensures { IfSome result (IsSo self.now) }
+    {
+        let writer = self.logs.log(self.link);
+        let state = replay(writer).ok()?;
+        if self.sending.is_some() || state.owed != Some(self.receipt.load) {
+            return None;
+        }
+        Some(LinkHint::OwedAtEnd(self.link, self.writer_file, writer.len() + 5))
+    }
+
+    /// Whether each sending without a receipt is one that the reader drops before its next receipt, of which it drops
+    /// none.
+    fn are_dropped(&self) -> bool {
+        let reader = self.logs.log(self.reader);
+        let (mut state, mut taken) = (NodeState::first(reader.initiator()), 0usize);
+        for event in reader.events() {
+            if let Event::Got(load) = event {
+                if is_dropped(state, load) {
+                    return false;
+                }
+                for sending in self.sides.sent.iter().skip(taken) {
+                    taken = taken.saturating_add(1);
+                    if *sending == load {
+                        break;
+                    }
+                    if !is_dropped(state, *sending) {
+                        return false;
+                    }
+                }
+            }
+            match state.step(reader.nodes(), &event) {
+                Ok(after) => state = after,
+                Err(_) => return false,
+            }
+        }
+        true
+    }
+
+    /// The sending that the reader drops, where it records no receipt of what it drops, and all else.
+    fn dropped(&self) -> Option<LinkHint<'a, &'l A>>
+        ensures { IfSome result (IsSo self.now) }
+    {
+        let load = self.sending?.load;
+        let before = self.receipt.at.position.checked_sub(1)?;
+        let state = state_after(self.logs.log(self.reader), before)?;
+        if !is_dropped(state, load) || !self.are_dropped() {
+            return None;
+        }
+        Some(LinkHint::Dropped(self.reader, state, load))
+    }
+
+    /// What is told where nothing explains the link: that what was received was never sent, where it wasn't.
+    fn never_sent(&self) -> Result<Option<LinkHint<'a, &'l A>>, OutOfMemory>
+        ensures { IfOk result (λ found. IfSome found (IsSo self.now)) }
+    {
+        let load = self.receipt.load;
+        if place_of(&self.sides.sent, load).is_some() {
+            return Ok(None);
+        }
+        let before = predecessor(self.logs.size().get(), self.link);
+        let taken = LinkSides::of_link(self.alloc, self.logs, before)?;
+        let call = missing_call(&taken.sent, &taken.received, load);
+        Ok(Some(LinkHint::NeverSent(self.link, load, call)))
+    }
+
+    /// How all receipts differ that aren't their sendings: at least so many, or one with fields exchanged.
+    fn changed_rows(&self, least: usize) -> Option<LinkHint<'a, &'l A>>
+        ensures { IfSome result (IsSo self.now) }
+    {
+        let (sent, received) = (&self.sides.sent, &self.sides.received);
+        let differ = differing(sent, received);
+        let rows = match differ {
+            1 => RowCount::One,
+            _ if differ == received.len() => RowCount::All,
+            _ => RowCount::Several,
+        };
+        for how in &DIFFERENCES {
+            if (differ >= least || field_of(*how).is_none()) && how.is_between_all(sent, received) {
+                return Some(LinkHint::Rows(*how, rows));
+            }
+        }
+        None
+    }
+
     /// The number of the last receipt that isn't its sending.
     fn last_difference(&self) -> u32 {
         let (mut row, mut last) = (0u32, self.k);
@@ -96,26 +210,14 @@ impl<'a, 'l, A: Allocator + Clone> FaultyLink<'a, 'l, A> {
         Some(LinkHint::NoSending(first, count, writer))
     }
 
-    /// What is missing on one side, where nothing is dropped or something.
-    fn missing(&self, has_dropped: bool) -> Option<LinkHint<'a, &'l A>>
+    /// What is missing on one side, or the one receipt of several that differs.
+    fn missing(&self) -> Option<LinkHint<'a, &'l A>>
         ensures { IfSome result (IsSo self.now) }
     {
-        let run = self.missing_run();
-        if let Some(
-            LinkHint::NoReceipt(_, 1) | LinkHint::NoSending(_, 1, _) | LinkHint::CameTwice(..),
-        ) = &run
-        {
-            return run;
+        match self.missing_run() {
+            None if self.sides.received.len() > 1 => self.changed_rows(1),
+            run => run,
         }
-        if let Some(hint) = self.passed_on().or(run) {
-            return Some(hint);
-        }
-        if let Some(rows) = self.changed_rows(1)
-            && self.sides.received.len() > 1
-        {
-            return Some(LinkHint::Rows(rows));
-        }
-        self.missing_several(has_dropped)
     }
 
     /// The cause that explains all that was recorded of the link, where nothing that is missing does so.
@@ -128,13 +230,10 @@ impl<'a, 'l, A: Allocator + Clone> FaultyLink<'a, 'l, A> {
         if let Some(hint) = self.reordered()? {
             return Ok(Some(hint));
         }
-        if let Some(rows) = self.changed_rows(2) {
-            return Ok(Some(LinkHint::Rows(rows)));
-        }
-        Ok(self.sent_twice())
+        Ok(self.changed_rows(2).or(self.sent_twice()))
     }
 
-    /// The likeliest cause; where there is none, or another is likelier, one of the ring; else what was never sent.
+    /// The likeliest cause; where there is none, or two runs are likelier, these; else what was never sent.
     fn last_cause(
         &self,
         likely: Option<LinkHint<'a, &'l A>>,
@@ -144,15 +243,11 @@ impl<'a, 'l, A: Allocator + Clone> FaultyLink<'a, 'l, A> {
         requires likely { IfSome likely (IsSo self.now) }
         ensures { IfOk result (λ found. IfSome found (IsSo self.now)) }
     {
-        if likely.as_ref().is_none_or(|hint| hint.is_doubtful(others)) {
-            let far = match others {
-                OtherFaults::None => self.node_between()?,
-                OtherFaults::One(other) => self.two_runs(other),
-                OtherFaults::Several => None,
-            };
-            if let Some(hint) = far {
-                return Ok(Some(LinkHint::Ring(hint)));
-            }
+        if let OtherFaults::One(other) = others
+            && likely.as_ref().is_none_or(|hint| hint.is_doubtful())
+            && let Some(hint) = self.two_runs(other)
+        {
+            return Ok(Some(LinkHint::Ring(hint)));
         }
         match likely {
             Some(hint) => Ok(Some(hint)),
@@ -186,9 +281,8 @@ impl<'a, 'l, A: Allocator + Clone> FaultyLink<'a, 'l, A> {
         }
         let mut likely = self.whole_cause()?;
         if likely.is_none() {
-            let dropped = self.dropped();
-            likely = self.missing(dropped.is_some());
-            if let Some(hint) = dropped {
+            likely = self.missing();
+            if let Some(hint) = self.dropped() {
                 hints.push(hint)?;
                 if let Some(hint) = likely {
                     hints.push(hint)?;

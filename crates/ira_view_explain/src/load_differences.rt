@@ -4,10 +4,12 @@ use ira_event::Load;
 use ira_view_evidence::{FieldPair, LoadDifference, LoadField};
 
 /// How the records of a message may differ, whichever of the two nodes is at fault.
-pub(crate) static DIFFERENCES: [LoadDifference; 7] = [
+pub(crate) static DIFFERENCES: [LoadDifference; 9] = [
     LoadDifference::OneField(LoadField::Bit),
     LoadDifference::OneField(LoadField::Id),
     LoadDifference::OneField(LoadField::Round),
+    LoadDifference::RaisedHop,
+    LoadDifference::LoweredHop,
     LoadDifference::OneField(LoadField::Hop),
     LoadDifference::Exchanged(FieldPair::RoundAndId),
     LoadDifference::Exchanged(FieldPair::IdAndHop),

@@ -1,6 +1,5 @@
 use crate::load_differences::{exchanged, field_of, noun_of};
 use crate::numbered::fill;
-use crate::numbering::Numbering;
 use crate::place_list::add_places;
 use ira_event::Load;
 use ira_view_evidence::{LoadDifference, LoadField};
@@ -10,8 +9,6 @@ use std::alloc::Allocator;
 /// A usual cause why a link doesn't match that speaks of the ring: it explains all links.
 #[derive(Drop)]
 pub(crate) enum RingHint<A: Allocator> {
-    /// Numbered so all links match.
-    Numbered(Numbering),
     /// In this order of the places all links match.
     OtherOrder(Vec<u8, A>),
     /// The logs from one place to another fit one another, and so do the others, and each is that of a node.
@@ -24,10 +21,8 @@ pub(crate) enum RingHint<A: Allocator> {
     /// The node of a place received one load of the node before it, passed it on as another, and recorded neither; or this
     /// one went past it.
     Hole(u8, Load, u8, Load),
-    /// The log of a place fits neither that before it nor that after it, and with another log there all links would match.
+    /// The log of a place is that of a node, and fits neither that before it nor that after it.
     AnotherRun(u8, u8, u8),
-    /// With one node more between the two the link would match; the ring would have so many nodes then.
-    NodeBetween(u8, u8, u32),
 }
 
 /// At most so many places of an order are shown.
@@ -37,15 +32,6 @@ impl<A: Allocator> RingHint<A> {
     /// Adds its sentence.
     pub(crate) fn print<P: Allocator>(&self, text: &mut Page<P>) {
         match self {
-            RingHint::Numbered(Numbering::Backwards) => text.words(
-                "numbered the other way round, all links match: your node I sends to node I-1.",
-            ),
-            RingHint::Numbered(Numbering::Exchanged(a, b)) => fill(
-                text,
-                "with nodes {} and {} in each other's place all links match: their logs, or their places, are \
-                 exchanged.",
-                [*a, *b],
-            ),
             RingHint::OtherOrder(order) => {
                 text.words("with the nodes in the order ");
                 add_places(text, order, MOST_PLACES);
@@ -118,12 +104,6 @@ impl<A: Allocator> RingHint<A> {
                 "the log of node {} is that of a node, and fits neither what node {} sent nor what node {} received; \
                  the others fit one another: perhaps it is of another run.",
                 [*place, *before, *after],
-            ),
-            RingHint::NodeBetween(writer, reader, nodes) => fill(
-                text,
-                "with one node more between node {} and node {} all links match: perhaps a log is missing there, of a \
-                 ring of {} nodes.",
-                [u32::from(*writer), u32::from(*reader), *nodes],
             ),
         }
     }

@@ -2,23 +2,19 @@ ghost use Rattle.std.specs.Prelude.{◌≡◌, ◌≢◌, ◌≤◌, ◌<◌, �
 ghost use Rattle.ira_order.specs.Ring.{log_of, next};
 ghost use Rattle.ira_view_evidence.specs.LinkCause.{BeginsWith};
 ghost use Rattle.ira_view_evidence.specs.LoadDifference.{DifferAlike};
-ghost use Rattle.ira_view_explain.specs.RingHint.{AreOtherFaults, CanStand, IsOdd, IsPassedOn, IsSkipped, IsSo, IsUnreceived, IsUnsent};
+ghost use Rattle.ira_view_explain.specs.RingHint.{AreOtherFaults, IsOdd, IsPassedOn, IsSkipped, IsSo, IsUnreceived, IsUnsent};
 ghost use Rattle.ira_view_explain.specs.RingHint.{RunsAt};
 ghost use Rattle.ira_view_explain.specs.declared.other_faults.OtherFaults.TheVariants as OtherFaults;
 
 use crate::faulty_link::FaultyLink;
 use crate::load_differences::DIFFERENCES;
-use crate::numbering::Numbering;
 use crate::other_faults::OtherFaults;
 use crate::ring_hint::RingHint;
-use ira_event::{Load, Logs, NodeLog, OutOfMemory, RingSize};
+use ira_event::{Load, Logs, NodeLog, OutOfMemory};
 use ira_order::{predecessor, successor};
 use ira_replay::replay;
-use ira_view_evidence::{LinkSides, LoadDifference, find_log_between, find_ring_order};
+use ira_view_evidence::{LinkSides, LoadDifference, find_ring_order};
 use std::alloc::Allocator;
-
-/// So many receipts at least have to speak for a log that is missing.
-const LEAST_RECEIPTS: usize = 3;
 
 /// Whether two logs have the same events.
 fn has_same_events<A: Allocator>(log: &NodeLog<A>, other: &NodeLog<A>) -> bool
@@ -150,22 +146,6 @@ fn are_local_runs<A: Allocator>(logs: &Logs<A>) -> bool
 }
 
 impl<'a, 'l, A: Allocator + Clone> FaultyLink<'a, 'l, A> {
-    /// Whether the log of a place is that of a node, and another one would fit there.
-    fn is_another_run(&self, before: u8, place: u8, after: u8) -> Result<bool, OutOfMemory>
-        requires before { before < length self.now.logs.now }
-        requires place { place < length self.now.logs.now }
-        requires after { after < length self.now.logs.now }
-        ensures { IfOk result (λ is. IsTrue is → RunsAt self.now.logs.now place
-            × CanStand self.now.logs.now (length self.now.logs.now) before after) }
-    {
-        let (logs, size) = (self.logs, self.logs.size());
-        let Ok(_) = replay(logs.log(place)) else {
-            return Ok(false);
-        };
-        let found = find_log_between(self.alloc, size, logs.log(before), logs.log(after))?;
-        Ok(found.is_some())
-    }
-
     /// The cause why the log of a place fits neither neighbour, where all others fit one another.
     fn odd_log(&self, before: u8, place: u8) -> Result<Option<RingHint<&'l A>>, OutOfMemory>
         requires place { place < length self.now.logs.now }
@@ -186,9 +166,9 @@ impl<'a, 'l, A: Allocator + Clone> FaultyLink<'a, 'l, A> {
         if let Some((load, passed)) = hole(&taken, &given) {
             return Ok(Some(RingHint::Hole(place, load, before, passed)));
         }
-        if !self.is_another_run(before, place, after)? {
+        let Ok(_) = replay(logs.log(place)) else {
             return Ok(None);
-        }
+        };
         Ok(Some(RingHint::AnotherRun(place, before, after)))
     }
 
@@ -206,38 +186,6 @@ impl<'a, 'l, A: Allocator + Clone> FaultyLink<'a, 'l, A> {
         Some(RingHint::TwoRuns(self.reader, other, others_first, self.link))
     }
 
-    /// Whether a node may be missing on this link, where all others match.
-    pub(crate) fn node_between(&self) -> Result<Option<RingHint<&'l A>>, OutOfMemory>
-        requires { AreOtherFaults self.now.logs.now self.now.link OtherFaults.None }
-        ensures { IfOk result (λ found. IfSome found (IsSo self.now.logs.now)) }
-    {
-        let nodes = u32::from(self.logs.size().get()) + 1;
-        let Some(size) = RingSize::of_number(nodes) else {
-            return Ok(None);
-        };
-        let (writer, reader) = (self.logs.log(self.link), self.logs.log(self.reader));
-        if self.sides.received.len() < LEAST_RECEIPTS
-            || !size.fits_version(writer.version())
-            || find_log_between(self.alloc, size, writer, reader)?.is_none()
-        {
-            return Ok(None);
-        }
-        Ok(Some(RingHint::NodeBetween(self.link, self.reader, nodes)))
-    }
-
-    /// An order of the ring, or a numbering, in which all links match.
-    fn other_order(&self) -> Result<Option<RingHint<&'l A>>, OutOfMemory>
-        ensures { IfOk result (λ found. IfSome found (IsSo self.now.logs.now)) }
-    {
-        let Some(order) = find_ring_order(self.alloc, self.logs)? else {
-            return Ok(None);
-        };
-        Ok(Some(match Numbering::of_order(self.logs.size().get(), &order) {
-            Some(numbering) => RingHint::Numbered(numbering),
-            None => RingHint::OtherOrder(order),
-        }))
-    }
-
     /// The cause of the ring, where one explains all links, of which these others don't match.
     pub(crate) fn ring_cause(
         &self,
@@ -246,8 +194,8 @@ impl<'a, 'l, A: Allocator + Clone> FaultyLink<'a, 'l, A> {
         requires { AreOtherFaults self.now.logs.now self.now.link others }
         ensures { IfOk result (λ found. IfSome found (IsSo self.now.logs.now)) }
     {
-        if let Some(hint) = self.other_order()? {
-            return Ok(Some(hint));
+        if let Some(order) = find_ring_order(self.alloc, self.logs)? {
+            return Ok(Some(RingHint::OtherOrder(order)));
         }
         let nodes = self.logs.size().get();
         match others {

@@ -30,8 +30,6 @@ pub(crate) enum StopHint {
     NeverSends,
     /// The node draws before it passes a reset on, or it never does.
     ResetFirst { is_passed: bool },
-    /// The receipt by which the node leads stands on this line, after the yield.
-    LeadsLater { line: usize },
     /// The receipt that calls for a sending stands on this line, after it.
     CalledLater { line: usize },
     /// The draw of this ID isn't recorded before its sending.
@@ -48,9 +46,7 @@ impl Hint for StopHint {
     fn print<A: Allocator>(&self, text: &mut Page<A>) {
         let number = match *self {
             StopHint::ResetNotBack { nodes } | StopHint::IdRange { nodes } => u64::from(nodes),
-            StopHint::SentLater { line }
-            | StopHint::LeadsLater { line }
-            | StopHint::CalledLater { line } => line as u64,
+            StopHint::SentLater { line } | StopHint::CalledLater { line } => line as u64,
             StopHint::NotDrawn { id } => u64::from(id),
             _ => 0,
         };
@@ -88,9 +84,6 @@ impl Hint for StopHint {
                     "; by its log the node never passed it on."
                 }
             }
-            StopHint::LeadsLater { .. } =>
-                "the receipt by which it leads stands after the yield, on line {}: record it as soon as the message \
-                 is taken.",
             StopHint::CalledLater { .. } =>
                 "the receipt on line {} calls for this sending, and is recorded after it: record a message as soon as \
                  it is taken.",

@@ -3,15 +3,13 @@ ghost use Rattle.std.specs.Prelude.{slice_get};
 ghost use Rattle.std.specs.List.{list_any, position};
 ghost use Rattle.ira_event.specs.Log.{Log};
 ghost use Rattle.ira_event.specs.declared.event.Event.TheVariants as Event;
-ghost use Rattle.ira_node.specs.declared.phase.Phase.TheVariants as Phase;
 ghost use Rattle.ira_node.specs.NodeStep.{NodeStep};
 ghost use Rattle.ira_node.specs.declared.node_state.NodeState.{NodeState};
 ghost use Rattle.ira_order.specs.Matching.{got, sent};
 ghost use Rattle.ira_order.specs.Ring.{numbered};
 ghost use Rattle.ira_view_evidence.specs.LoadDifference.{DiffersBy};
 ghost use Rattle.ira_view_evidence.specs.NodeEvidence.{IsNodeEvidence};
-ghost use Rattle.ira_view_explain.specs.LinkHint.{IsBegun};
-ghost use Rattle.ira_view_explain.specs.StopHint.{BeginsAgain, CallsFor, IsCalledNext, IsSentAfter, IsSo, IsSoOfBoth};
+ghost use Rattle.ira_view_explain.specs.StopHint.{BeginsAgain, CallsFor, IsBegun, IsCalledNext, IsSentAfter, IsSo, IsSoOfBoth};
 ghost use Rattle.ira_view_explain.specs.StopHint.{is_of_reset, line_number, starts_clean};
 ghost use Rattle.ira_view_explain.specs.declared.stopped.Stopped.{Stopped};
 
@@ -228,9 +226,6 @@ impl Stopped {
             (StepFault::Owes, Event::Got(_), _) => self.unsent_hint(log),
             (StepFault::Owes, Event::Draw(_), _) => self.reset_hint(log),
             (StepFault::NotLeader, _, Phase::Yielding) => Some(StopHint::HasYielded),
-            (StepFault::NotLeader, _, Phase::Active { round, id }) => {
-                self.yield_hint(log, round, id)
-            }
             _ => None,
         }
     }
@@ -271,26 +266,6 @@ impl Stopped {
                 is_passed: sending_after(log, self.position, reset).is_some(),
             }),
             _ => None,
-        }
-    }
-
-    /// Whether the event after it is the receipt by which an active node with this pair leads.
-    fn yield_hint<A: Allocator>(&self, log: &NodeLog<A>, round: u32, id: u32) -> Option<StopHint>
-        requires { self.now.state.phase ≡ Phase.Active round id }
-        ensures { IfSome result (IsSo log.now self.now) }
-    {
-        let home = Msg {
-            round,
-            id,
-            hop: u32::from(log.nodes().get()),
-            dirty: false,
-        };
-        if self.next(log) == Some(Event::Got(Load::Msg(home))) {
-            Some(StopHint::LeadsLater {
-                line: self.next_line(),
-            })
-        } else {
-            None
         }
     }
 

@@ -7,7 +7,7 @@ use Rattle.ira_view_explain_question.specs.declared.clause_stop.DueInClause.TheV
 use Rattle.ira_view_explain_question.specs.declared.asked_remark.AskedRemark.{AskedRemark}
 use Rattle.ira_view_explain_question.specs.declared.asked_remark.AskedRemark.TheVariants.{QuestionHead, CertificateHead}
 use Rattle.ira_view_explain_question.specs.declared.asked_remark.AskedRemark.TheVariants.{Nodes, FirstCase, CaseLine}
-use Rattle.ira_view_explain_question.specs.declared.asked_remark.AskedRemark.TheVariants.{InClause, Place, Depth}
+use Rattle.ira_view_explain_question.specs.declared.asked_remark.AskedRemark.TheVariants.{InClause, PartEnd, Place, Depth}
 use Rattle.ira_view_explain_question.specs.declared.asked_remark.AskedRemark.TheVariants.{NoClause, NoCase, ManyCases}
 use Rattle.ira_view_explain_question.specs.declared.asked_remark.AskedRemark.TheVariants.{SectionLine, StepRange}
 use Rattle.ira_view_explain_question.specs.declared.asked_remark.AskedRemark.TheVariants.{ManySections, LastLine}
@@ -21,6 +21,7 @@ kind_of Nodes = Due
 kind_of FirstCase = Due
 kind_of CaseLine = Due
 kind_of (InClause due) = Due
+kind_of PartEnd = Due
 kind_of LineFeed = Due
 kind_of _ = Note
 
@@ -43,6 +44,7 @@ remark_text Nodes = codes "`nodes N` with N from 2 to 255"
 remark_text FirstCase = codes "`case`"
 remark_text CaseLine = codes "`case`, `end` or `PLACE: CLAUSE`"
 remark_text (InClause due) = due_text due
+remark_text PartEnd = codes "`, ` or the end"
 remark_text Place = codes "places are below N, and rise within a case"
 remark_text Depth = codes "the 33rd bracket that is open"
 remark_text NoClause = codes "the case in front of this line has no clause"

@@ -30,7 +30,6 @@ use Rattle.ira_view_explain_question.specs.CertificateFinding.{IsCertificateStop
 use Rattle.ira_view_explain_question.specs.ChosenCases.{chosen_cases, rest_text}
 use Rattle.ira_view_explain_question.specs.ExplainedCase.{IsCaseOf, TellsCaseOf}
 use Rattle.ira_view_explain_question.specs.QuestionFinding.{IsQuestionStop}
-use Rattle.ira_view_explain_question.specs.SectionCount.{IsMissingTold, TellsMissing}
 use Rattle.ira_view_explain_question.specs.SectionFinding.{IsSectionFinding, IsSectionTold, section_text}
 use Rattle.ira_view_page.specs.PointedLine.{IsQuoted}
 
@@ -104,20 +103,11 @@ pub record IsSectionExplained {A : Type 0} (asked : AskedQuestion) (file : List 
   pub more : List ℕ
   pub page : explanation.page ≡ codes "\n" ++ section_text file finding ++ more
 
--- it is explained that a certificate has another number of sections than are due
-pub record IsCountExplained {A : Type 0} (files : AskedFiles) (asked : AskedQuestion) (sections : ℕ)
-    (explanation : Explanation A) : Type 0 where
-  pub state_before : explanation.state_before ≡ None
-  pub told : IsMissingTold files asked sections explanation.evidence.items
-  pub lines : List ℕ
-  pub tells : TellsMissing files asked sections lines
-  pub more : List ℕ
-  pub page : explanation.page ≡ codes "\n" ++ lines ++ more
-
 -- it is explained why the sections of a certificate's file of this name don't answer a question
-abbrev pub IsUnsoundExplained : {A : Type 0} → AskedFiles → AskedQuestion → List ℕ → List Section → Reason
-    → Explanation A
+abbrev pub IsUnsoundExplained : {A : Type 0} → AskedQuestion → List ℕ → List Section → Reason → Explanation A
     → Type 0
-IsUnsoundExplained files asked file sections (reason.Section number fault) explanation =
+IsUnsoundExplained asked file sections (reason.Section number fault) explanation =
     IsSectionExplained asked file sections number fault explanation
-IsUnsoundExplained files asked file sections _ explanation = IsCountExplained files asked (length sections) explanation
+-- of another number of sections than are due nothing is told besides
+IsUnsoundExplained asked file sections _ explanation =
+    (explanation.state_before ≡ None) × (explanation.evidence.items ≡ [])

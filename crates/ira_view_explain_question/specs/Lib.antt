@@ -10,5 +10,4 @@ pub mod Explanation
 pub mod FrontLeft
 pub mod QuestionFinding
 pub mod SaidLines
-pub mod SectionCount
 pub mod SectionFinding

@@ -201,6 +201,15 @@ impl<'a> AskedFinding<'a> {
         }
     }
 
+    /// Adds the line of the usual cause, where there is one.
+    pub(crate) fn print_hint<A: Allocator>(&self, page: &mut Page<A>) {
+        if let Some(hint) = self.hint {
+            page.words("  hint: ");
+            hint.print(page);
+            page.end();
+        }
+    }
+
     /// What it rests on: the line, or the text as a whole.
     pub(crate) fn evidence<A: Allocator + Clone>(
         &self,

@@ -10,6 +10,8 @@ pub(crate) enum AskedHint<'a> {
     Slip(Slip),
     /// A clause of several words has no brackets around it: the line up to it, and the clause.
     Brackets { place: &'a [u8], clause: &'a [u8] },
+    /// More than two clauses are joined in one pair of brackets, or in none.
+    Chain,
     /// The text goes on as this word begins.
     Word(&'static str),
     /// This word has a capital.
@@ -34,6 +36,9 @@ impl AskedHint<'_> {
         match self {
             AskedHint::Slip(slip) => page.words(slip.hint()),
             AskedHint::Brackets { place, clause } => print_brackets(page, place, clause),
+            AskedHint::Chain => page.words(
+                "each `and` and each `or` joins two clauses, in brackets of its own: `((A or B) or C)`",
+            ),
             AskedHint::Word(word) => {
                 page.words("`");
                 page.show(word.as_bytes());

@@ -22,6 +22,8 @@ pub(crate) enum AskedRemark {
     CaseLine,
     /// This is due in a clause.
     InClause(DueInClause),
+    /// The end of a sentence's part is due.
+    PartEnd,
     /// The place isn't in the ring, or doesn't follow the one before.
     Place,
     /// It is one bracket more than may be open.
@@ -36,7 +38,7 @@ pub(crate) enum AskedRemark {
     SectionLine,
     /// A number of a step is out of its range.
     StepRange,
-    /// It is one section or step more than a certificate may have.
+    /// The certificate has more sections, or a section more steps, than it may.
     ManySections,
     /// It is the last line, and the end line is due.
     LastLine,
@@ -57,6 +59,7 @@ impl AskedRemark {
             | AskedRemark::FirstCase
             | AskedRemark::CaseLine
             | AskedRemark::InClause(_)
+            | AskedRemark::PartEnd
             | AskedRemark::LineFeed => Remark::Due,
             _ => Remark::Note,
         }
@@ -73,6 +76,7 @@ impl AskedRemark {
             AskedRemark::FirstCase => page.words("`case`"),
             AskedRemark::CaseLine => page.words("`case`, `end` or `PLACE: CLAUSE`"),
             AskedRemark::InClause(due) => page.words(due.words()),
+            AskedRemark::PartEnd => page.words("`, ` or the end"),
             AskedRemark::Place => page.words("places are below N, and rise within a case"),
             AskedRemark::Depth => page.words("the 33rd bracket that is open"),
             AskedRemark::NoClause => page.words("the case in front of this line has no clause"),

@@ -1,40 +1,11 @@
 ghost use Rattle.std.specs.Prelude.{◌≢◌};
 ghost use Rattle.ira_cert_text.specs.declared.cert_fault.CertFault.{CertFault};
-ghost use Rattle.ira_view_explain_question.specs.CertificateFinding.{IsCertificateStop, IsPastLimits};
+ghost use Rattle.ira_view_explain_question.specs.CertificateFinding.{IsCertificateStop};
 
 use crate::asked_finding::AskedFinding;
-use crate::asked_lines::HEAD_LINES;
 use crate::asked_remark::AskedRemark;
-use ira_cert_text::{CertFault, MAX_SECTIONS, MAX_STEPS};
-use ira_view_page::{NamedText, split_line};
-
-/// The number of the line with which a certificate has more sections, or a section more steps, than it may; of the line
-/// after all whole ones, where none is.
-fn first_past_limits(file: &NamedText<'_>) -> usize
-    ensures { IsPastLimits file.now.text.now result }
-{
-    let mut rest = file.from_line(HEAD_LINES + 1);
-    let mut sections = 0usize;
-    let mut steps = 0usize;
-    let mut number = HEAD_LINES + 1;
-    for _ in 0..file.whole_lines() {
-        let Some((line, after)) = split_line(rest) else {
-            break;
-        };
-        if line == b"section".as_slice() {
-            sections += 1;
-            steps = 0;
-        } else if line.starts_with(b"drop ") {
-            steps += 1;
-        }
-        if sections > MAX_SECTIONS || steps > MAX_STEPS {
-            break;
-        }
-        number += 1;
-        rest = after;
-    }
-    number
-}
+use ira_cert_text::CertFault;
+use ira_view_page::NamedText;
 
 impl<'a> AskedFinding<'a> {
     /// Of a text with this fault, which is no certificate's.
@@ -56,9 +27,7 @@ impl<'a> AskedFinding<'a> {
             CertFault::Range(line) => {
                 AskedFinding::whole_line(file, line as usize, AskedRemark::StepRange)
             }
-            CertFault::TooMany => {
-                AskedFinding::whole_line(file, first_past_limits(file), AskedRemark::ManySections)
-            }
+            CertFault::TooMany => AskedFinding::whole_line(file, 1, AskedRemark::ManySections),
             CertFault::Cut => AskedFinding::of_cut(file),
             CertFault::Trailing => AskedFinding::of_trailing(file),
             CertFault::OutOfMemory => unreachable!(),

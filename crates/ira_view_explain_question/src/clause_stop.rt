@@ -64,6 +64,16 @@ pub(crate) fn clause_stop(text: &[u8]) -> ClauseStop<'_> {
     }
 }
 
+/// Whether a clause goes on, with this rest, where two that are joined end, with a third.
+pub(crate) fn is_chain(clause: &[u8], rest: &[u8]) -> bool {
+    let joined = if clause.starts_with(b"(") {
+        Ok(rest)
+    } else {
+        after_joint(rest).and_then(|rest| after_clause(MAX_DEPTH, rest))
+    };
+    joined.and_then(after_joint).is_ok()
+}
+
 /// What follows the clause that the text begins with, nested no deeper than this.
 fn after_clause(depth: usize, text: &[u8]) -> Result<&[u8], ClauseStop<'_>> {
     if depth == 0 {

@@ -11,7 +11,7 @@ ghost use Rattle.ira_view_page.specs.Lines.{IsLine};
 ghost use Rattle.ira_view_page.specs.Page.{Added, AddedSome};
 ghost use Rattle.ira_view_explain_question.specs.AskedLines.{line_text};
 ghost use Rattle.ira_view_explain_question.specs.Explanation.{AreCasesExplained, AreFindingsExplained};
-ghost use Rattle.ira_view_explain_question.specs.Explanation.{IsCountExplained, IsNoCertificateExplained};
+ghost use Rattle.ira_view_explain_question.specs.Explanation.{IsNoCertificateExplained};
 ghost use Rattle.ira_view_explain_question.specs.Explanation.{IsNoQuestionExplained, IsSectionExplained};
 ghost use Rattle.ira_view_explain_question.specs.Explanation.{IsSizeExplained, IsStopExplained, IsUnsoundExplained};
 
@@ -121,8 +121,8 @@ pub fn explain_no_certificate<A: Allocator + Clone>(
     }
 }
 
-/// Why a certificate for the ring of a question doesn't answer it: the first section that isn't sound, or how many
-/// sections there are.
+/// Why a certificate for the ring of a question doesn't answer it: the first section that isn't sound, or that there is
+/// another number of sections than of cases.
 pub fn explain_unsound<A: Allocator + Clone>(
     alloc: A,
     files: AskedFiles<'_>,
@@ -134,7 +134,7 @@ pub fn explain_unsound<A: Allocator + Clone>(
     requires { IsSectionsRefusal asked.now.logs asked.now.question.cases sections.now reason }
     ensures ring { IfOk result (λ explanation. explanation.ring ≡ Some (counts asked.now.logs)) }
     ensures told { IfOk result
-        (IsUnsoundExplained files.entry asked.now certificate.now.name.now sections.now reason) }
+        (IsUnsoundExplained asked.now certificate.now.name.now sections.now reason) }
 {
     let ring = AskedRing {
         alloc: &alloc,
@@ -145,7 +145,7 @@ pub fn explain_unsound<A: Allocator + Clone>(
         Reason::Section { case, fault } => {
             explain_section(&ring, certificate.name, sections, case, fault)
         }
-        _ => explain_count(&ring, sections.len()),
+        _ => explain_count(&ring),
     }
 }
 
@@ -199,12 +199,7 @@ fn explain_text<A: Allocator + Clone>(
 }
 
 /// Adds `FILE:LINE: TEXT` to a page.
-pub(crate) fn print_line<A: Allocator>(
-    mark: Emphasis,
-    file: &NamedText<'_>,
-    number: usize,
-    page: &mut Page<A>,
-)
+fn print_line<A: Allocator>(mark: Emphasis, file: &NamedText<'_>, number: usize, page: &mut Page<A>)
     ensures { (bytes : List ℕ) × (1 ≤ number → IsLine file.now.text.now number bytes)
         × Added page.old (line_text mark file.now.name.now number bytes) page.new }
 {
@@ -274,22 +269,21 @@ fn explain_section<A: Allocator + Clone>(
     )
 }
 
-/// That a certificate has so many sections, and not one for each case.
+/// That a certificate has another number of sections than the question has cases.
 fn explain_count<A: Allocator + Clone>(
     ring: &AskedRing<'_, A>,
-    sections: usize,
 ) -> Result<Explanation<A>, OutOfMemory>
     ensures ring { IfOk result (λ explanation. explanation.ring ≡ Some (counts ring.now.asked.now.logs)) }
-    ensures told { IfOk result (IsCountExplained ring.now.files ring.now.asked.now sections) }
+    ensures told { IfOk result
+        (λ explanation. (explanation.state_before ≡ None) × (explanation.evidence.items ≡ [])) }
 {
-    let mut page = Page::after_answer(ring.alloc.clone()?);
-    ring.print_missing(sections, &mut page);
+    let page = Page::after_answer(ring.alloc.clone()?);
     let mut hints = Vec::new(ring.alloc.clone()?);
     hints.push(String::from_str(
         ring.alloc.clone()?,
         "the certificate is of another question: `ira decide --out` writes one for this.",
     )?)?;
-    let evidence = ring.missing_told(sections)?;
+    let evidence = Vec::new(ring.alloc.clone()?);
     Explanation::of_page(
         ring.alloc,
         Some(RingCounts::of(ring.logs())),

@@ -18,11 +18,12 @@ mod explained_case;
 mod front_left;
 mod moment_lines;
 mod question_finding;
-mod section_count;
 mod section_finding;
+mod sentence_page;
 
 pub use asked_files::AskedFiles;
 pub use explain::{
     explain_found, explain_no_certificate, explain_no_question, explain_size, explain_sound,
     explain_unsound,
 };
+pub use sentence_page::explain_sentence;

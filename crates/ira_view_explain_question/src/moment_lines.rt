@@ -77,12 +77,23 @@ impl<A: Allocator + Clone> ExplainedCase<'_, A> {
         self.print_nodes(page, moment);
         print_loads(page, moment);
         page.begin(Emphasis::Plain);
-        page.words("  The way there: ira show --events --question ");
-        page.show(self.lines.name.as_bytes());
+        page.words("  The way there: ira show --events ");
+        self.print_question(page);
         page.words(" --case ");
         page.number(self.number as u64);
         page.words(" LOG..");
         page.end();
+    }
+
+    /// Adds the option that its question comes from; of a sentence's question that is the name of the file.
+    fn print_question(&self, page: &mut Page<A>)
+        ensures { AddedSome page.old page.new }
+    {
+        if self.lines.name == "--ask" {
+            return page.words("--ask SENTENCE");
+        }
+        page.words("--question ");
+        page.show(self.lines.name.as_bytes());
     }
 
     /// Adds what the nodes that it asks are at a moment.

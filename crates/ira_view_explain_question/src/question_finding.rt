@@ -8,7 +8,7 @@ use crate::asked_finding::{AskedFinding, AskedStop, nth_line};
 use crate::asked_hint::AskedHint;
 use crate::asked_lines::{HEAD_LINES, scan_place};
 use crate::asked_remark::AskedRemark;
-use crate::clause_stop::clause_stop;
+use crate::clause_stop::{clause_stop, is_chain};
 use ira_event::{scan_number, skip_word};
 use ira_pred::{AskFault, MAX_CASES, MAX_DEPTH};
 use ira_view_page::{NamedText, Slip};
@@ -95,10 +95,17 @@ fn deepest(line: &[u8]) -> usize
     line.len()
 }
 
-/// A usual cause why what stands after a line's place is no clause, which goes on as none does with this rest.
-fn clause_hint<'a>(line: &'a [u8], clause: &'a [u8], rest: &[u8]) -> Option<AskedHint<'a>> {
+/// A usual cause why what stands after a line's place, or after a sentence's word, is no clause, which goes on as none does with this rest.
+pub(crate) fn clause_hint<'a>(
+    line: &'a [u8],
+    clause: &'a [u8],
+    rest: &[u8],
+) -> Option<AskedHint<'a>> {
     if let Some(slip) = Slip::of_format(line) {
         return Some(AskedHint::Slip(slip));
+    }
+    if is_chain(clause, rest) {
+        return Some(AskedHint::Chain);
     }
     if lacks_brackets(clause) {
         let place = &line[..line.len().saturating_sub(clause.len())];

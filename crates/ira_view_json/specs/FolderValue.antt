@@ -1,9 +1,10 @@
--- What the answer of a folder's logs, and a file that can't be read, are as JSON.
-use Rattle.std.specs.Prelude.{ℕ, List, Option, Some, None, codes}
+-- What the answer of a folder's logs, a file that can't be read, and a sum over runs are as JSON.
+use Rattle.std.specs.Prelude.{ℕ, List, Option, Some, None, codes, count_by, length}
 use Rattle.json.specs.Json.{Json, Members, member, no_members, object, string}
 use Rattle.ira_audit.specs.declared.answer.Answer.{Answer}
 use Rattle.ira_view_json.specs.AnswerValue.{answer_members}
 use Rattle.ira_view_json.specs.Members.{natural, with_words}
+use Rattle.ira_view_json.specs.declared.run_features.RunFeatures.{RunFeatures}
 
 -- an answer, the status that goes with it, and the folder of the logs
 abbrev pub folder_answer_value : List ℕ → ℕ → Answer → Json
@@ -25,3 +26,13 @@ with_folder None members = members
 
 abbrev pub unread_value : Option (List ℕ) → List ℕ → ℕ → Json
 unread_value folder file status = object (with_folder folder (unread_members file status))
+
+-- how many runs there are, and how many of them had what
+abbrev pub sum_value : List RunFeatures → Json
+sum_value runs = object
+    (member (codes "dropped") (natural (count_by (λ run. run.dropped) runs))
+    (member (codes "runs") (natural (length runs))
+    (member (codes "second_round") (natural (count_by (λ run. run.second_round) runs))
+    (member (codes "second_term") (natural (count_by (λ run. run.second_term) runs))
+    (member (codes "tie") (natural (count_by (λ run. run.tie) runs))
+    (member (codes "type") (string (codes "sum")) no_members))))))

@@ -1,13 +1,14 @@
 ghost use Rattle.std.specs.Prelude.{◌≡◌, IfOk, option_map, string_bytes};
 ghost use Rattle.ira_view_json.specs.View.{view};
 ghost use Rattle.ira_audit.specs.Report.{IsReportable};
-ghost use Rattle.ira_view_json.specs.FolderValue.{folder_answer_value, unread_members, unread_value, with_folder};
+ghost use Rattle.ira_view_json.specs.FolderValue.{folder_answer_value, sum_value, unread_members, unread_value, with_folder};
 ghost use Rattle.ira_view_json.specs.Line.{IsLineOf};
 ghost use Rattle.ira_view_json.specs.Object.{Holds, Puts};
 
 use crate::answer_values::answered;
 use crate::line::line_of;
 use crate::object::Object;
+use crate::run_features::RunFeatures;
 use crate::value::Value;
 use ira_audit::Answer;
 use ira_event::OutOfMemory;
@@ -92,5 +93,31 @@ pub fn unread_line<A: Allocator + Clone>(
         (unread_value (option_map (λ folder. folder.now) folder.entry) file.now status) (string_bytes text)) }
 {
     let value = unread_value(&alloc, folder, file, status)?;
+    line_of(alloc, &value)
+}
+
+/// The line on how many of these runs had what.
+pub fn sum_line<A: Allocator + Clone>(
+    alloc: A,
+    runs: &[RunFeatures],
+) -> Result<String<A>, OutOfMemory>
+    ensures { IfOk result (λ text. IsLineOf (sum_value runs.now) (string_bytes text)) }
+{
+    let mut sum = Object::of(alloc.clone()?, "sum");
+    sum.number("runs", runs.len() as u64);
+    sum.number("tie", runs.iter().filter(|run| run.tie).count() as u64);
+    sum.number(
+        "second_round",
+        runs.iter().filter(|run| run.second_round).count() as u64,
+    );
+    sum.number(
+        "second_term",
+        runs.iter().filter(|run| run.second_term).count() as u64,
+    );
+    sum.number(
+        "dropped",
+        runs.iter().filter(|run| run.dropped).count() as u64,
+    );
+    let value = sum.finish()?;
     line_of(alloc, &value)
 }

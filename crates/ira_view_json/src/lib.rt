@@ -17,14 +17,16 @@ mod object;
 mod page_lines;
 mod picture_values;
 mod ring_lines;
+mod run_features;
 mod shown_answer;
 mod to_value;
 mod value;
 mod values;
 
 pub use answer_lines::{answer_line, cases_lines, explained_findings_lines, explained_line};
-pub use folder_lines::{folder_answer_line, unread_line};
+pub use folder_lines::{folder_answer_line, sum_line, unread_line};
 pub use log_lines::log_line;
 pub use page_lines::{explanation_line, picture_line, yes_line};
 pub use ring_lines::write_ring;
+pub use run_features::RunFeatures;
 pub use shown_answer::ShownAnswer;

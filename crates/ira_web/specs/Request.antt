@@ -53,7 +53,8 @@ HasCommandValues (ExplainQuestion form case) values = values ≡ json_values for
 HasCommandValues (ExplainCheck form) values = values ≡ json_values form ++ 5 ∷ []
 HasCommandValues (Show form moment) values =
     (front : List ℕ) × HasFormValues form front × (values ≡ front ++ moment_values moment)
-HasCommandValues (Decide form certify) values = (certify ≡ true) × (values ≡ json_values form ++ 9 ∷ [])
+HasCommandValues (Decide form is_brief certify) values =
+    (is_brief ≡ false) × (certify ≡ true) × (values ≡ json_values form ++ 9 ∷ [])
 HasCommandValues (Check form) values = values ≡ json_values form ++ 10 ∷ []
 
 -- the number of the request, and its values

@@ -1,5 +1,5 @@
 -- What comes of requests.
-use Rattle.std.specs.Prelude.{◌≡◌, ◌<◌, ℕ, List, [], ◌∷◌, map, true}
+use Rattle.std.specs.Prelude.{◌≡◌, ◌<◌, ℕ, List, [], ◌∷◌, false, map, true}
 use Rattle.std.specs.Borrow.{Bor}
 use Rattle.ira_view_page.specs.declared.named_text.NamedText.{NamedText}
 use Rattle.ira_view.specs.Status.{status_number}
@@ -41,7 +41,7 @@ AreCommandFiles (Answer form) files question certificate logs = files ≡ logs
 AreCommandFiles (Expect form expected) files question certificate logs = files ≡ logs
 AreCommandFiles (Explain form) files question certificate logs = files ≡ logs
 AreCommandFiles (ExplainExpected form expected) files question certificate logs = files ≡ logs
-AreCommandFiles (Decide form certify) files question certificate logs = files ≡ question ∷ logs
+AreCommandFiles (Decide form is_brief certify) files question certificate logs = files ≡ question ∷ logs
 AreCommandFiles (ExplainQuestion form case) files question certificate logs = files ≡ question ∷ logs
 AreCommandFiles (Check form) files question certificate logs = files ≡ question ∷ certificate ∷ logs
 AreCommandFiles (ExplainCheck form) files question certificate logs = files ≡ question ∷ certificate ∷ logs
@@ -58,7 +58,7 @@ AnswersFiles A command files reply = (question : NamedText) × (certificate : Na
 -- the command of an overview that has each of its files
 abbrev pub widest_command : OverviewQuestion → Overview → LogsCommand
 widest_command NotAsked overview = Show (Picture overview.columns) overview.moment
-widest_command Decided overview = Decide Words true
+widest_command Decided overview = Decide Words false true
 widest_command Certified overview = Check Words
 
 -- these come of the commands of an overview on these files

@@ -131,6 +131,7 @@ fn widest_command<'v>(overview: &Overview<'v>) -> LogsCommand<'v>
         }
         OverviewQuestion::Decided => LogsCommand::Decide {
             form: Form::Words,
+            is_brief: false,
             certify: true,
         },
         OverviewQuestion::Certified => LogsCommand::Check { form: Form::Words },

@@ -174,6 +174,7 @@ impl<'v> Request<'v> {
             }
             [DECIDE] => LogsCommand::Decide {
                 form,
+                is_brief: false,
                 certify: true,
             },
             [CHECK] => LogsCommand::Check { form },

@@ -16,6 +16,8 @@ const OF_ONE: &[u8] = b"irask 1\nnodes 2\ncase\n0: (not leader)\ncase\n1: (not l
 
 const OF_ALL: &[u8] = b"irask 1\nnodes 2\ncase\n0: term > 1\n1: term > 1\nend\n";
 
+const OF_NODE: &[u8] = b"irask 1\nnodes 3\ncase\n2: (not leader)\nend\n";
+
 const AFTER_ANY: Result<&[u8], SentenceFault> = Err(SentenceFault::NoPart(Some(SentencePart::Any)));
 
 const NO_CLAUSE_OF_ANY: Result<&[u8], SentenceFault> = Err(SentenceFault::NoClause(
@@ -32,6 +34,14 @@ const ROWS: &[(u8, &[u8], Result<&[u8], SentenceFault>)] = &[
     ),
     (2, b"any (not leader)", Ok(OF_ONE)),
     (2, b"all term > 1", Ok(OF_ALL)),
+    (3, b"node 2 (not leader)", Ok(OF_NODE)),
+    (2, b"node 2 leader", Err(SentenceFault::NoPlace)),
+    (2, b"node 4294967296 leader", Err(SentenceFault::NoPlace)),
+    (2, b"node 01 leader", Err(SentenceFault::NoNode)),
+    (2, b"node 1", Err(SentenceFault::NoNode)),
+    (2, b"node 1 not leader", Err(SentenceFault::NoNode)),
+    (2, b"node 1 leader, all true", Err(SentenceFault::NoNode)),
+    (2, b"nodes leader", Err(SentenceFault::NoPart(None))),
     (2, b"", Err(SentenceFault::NoPart(None))),
     (2, b"other leader", Err(SentenceFault::NoPart(None))),
     (2, b"anyone leader", Err(SentenceFault::NoPart(None))),

@@ -1,10 +1,12 @@
 use Rattle.std.proofs.Common.{◌≡◌, ◌<◌, ◌≤◌, ◌⊎◌, refl, sym, ap, subst, ◌∙◌, arith, inr, length, ℕ, Vec}
+use Rattle.std.specs.Prelude.{codes}
 use Rattle.std.proofs.lemmas.Result.{err_from_is_err_and}
 use Rattle.ira_ask.specs.declared.sentence_fault.SentenceFault.TheVariants.{OutOfMemory}
 use Rattle.ira_ask.specs.AskedTexts.{Writes, asked_of}
 use Rattle.ira_ask.specs.Choices.{choices}
 use Rattle.ira_ask.specs.SentenceAnswer.{IsSentenceFault, many_cases}
 use Rattle.ira_ask.proofs.Answering.{answered, clauses_of, deep_fault, stop_fault}
+use Rattle.ira_ask.proofs.Taking.{no_word}
 use Rattle.ira_ask.proofs.question.ask.Goals as goal
 
 pub returns-in_err-sentence : goal.returns-in_err-sentence
@@ -12,7 +14,8 @@ returns-in_err-sentence g c =
     let p = err_from_is_err_and c.from_residual.result c.from_residual.ensures.1 in
     let short : length c.args.sentence.now ≤ 65536 = omega (arith, c.if-sentence-gt-MAX_SENTENCE.false) in
     rw p.1 (subst (λ e. (e ≡ OutOfMemory) ⊎ IsSentenceFault c.args.nodes c.args.sentence.now e) (sym p.2)
-    (stop_fault c.args.nodes c.args.sentence.now _ short c.in_err-sentence.ensures))
+    (stop_fault c.args.nodes c.args.sentence.now _ short (λ node.
+    no_word (codes "node ") c.args.sentence.now node.0 c.in_default.ensures node.1) c.in_err-sentence.ensures))
 
 pub returns-in_err-clauses : goal.returns-in_err-clauses
 returns-in_err-clauses g c =

@@ -19,7 +19,7 @@ pub returns : goal.returns
 returns g c s h =
     let i = c.loop-picked.picked-index in
     let whole = whole_question c.args.nodes s c.args.choices.now i c.loop-picked.text.items
-    c.extend_from_slice-4.new.self.items
-    (none_left c.args.choices.now i (omega (arith, c.loop-picked-test.false))) c.in_ok-extend_from_slice-4.ensures.items
+    c.extend_from_slice.new.self.items
+    (none_left c.args.choices.now i (omega (arith, c.loop-picked-test.false))) c.in_ok-extend_from_slice.ensures.items
     (c.loop-picked.invariant s h) in
     (whole, omega (arith, ap length whole, c.if-len-gt-MAX_TEXT-2.false, c.len-2.ensures))

@@ -35,13 +35,13 @@ returns-in-ExplainQuestion g c = λ names texts judged are. rw c.in-ExplainQuest
 pub returns-in-Check : goal.returns-in-Check
 returns-in-Check g c = λ names texts judged are. rw c.in-Check.is (c.check_alone.ensures texts judged)
 
-pub explain_check_alone-requires : goal.explain_check_alone-requires
-explain_check_alone-requires g c = c.requires.kept (rw c.in-ExplainCheck.is refl)
+pub explain_certificate-requires : goal.explain_certificate-requires
+explain_certificate-requires g c = c.requires.kept (rw c.in-ExplainCheck.is refl)
 
 pub returns-in-ExplainCheck : goal.returns-in-ExplainCheck
-returns-in-ExplainCheck g c = λ names texts judged are. rw c.in-ExplainCheck.is (if_ok c.explain_check_alone.result
+returns-in-ExplainCheck g c = λ names texts judged are. rw c.in-ExplainCheck.is (if_ok c.explain_certificate.result
     (λ reply told. (_, _, (are (rw c.in-ExplainCheck.is refl), (refl, refl)), (refl, refl), told))
-    c.explain_check_alone.ensures)
+    c.explain_certificate.ensures)
 
 pub told_in_page-requires : goal.told_in_page-requires
 told_in_page-requires g c = λ page. c.requires.kept (rw c.in-Show.is page)

@@ -8,10 +8,10 @@ use Rattle.ira_commands.proofs.decide.decide_asked.Goals as goal
 pub of_answer_as-requires : goal.of_answer_as-requires
 of_answer_as-requires g c = (rw c.in-Err-No.field-0-is at (c.in-Err-No.ensures c.requires.0 c.requires.1)).1
 
-pub returns-in_ok-decide_counted-in-Ok : goal.returns-in_ok-decide_counted-in-Ok
-returns-in_ok-decide_counted-in-Ok g c = λ texts judged.
+pub returns-in_ok-decided-in-Ok : goal.returns-in_ok-decided-in-Ok
+returns-in_ok-decided-in-Ok g c = λ texts judged.
     let posed = c.in-Ok.ensures texts judged in
-    let found = c.in_ok-decide_counted-in-Ok.ensures in
+    let found = c.in_ok-decided-in-Ok.ensures in
     if_ok c.tell_decided.result (λ reply told. record {
       findings = found.0;
       found = (found_asked texts c.args.question.now c.in-Ok.asked posed found.0 found.1).0;

@@ -12,7 +12,7 @@ returns g c = record {
         c.args.certificate.now,
         (record { names_are = refl; texts_are = refl }, (refl, refl)),
         (refl, refl),
-        c.in_ok-explain_check_alone.ensures,
+        c.in_ok-explain_certificate.ensures,
       ),
       tt,
     ),

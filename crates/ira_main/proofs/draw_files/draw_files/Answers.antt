@@ -9,4 +9,4 @@ pub returns : goal.returns
 returns g c =
     let asked = rw c.in-Some.is at c.draw_command.ensures in
     gives_weaker c.answer_files.result (λ reply is. (c.in-Some.command, asked, is)) (λ fault is. inr is)
-    (rw (c.asked-inputs.ensures, c.question_of-question.ensures) at c.answer_files.ensures)
+    (rw (c.asking-inputs.ensures, c.question_of-question.ensures) at c.answer_files.ensures)

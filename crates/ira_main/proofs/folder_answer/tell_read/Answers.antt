@@ -12,7 +12,7 @@ judge_as_expected-requires g c = let r = c.requires in (r.0, c.in_ok-judged.ensu
 pub told-requires : goal.told-requires
 told-requires g c =
     let r = c.requires in
-    judged_tellable _ r.0 _ (c.in_ok-answer.ensures r.0 (c.in_ok-judged.ensures r.0 r.1.0))
+    judged_tellable _ _ r.0 _ (c.in_ok-answer.ensures r.0 (c.in_ok-judged.ensures r.0 r.1.0))
 
 pub returns-then-not-has_reasons : goal.returns-then-not-has_reasons
 returns-then-not-has_reasons g c = λ texts found.

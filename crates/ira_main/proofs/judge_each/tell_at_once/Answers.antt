@@ -16,7 +16,7 @@ loop-told-init g c =
     let first = c.in_ok-first.first.items in
     let rest : into_iter_items c.into_iter-told-iterator.result ≡ first =
     c.into_iter-told-iterator.ensures.into_iter_gives.0 in
-    let Told = IsTold g.row.A.Denot reads asked.form asked.expected.now asked.detail c.args.shelf.now in
+    let Told = IsTold g.row.A.Denot reads asked.form asked.expected.now asked.detail asked.is_summed c.args.shelf.now in
     let each = zipped_each (λ (folder : Bor (List ℕ)) (it : ToldFolder g.row.A.Denot). Told folder it.answer it.text.bytes)
     folders first (search rules) (λ i d lt. (c.in_ok-first.ensures.each i d (omega (arith, lt))).1.met) in
     record {
@@ -40,7 +40,7 @@ loop-told-preserved g c =
     let folders = c.args.folders.now in
     let answers = c.loop-told.answers.items in
     let told = c.in_ok-told.told in
-    let Told = IsTold g.row.A.Denot g.F.TextSource.reads asked.form asked.expected.now asked.detail c.args.shelf.now in
+    let Told = IsTold g.row.A.Denot g.F.TextSource.reads asked.form asked.expected.now asked.detail asked.is_summed c.args.shelf.now in
     let left = rw c.in-Some.ensures.steps.0 at c.loop-told.invariant.left in
     let next = zipped_next _ folders (length answers) _ _ left in
     let here : c.len.result ≡ length answers = omega arith in

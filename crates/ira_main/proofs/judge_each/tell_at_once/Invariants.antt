@@ -10,8 +10,8 @@ invariant-loop-told g l = record {
   ends : (goal.iterator-loop-told g).is_finite l.told-iterator;
   count : into_iter_len l.told-iterator ≡ length (into_iter_items l.told-iterator);
   left : AllZip (λ folder first. IfOk first (λ it. IsTold g.row.A.Denot g.F.TextSource.reads l.asked.form
-      l.asked.expected.now l.asked.detail l.shelf folder it.answer it.text.bytes)) (drop (length l.answers.items) l.folders)
+      l.asked.expected.now l.asked.detail l.asked.is_summed l.shelf folder it.answer it.text.bytes)) (drop (length l.answers.items) l.folders)
       (into_iter_items l.told-iterator);
-  told : AreTold (IsTold g.row.A.Denot g.F.TextSource.reads l.asked.form l.asked.expected.now l.asked.detail l.shelf)
+  told : AreTold (IsTold g.row.A.Denot g.F.TextSource.reads l.asked.form l.asked.expected.now l.asked.detail l.asked.is_summed l.shelf)
       (take (length l.answers.items) l.folders) l.answers.items l.text.bytes;
 }

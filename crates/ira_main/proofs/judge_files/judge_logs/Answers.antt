@@ -10,4 +10,4 @@ returns g c =
     let expected = rw c.deref.ensures.value at c.expected_by-expected.ensures in
     gives_weaker c.answer_files.result
     (λ reply is. (_, rw c.in-Ok.is at c.in_ok-places.ensures, _, expected, is)) (λ fault is. inr is)
-    (rw (c.asked.ensures, c.asked_of-command.ensures) at c.answer_files.ensures)
+    (rw (c.asking.ensures, c.asked_of-command.ensures) at c.answer_files.ensures)

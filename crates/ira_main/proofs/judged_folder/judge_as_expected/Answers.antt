@@ -13,7 +13,7 @@ returns-in-Good g c = λ texts judged.
     let logs = c.in-Good.logs in
     let are = rw c.in-Good.is at judged in
     let runs = yes_runs texts Yes (yes logs are refl) refl in
-    good logs c.in_ok-unmet-in-Good.unmet are runs c.in_ok-unmet-in-Good.ensures refl
+    good logs _ _ are runs c.in_ok-unmet-in-Good.ensures c.in_ok-features-in-Good.ensures refl
 
 pub returns : goal.returns
 returns g c = λ texts judged. elim c.match-judged.branch [

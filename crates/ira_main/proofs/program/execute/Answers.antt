@@ -6,7 +6,7 @@ use Rattle.ira_main_files.specs.CountingReader.{Reads}
 use Rattle.ira_main_files.specs.Shelf.{Reading, Writing}
 use Rattle.ira_main.specs.Outcome.{Outcome}
 use Rattle.ira_main.specs.Serve.{Serves}
-use Rattle.ira_main.specs.Serve.CommandOutcome.{certified, explained, recorded, refused}
+use Rattle.ira_main.specs.Serve.CommandOutcome.{certified, recorded, refused}
 use Rattle.ira_main.specs.Serve.Serves.{with_words, without_words}
 use Rattle.ira_main.specs.declared.program_fault.ProgramFault.TheVariants.{OutOfMemory}
 use Rattle.ira_main.proofs.Delivering.{told, told_and_recorded}
@@ -38,17 +38,6 @@ returns-in-Check-clause-executed g c =
     let same = left.1 in
     with_words (λ none. cc) same.input_is (certified _ made same.shelf_is
     (told _ _ _ _ _ _ (rw same.shelf_is at c.check_files.ensures) (rw same.out_is at c.deliver.ensures)))
-
-pub returns-in-ExplainCheck-clause-executed : goal.returns-in-ExplainCheck-clause-executed
-returns-in-ExplainCheck-clause-executed g c =
-    let left = c.in-ExplainCheck.ensures.served in
-    let made = left.1 in
-    let first = made.first in
-    let same = left.4 in
-    with_words (λ none. cc) same.input_is
-    (explained _ made same.shelf_is (rw (← left.2, left.3)
-    (told _ _ _ _ _ _ (rw same.shelf_is at c.explain_check_files-reply.ensures)
-    (rw same.out_is at c.deliver-in-ExplainCheck.ensures))))
 
 pub returns-clause-executed : goal.returns-clause-executed
 returns-clause-executed g c =

@@ -7,7 +7,7 @@ returns-clause-served g c = (
   c.execute-outcome.ensures.executed,
   c.tell_unread.ensures,
   c.report_outcome.ensures.number,
-  _,
-  c.why_unread-why.ensures,
+  c.bytes.result.now,
+  rw c.bytes.ensures c.told_why-why.ensures,
   c.report_outcome.ensures.reported,
 )

@@ -62,17 +62,14 @@ returns-in-Findings-clause-served g c =
     let made = subst (IsMadeOf (map (λ w. w.now) c.args.words.now)) c.in-Explain.is c.in-Ok.ensures.made in
     with_words (some_words _ _ _ made.first) refl (explained_of_logs _ made refl
     (rw c.in-Findings.is (told _ _ _ _ _ _
-    (rw (c.asked-inputs.ensures, c.of_json-form.ensures) at c.answer_files.ensures) c.deliver-in-Findings.ensures)))
+    (rw (c.asking-inputs.ensures, c.of_json-form.ensures) at c.answer_files.ensures) c.deliver-in-Findings.ensures)))
 
 pub returns-in-Explain-clause-served : goal.returns-in-Explain-clause-served
 returns-in-Explain-clause-served g c =
-    let made = subst (IsMadeOf (map (λ w. w.now) c.args.words.now)) c.in-Explain.is c.in-Ok.ensures.made in (
-      _,
-      made,
-      c.of_json-form.ensures,
-      c.in-Certificate.is,
-      record { input_is = refl; shelf_is = refl; out_is = refl },
-    )
+    let made = subst (IsMadeOf (map (λ w. w.now) c.args.words.now)) c.in-Explain.is c.in-Ok.ensures.made in
+    with_words (some_words _ _ _ made.first) refl (explained_of_logs _ made refl
+    (rw c.in-Certificate.is (told _ _ _ _ _ _
+    (rw c.of_json-form.ensures at c.answer_files-in-Certificate.ensures) c.deliver-in-Certificate.ensures)))
 
 pub returns-in-Show-clause-served : goal.returns-in-Show-clause-served
 returns-in-Show-clause-served g c =
@@ -95,7 +92,7 @@ pub returns-in-Decide-clause-served : goal.returns-in-Decide-clause-served
 returns-in-Decide-clause-served g c =
     let made = subst (IsMadeOf (map (λ w. w.now) c.args.words.now)) c.in-Decide.is c.in-Ok.ensures.made in
     with_words (some_words _ _ _ made.first) refl (decided _ made (told_and_kept _ _ _ _ _ _ _ _ _ _
-    (rw (c.asked-inputs-in-Decide.ensures, c.is_some.ensures, c.of_json-in-Decide.ensures) at c.answer_files-reply.ensures)
+    (rw (c.asking-inputs-in-Decide.ensures, c.is_some.ensures, c.is_brief.ensures, c.of_json-in-Decide.ensures) at c.answer_files-reply.ensures)
     c.deliver_and_keep-in-Decide.ensures))
 
 pub returns-in-Pairs-clause-served : goal.returns-in-Pairs-clause-served

@@ -9,4 +9,4 @@ pub returns : goal.returns
 returns g c =
     let asked = rw c.deref.ensures.value at c.show_command.ensures in
     gives_weaker c.answer_files.result (λ reply is. (_, rw c.in-Ok.is at c.in_ok-places.ensures, _, asked, is)) (λ fault is. inr is)
-    (rw (c.asked-inputs.ensures, c.question_of.ensures) at c.answer_files.ensures)
+    (rw (c.asking-inputs.ensures, c.question_of.ensures) at c.answer_files.ensures)

@@ -6,8 +6,8 @@ upgrade_taken-requires g c = let h = rw c.in-Ok.is at c.in_ok-given.ensures in (
 
 pub returns-in_ok-upgrade_taken-in-Ok : goal.returns-in_ok-upgrade_taken-in-Ok
 returns-in_ok-upgrade_taken-in-Ok g c =
-    let h = rw (c.asked-inputs.ensures, c.in-Ok.is) at c.in_ok-given.ensures in
+    let h = rw (c.asking-inputs.ensures, c.in-Ok.is) at c.in_ok-given.ensures in
     of_given _ _ _ _ _ _ _ c.in-Ok.given _ _ h (c.in_ok-upgrade_taken-in-Ok.ensures h.texts h.found.0)
 
 pub returns-in-Err : goal.returns-in-Err
-returns-in-Err g c = rw (c.asked-inputs.ensures, c.in-Err.is) at c.in_ok-given.ensures
+returns-in-Err g c = rw (c.asking-inputs.ensures, c.in-Err.is) at c.in_ok-given.ensures

@@ -9,5 +9,5 @@ returns g c =
     let of = c.before.captures in
     if_ok c.tell_folder.result (λ told is folder at.
     subst (λ f. IsTold g.row.A.Denot g.F.TextSource.reads of.asked.form of.asked.expected.now of.asked.detail
-    of.shelf.now f told.answer told.text.bytes) (get_or_from_slice_get of.folders.now c.args.i folder _ at) is)
+    of.asked.is_summed of.shelf.now f told.answer told.text.bytes) (get_or_from_slice_get of.folders.now c.args.i folder _ at) is)
     c.tell_folder.ensures
