@@ -13,11 +13,11 @@ const HELP = "For more information, try '--help'.\n";
 // Of each command its flags, its options with what their values are called, `#` in front of a number, and its words.
 const COMMANDS = {
   logs: 'each sum over leads=P,..|any|FILE json dir=DIR LOG',
-  explain: 'each over leads=P,..|any|FILE question=Q case=#K cert=C json dir=DIR LOG',
-  show: 'leads=P,..|any|FILE at=N0,N1,.. question=Q case=#K events json dir=DIR LOG',
-  draw: 'out=FILE! at=N0,N1,.. question=Q case=#K from=#A to=#B dir=DIR LOG',
+  explain: 'each over leads=P,..|any|FILE question=Q ask=SENTENCE case=#K cert=C json dir=DIR LOG',
+  show: 'leads=P,..|any|FILE at=N0,N1,.. question=Q ask=SENTENCE case=#K events json dir=DIR LOG',
+  draw: 'out=FILE! at=N0,N1,.. question=Q ask=SENTENCE case=#K from=#A to=#B dir=DIR LOG',
   check: 'question=Q! cert=C! depth=#D json dir=DIR LOG',
-  decide: 'question=Q! out=C json dir=DIR LOG',
+  decide: 'question=Q ask=SENTENCE out=C json dir=DIR LOG',
   pairs: 'N=#N!',
   ask: 'nodes=#N dir=DIR SENTENCE=SENTENCE!',
   run: 'nodes=#N! seed=#S! out=DIR! initiators=#M draws=#K cap=#C terms=#T alone',
@@ -218,6 +218,18 @@ function asked(values, files) {
   return {status, out, err: LETTERS.decode(err), written};
 }
 
+// What is found for a sentence's question, the first of these files, in one line.
+function decided(files) {
+  const told = asked([ira.JSON_LINES, ira.DECIDE], files);
+  const [{answer}, ...cases] = LETTERS.decode(told.out).trimEnd().split('\n').map(line => JSON.parse(line));
+  if (answer != 'absent' && answer != 'present') return asked([ira.DECIDE], files);
+  const at = cases.find(it => it.found == 'present');
+  if (!at) return {...told, out: `absent: no moment met any of ${cases.length} cases\n`};
+  const asks = files[0][1].split('case\n')[at.case + 1].replace(/end\n$/, '').trimEnd().split('\n');
+  const clauses = asks.map(line => `; node ${line.replace(': ', ' ')}`).join('');
+  return {...told, out: `present: case ${at.case}, at ${at.cut.join(' ')}${clauses}\n`};
+}
+
 // As `logs --over --leads` and `explain --over --leads` say it of these files, with the first line of JSON.
 function expected(command, files, {over = false, json}, leads) {
   const texts = files.map(([, text]) => text), names = files.map(([name]) => name);
@@ -308,22 +320,26 @@ function left(source, {lost, out}) {
 }
 
 function execute(command, said, input) {
-  const {json, question, cert, case: number, out} = said, form = json ? [ira.JSON_LINES] : [];
+  const {json, question, ask, cert, case: number, out} = said, form = json ? [ira.JSON_LINES] : [];
+  const asks = question !== undefined || ask !== undefined;
   const isEach = command == 'logs' || command == 'explain';
   if (isEach && (said.each || said.sum || said.LOG.length > 1 && said.dir === undefined && said.LOG.every(isFolder))) {
-    if (question ?? number ?? cert !== undefined) refuse('--each goes with none of --question, --case and --cert');
+    if (asks || (number ?? cert) !== undefined) refuse('--each goes with none of --question, --ask, --case and --cert');
     if (command == 'explain' && said.leads && !json) fail(NO_REASONS);
     return each(command, said.LOG, said);
   }
+  if (question !== undefined && ask !== undefined || command == 'decide' && !asks) {
+    refuse('the question is named either by --question <Q> or by --ask <SENTENCE>');
+  }
   if (command == 'explain' || command == 'show' || command == 'draw') {
-    if (number !== undefined && question === undefined) refuse('--case <K> needs --question <Q>');
-    if (cert !== undefined && question === undefined) refuse('--cert <C> needs --question <Q>');
+    if (number !== undefined && !asks) refuse('--case <K> needs --question <Q> or --ask <SENTENCE>');
+    if (cert !== undefined && !asks) refuse('--cert <C> needs --question <Q> or --ask <SENTENCE>');
     if (number !== undefined && cert !== undefined) refuse('--case <K> and --cert <C> exclude one another');
-    if (said.at !== undefined && question !== undefined) {
-      refuse('--at <N0,N1,..> and --question <Q> exclude one another');
+    if (said.at !== undefined && asks) {
+      refuse('--at <N0,N1,..> goes with neither --question <Q> nor --ask <SENTENCE>');
     }
-    if (command == 'explain' && question !== undefined && (said.over || said.leads !== undefined)) {
-      refuse('--question <Q> goes with neither --over nor --leads <P,..|any|FILE>');
+    if (command == 'explain' && asks && (said.over || said.leads !== undefined)) {
+      refuse('--question <Q> and --ask <SENTENCE> go with neither --over nor --leads <P,..|any|FILE>');
     }
   }
   switch (command) {
@@ -345,7 +361,7 @@ function execute(command, said, input) {
     refuse('--start <S> is initiator or passive');
   }
   const at = said.at === undefined ? undefined : listed(said.at);
-  if (command == 'explain' && said.dir === undefined && !said.LOG.length && question === undefined && !said.over &&
+  if (command == 'explain' && said.dir === undefined && !said.LOG.length && !asks && !said.over &&
       said.leads === undefined) {
     return asked([...form, ira.EXPLAIN_LOG], [['-', readInput(input, json)]]);
   }
@@ -362,11 +378,12 @@ function execute(command, said, input) {
   const names = namesOf(source, json), before = question === undefined ? [] : [question];
   if (command != 'upgrade') withoutOverwriting(out, [...before, ...names]);
   const files = [...before, ...cert === undefined ? [] : [cert], ...names].map(name => [name, read(name, json)]);
+  if (ask !== undefined) files.unshift(['--ask', names.length >= 2 && names.length <= 255 ? ira.ask(names.length, ask) : '']);
   const cases = number === undefined ? [] : [number];
-  const moment = question !== undefined ? [2, ...cases] : at === undefined ? [] : [1, ...at];
+  const moment = asks ? [2, ...cases] : at === undefined ? [] : [1, ...at];
   switch (command) {
     case 'upgrade': return {...asked([ira.UPGRADE], files), folder: out};
-    case 'decide': return {...asked([...form, ira.DECIDE], files), file: out};
+    case 'decide': return {...ask !== undefined && !json ? decided(files) : asked([...form, ira.DECIDE], files), file: out};
     case 'check': return asked([...form, ira.CHECK], files);
     case 'show': return asked([...form, ...ira.led(leads), said.events ? ira.EVENTS : ira.SHOW, ...moment], files);
     case 'draw': {
@@ -375,7 +392,7 @@ function execute(command, said, input) {
     }
     case 'explain':
       if (cert !== undefined) return asked([...form, ira.EXPLAIN_CERT], files);
-      if (question !== undefined) return asked([...form, ira.EXPLAIN_QUESTION, ...cases], files);
+      if (asks) return asked([...form, ira.EXPLAIN_QUESTION, ...cases], files);
   }
   return expected(command, files, said, leads);
 }
