@@ -1,7 +1,6 @@
 -- What comes of a text: its question, or why there is none.
-use Rattle.std.proofs.Common.{◌≡◌, ◌≤◌, ◌⊎◌, ℕ, List, length, Option, Some, None, ap, subst, inl, inr}
+use Rattle.std.proofs.Common.{◌≡◌, ◌≤◌, ◌⊎◌, ℕ, List, length, ap, subst, inl, inr}
 use Rattle.std.specs.Prelude.{Result, Ok, Err}
-use Rattle.ira_pred.specs.Formula.{Formula}
 use Rattle.ira_pred.specs.QuestionText.{IsShort}
 use Rattle.ira_ask.specs.declared.picks.Picks.{Picks}
 use Rattle.ira_ask.specs.declared.places.Places.{Places}
@@ -12,16 +11,11 @@ use Rattle.ira_ask.specs.declared.asked_clauses.AskedClauses.{AskedClauses}
 use Rattle.ira_ask.specs.Asked.{together}
 use Rattle.ira_ask.specs.AskedTexts.{AreAsked, Writes, asked_of}
 use Rattle.ira_ask.specs.Choices.{PicksOf, choices}
-use Rattle.ira_ask.specs.Reading.{AreSpelled, Spells}
+use Rattle.ira_ask.specs.Reading.{AreSpelled}
 use Rattle.ira_ask.specs.Sentence.{Parts}
 use Rattle.ira_ask.specs.SentenceAnswer.{Answers, HasClauses, IsSentenceFault, asks_parts, long_question, stops, too_deep}
-use Rattle.ira_ask.specs.SentenceText.{IsTextOfParts, MayBeClause, SpeaksOfNode, StopsAt}
-
-clause-of : (t : Option (List ℕ)) (f : Option Formula) → Spells t f → MayBeClause f
-clause-of None None h = tt
-clause-of (Some t) (Some f) h = h.0
-clause-of None (Some f) h = absurd h
-clause-of (Some t) None h = absurd h
+use Rattle.ira_ask.specs.SentenceText.{IsTextOfParts, SpeaksOfNode, StopsAt}
+use Rattle.ira_ask.proofs.PartsRead.{clause-of}
 
 pub clauses_of : {A : Type 0} (clauses : AskedClauses A) (s : Parts) → AreAsked clauses s → HasClauses s
 clauses_of clauses s h = record {

@@ -1,5 +1,5 @@
 -- Numbers in a row, and lists made of them.
-use Rattle.std.proofs.Common.{◌≡◌, ◌<◌, ◌≤◌, ◌⊎◌, ℕ, zero, suc, ◌+◌, ◌-◌, List, [], ◌∷◌, ◌++◌, map, refl, sym, ap}
+use Rattle.std.proofs.Common.{◌≡◌, ◌<◌, ◌≤◌, ℕ, zero, suc, ◌+◌, ◌-◌, List, [], ◌∷◌, ◌++◌, map, refl, sym, ap}
 use Rattle.std.proofs.Common.{subst, arith}
 use Rattle.std.proofs.Common.{◌∙◌, append_assoc, inl, inr}
 use Rattle.std.specs.Prelude.{All, Contains}
@@ -8,9 +8,8 @@ use Rattle.std.proofs.lemmas.List.Elements.{All-nil, All-cons, All-head, All-tai
 use Rattle.std.proofs.lemmas.List.Elements.{Contains-append_left, Contains-append_right}
 use Rattle.ira_pred.specs.Pairs.{numbers_from}
 use Rattle.ira_pred.proofs.PairCases.{next-number}
-
-pub here_or_later : (i m : ℕ) → i ≤ m → (i ≡ m) ⊎ (i + 1 ≤ m)
-here_or_later i m low = grind arith
+use Rattle.ira_pred.proofs.Walks.{All-back}
+use Rattle.ira_pred.proofs.PairOrder.{at_or_above}
 
 pub All-map_numbers : {X : Type 0} (P : X → Type 0) (f : ℕ → X) (i k : ℕ)
     → ((m : ℕ) → i ≤ m → m < i + k → P (f m)) → All P (map f (numbers_from i k))
@@ -30,18 +29,14 @@ pub All-left : {X : Type 0} (P : X → Type 0) (xs ys : List X) → All P (xs ++
 All-left P [] ys h = All-nil P
 All-left P (x ∷ xs) ys h = All-cons P x xs (All-head P x (xs ++ ys) h) (All-left P xs ys (All-tail P x (xs ++ ys) h))
 
-pub All-right : {X : Type 0} (P : X → Type 0) (xs ys : List X) → All P (xs ++ ys) → All P ys
-All-right P [] ys h = h
-All-right P (x ∷ xs) ys h = All-right P xs ys (All-tail P x (xs ++ ys) h)
-
 pub each_flat_number : {X : Type 0} (P : X → Type 0) (f : ℕ → List X) (i k : ℕ) → All P (flat_map f (numbers_from i k))
     → (m : ℕ) → i ≤ m → m < i + k → All P (f m)
 each_flat_number P f i zero h m low high = absurd (omega (arith, low, high))
 each_flat_number P f i (suc k) h m low high =
-    elim (here_or_later i m low) [
+    elim (at_or_above i m low) [
       | inl e ↦ subst (λ x. All P (f x)) e (All-left P (f i) (flat_map f (numbers_from (i + 1) k)) h)
       | inr later ↦
-          each_flat_number P f (i + 1) k (All-right P (f i) (flat_map f (numbers_from (i + 1) k)) h) m later
+          each_flat_number P f (i + 1) k (All-back P (f i) (flat_map f (numbers_from (i + 1) k)) h) m later
           (omega (arith, high))
     ]
 
@@ -49,7 +44,7 @@ pub Contains-map_numbers : {X : Type 0} (f : ℕ → X) (i k m : ℕ) → i ≤ 
     → Contains (map f (numbers_from i k)) (f m)
 Contains-map_numbers f i zero m low high = absurd (omega (arith, low, high))
 Contains-map_numbers f i (suc k) m low high =
-    elim (here_or_later i m low) [
+    elim (at_or_above i m low) [
       | inl e ↦ (0, omega arith, ap f e)
       | inr later ↦
           Contains-append_right (f i ∷ []) _ (f m) (Contains-map_numbers f (i + 1) k m later (omega (arith, high)))
@@ -59,7 +54,7 @@ pub Contains-flat_numbers : {X : Type 0} (f : ℕ → List X) (i k m : ℕ) (x :
     → Contains (flat_map f (numbers_from i k)) x
 Contains-flat_numbers f i zero m x low high c = absurd (omega (arith, low, high))
 Contains-flat_numbers f i (suc k) m x low high c =
-    elim (here_or_later i m low) [
+    elim (at_or_above i m low) [
       | inl e ↦ Contains-append_left (f i) (flat_map f (numbers_from (i + 1) k)) x (subst (λ y. Contains (f y) x)
           (sym e) c)
       | inr later ↦

@@ -45,7 +45,7 @@ taken part old new (Some clause) h = record {
   left_fits = λ k. h.5;
 }
 
-clause-of : (part : Option (List ℕ)) (f : Option Formula) → Spells part f → MayBeClause f
+pub clause-of : (part : Option (List ℕ)) (f : Option Formula) → Spells part f → MayBeClause f
 clause-of None None h = tt
 clause-of (Some t) (Some f) h = h.0
 clause-of None (Some f) h = absurd h

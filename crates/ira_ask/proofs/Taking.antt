@@ -1,5 +1,5 @@
 -- A part is taken off what is left of a sentence.
-use Rattle.std.proofs.Common.{◌≡◌, ◌<◌, ◌≤◌, ℕ, suc, Bool, true, false, cond, nat_eq, nat_lt, List, [], ◌∷◌, ◌++◌}
+use Rattle.std.proofs.Common.{◌≡◌, ◌<◌, ◌≤◌, ℕ, suc, true, false, nat_eq, nat_lt, List, [], ◌∷◌, ◌++◌}
 use Rattle.std.proofs.Common.{length}
 use Rattle.std.proofs.Common.{take, drop, get_or, Option, Some, None, refl, sym, ap, subst, ◌∙◌, arith, append_assoc}
 use Rattle.std.proofs.Common.{length-append}
@@ -14,6 +14,7 @@ use Rattle.std.proofs.lemmas.List.Sums.{fails_before_first}
 use Rattle.ira_event.specs.Scan.{after_word}
 use Rattle.ira_event.proofs.Pieces.{split_same, first_differs}
 use Rattle.ira_event.proofs.RecordLines.{word-takes, word-again}
+use Rattle.ira_event.proofs.LogReading.{position-cases}
 use Rattle.ira_pred.specs.Formula.{Formula}
 use Rattle.ira_pred.specs.QuestionText.{clause_text}
 use Rattle.ira_ask.specs.declared.sentence_part.SentencePart.{SentencePart}
@@ -23,13 +24,9 @@ use Rattle.ira_ask.proofs.Parting.{clause-lacks}
 
 -- ---- the first comma
 
-position-none : (b : Bool) (i : ℕ) → cond b (Some i) None ≡ None → b ≡ false
-position-none true i e = absurd cc
-position-none false i e = refl
-
 pub no_comma : (text : List ℕ) → position (λ c. nat_eq c 44) text ≡ None → HasNoComma text
 no_comma text e =
-    let test : nat_lt (position_or_len (λ c. nat_eq c 44) text) (length text) ≡ false = position-none _ _ e in
+    let test : nat_lt (position_or_len (λ c. nat_eq c 44) text) (length text) ≡ false = position-cases _ _ e in
     list_any_none (λ c. nat_eq c 44) text (λ k d lt.
     fails_before_first (λ c. nat_eq c 44) text k d (grind (arith, nat_tests)))
 

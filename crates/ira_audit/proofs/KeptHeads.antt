@@ -2,7 +2,7 @@
 use Rattle.std.proofs.Common.{◌≡◌, ℕ, zero, suc, ◌≤◌, inl, inr, List, [], ◌∷◌, ◌++◌, Some}
 use Rattle.std.proofs.Common.{length, map, refl, sym, ap, ◌∙◌, arith, length-append}
 use Rattle.std.specs.Prelude.{Contains, slice_get}
-use Rattle.std.proofs.lemmas.List.{length-map}
+use Rattle.std.proofs.lemmas.List.{length-map, map-append}
 use Rattle.std.proofs.lemmas.List.Elements.{Contains-append_left, Contains-append_right}
 use Rattle.std.proofs.lemmas.Option.{get_or_from_slice_get, slice_get_read, slice_get_within}
 use Rattle.ira_event.specs.declared.head_fault.HeadFault.{HeadFault}
@@ -14,10 +14,6 @@ use Rattle.ira_event.specs.LogText.{head_of}
 use Rattle.ira_audit.specs.RingAudit.{StandFor}
 
 -- ---- logs with the same heads
-
-map_append : {X Y : Type 0} (f : X → Y) (xs ys : List X) → map f (xs ++ ys) ≡ map f xs ++ map f ys
-map_append f [] ys = refl
-map_append f (x ∷ xs) ys = ap (λ (zs : List _). f x ∷ zs) (map_append f xs ys)
 
 pub same_number : (xs ys : List Log) → map head_of xs ≡ map head_of ys → length xs ≡ length ys
 same_number xs ys e = sym (length-map xs head_of) ∙ ap (λ (hs : List LogHead). length hs) e ∙ length-map ys head_of
@@ -118,13 +114,13 @@ ring_stands kept logs (inr heads) ring =
 pub stand_both : (k1 l1 k2 l2 : List Log) → StandFor k1 l1 → StandFor k2 l2 → StandFor (k1 ++ k2) (l1 ++ l2)
 stand_both k1 l1 k2 l2 (inl a) (inl b) = inl (ap (λ (ls : List Log). ls ++ k2) a ∙ ap (λ (ls : List Log). l1 ++ ls) b)
 stand_both k1 l1 k2 l2 (inl a) (inr b) = inr (
-  map_append head_of k1 k2 ∙ ap (λ (ls : List Log). map head_of ls ++ map head_of k2) a
-      ∙ ap (λ (hs : List LogHead). map head_of l1 ++ hs) b.0 ∙ sym (map_append head_of l1 l2),
+  map-append head_of k1 k2 ∙ ap (λ (ls : List Log). map head_of ls ++ map head_of k2) a
+      ∙ ap (λ (hs : List LogHead). map head_of l1 ++ hs) b.0 ∙ sym (map-append head_of l1 l2),
   (b.1.0, Contains-append_right l1 l2 b.1.0 b.1.1, omega (arith, b.1.2, length-append l1 l2)),
 )
 stand_both k1 l1 k2 l2 (inr a) b = inr (
-  map_append head_of k1 k2 ∙ ap (λ (hs : List LogHead). hs ++ map head_of k2) a.0
-      ∙ ap (λ (hs : List LogHead). map head_of l1 ++ hs) (same_heads k2 l2 b) ∙ sym (map_append head_of l1 l2),
+  map-append head_of k1 k2 ∙ ap (λ (hs : List LogHead). hs ++ map head_of k2) a.0
+      ∙ ap (λ (hs : List LogHead). map head_of l1 ++ hs) (same_heads k2 l2 b) ∙ sym (map-append head_of l1 l2),
   (a.1.0, Contains-append_left l1 l2 a.1.0 a.1.1, omega (arith, a.1.2, length-append l1 l2)),
 )
 
@@ -136,8 +132,8 @@ stand_head kept logs head log first stand is at many =
     let o = other_at kept logs 0 first heads at in
     let nodes : first.nodes ≡ o.0.nodes = ap (λ (x : LogHead). x.nodes) o.2 in
     inr (
-      map_append head_of kept (head ∷ []) ∙ ap (λ (hs : List LogHead). hs ++ head_of head ∷ []) heads
-          ∙ ap (λ (h : LogHead). map head_of logs ++ h ∷ []) is ∙ sym (map_append head_of logs (log ∷ [])),
+      map-append head_of kept (head ∷ []) ∙ ap (λ (hs : List LogHead). hs ++ head_of head ∷ []) heads
+          ∙ ap (λ (h : LogHead). map head_of logs ++ h ∷ []) is ∙ sym (map-append head_of logs (log ∷ [])),
       (
         o.0,
         Contains-append_left logs (log ∷ []) o.0 (contained logs 0 o.0 o.1),

@@ -1,6 +1,7 @@
 -- Texts of logs, of a question and of a certificate have at most one answer.
 use Rattle.std.proofs.Common.{◌≡◌, ◌≢◌, ℕ, List, Some, length, refl, sym, ap, ◌∙◌, inl, inr}
 use Rattle.std.specs.Prelude.{slice_get}
+use Rattle.std.proofs.lemmas.Slice.Zip.{AllZip-long}
 use Rattle.ira_event.specs.Log.{Log}
 use Rattle.ira_pred.specs.Case.{Conjunct}
 use Rattle.ira_pred.specs.Question.{QuestionCases}
@@ -20,7 +21,6 @@ use Rattle.ira_audit.proofs.OnePosed.{one_reason, posed_or_not, one_posed}
 use Rattle.ira_audit.proofs.Places.{different_places}
 use Rattle.ira_audit.proofs.SoundSections.{one_first_unsound, sound_or_first_unsound}
 use Rattle.ira_audit.proofs.Stages.{Stage, one_of_stage}
-use Rattle.ira_audit.proofs.Zipped.{zipped_length}
 
 -- ---- the stages, the last one first
 
@@ -67,7 +67,7 @@ staged texts question certificate a (other_number logs asked c p is size other e
 staged texts question certificate a (unsound logs asked c i f p is size number h e) =
     inr ((logs, asked), p, inr (c, is, inr (tt, size, inr (tt, number, inl ((i, f), h, e)))))
 staged texts question certificate a (yes logs asked c p is size sound e) =
-    inr ((logs, asked), p, inr (c, is, inr (tt, size, inr (tt, zipped_length _ _ _ sound, inr (tt, sound, e)))))
+    inr ((logs, asked), p, inr (c, is, inr (tt, size, inr (tt, AllZip-long _ _ _ sound, inr (tt, sound, e)))))
 
 -- ---- each stage has one answer
 

@@ -1,15 +1,11 @@
 -- The cases of a question ask each node for one thing at most, and nodes of its ring alone.
 use Rattle.std.proofs.Common.{◌≡◌, ◌<◌, ℕ, List, Some, length, subst, arith}
-use Rattle.std.specs.Prelude.{slice_get, slice_index_or, All}
-use Rattle.std.proofs.lemmas.Option.{slice_get_within, get_or_from_slice_get}
+use Rattle.std.specs.Prelude.{slice_get, slice_index_or}
 use Rattle.ira_event.specs.Log.{Log}
 use Rattle.ira_pred.specs.Case.{Conjunct, IsCase}
 use Rattle.ira_pred.specs.Question.{QuestionCases, IsQuestion}
 use Rattle.ira_cert.specs.Conjuncts.{HasDifferentPlaces, HasPlacesOf}
-
--- what holds of all members holds of the one there
-pub all_at : {X : Type 0} (P : X → Type 0) (xs : List X) (i : ℕ) (x : X) → All P xs → slice_get xs i ≡ Some x → P x
-all_at P xs i x all at = subst P (get_or_from_slice_get xs i x x at) (all i x (slice_get_within xs i x at))
+use Rattle.ira_par.proofs.CaseTables.{all_at}
 
 case_at : (asked : QuestionCases) (i : ℕ) (case : List Conjunct) → IsQuestion asked
     → slice_get asked.cases i ≡ Some case

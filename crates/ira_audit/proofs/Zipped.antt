@@ -1,5 +1,5 @@
 -- Two lists of which each member is tied to the one at its place.
-use Rattle.std.proofs.Common.{◌≡◌, ◌++◌, ℕ, zero, suc, List, [], ◌∷◌, Some, length, refl, ap}
+use Rattle.std.proofs.Common.{◌≡◌, ◌++◌, ℕ, zero, suc, List, [], ◌∷◌, Some, refl}
 use Rattle.std.specs.Prelude.{slice_get}
 use Rattle.std.specs.List.{AllZip}
 use Rattle.std.proofs.lemmas.Option.{same_Some}
@@ -30,14 +30,6 @@ zipped_more R [] (v ∷ ys) x y h r = absurd h
 zipped_more R (u ∷ xs) [] x y h r = absurd h
 zipped_more R (u ∷ xs) (v ∷ ys) x y h r = (h.0, zipped_more R xs ys x y h.1 r)
 
--- there are as many members of each
-pub zipped_length : {X Y : Type 0} (R : X → Y → Type 0) (xs : List X) (ys : List Y) → AllZip R xs ys
-    → length ys ≡ length xs
-zipped_length R [] [] h = refl
-zipped_length R [] (y ∷ ys) h = absurd h
-zipped_length R (x ∷ xs) [] h = absurd h
-zipped_length R (x ∷ xs) (y ∷ ys) h = ap suc (zipped_length R xs ys h.1)
-
 -- what ties two lists ties them in another way, where each tie gives the other
 pub zipped_into : {X Y : Type 0} (R S : X → Y → Type 0) → ((x : X) (y : Y) → R x y → S x y)
     → (xs : List X) (ys : List Y) → AllZip R xs ys → AllZip S xs ys
@@ -45,10 +37,3 @@ zipped_into R S into [] [] h = tt
 zipped_into R S into [] (y ∷ ys) h = absurd h
 zipped_into R S into (x ∷ xs) [] h = absurd h
 zipped_into R S into (x ∷ xs) (y ∷ ys) h = (into x y h.0, zipped_into R S into xs ys h.1)
-
--- as many members
-pub as_many : {X Y : Type 0} (R : X → Y → Type 0) (xs : List X) (ys : List Y) → AllZip R xs ys → length ys ≡ length xs
-as_many R [] [] h = refl
-as_many R [] (v ∷ ys) h = absurd h
-as_many R (u ∷ xs) [] h = absurd h
-as_many R (u ∷ xs) (v ∷ ys) h = ap suc (as_many R xs ys h.1)

@@ -12,6 +12,7 @@ use Rattle.ira_event.specs.declared.load.Load.{Load}
 use Rattle.ira_event.specs.declared.event.Event.{Event}
 use Rattle.ira_event.specs.Log.{Log}
 use Rattle.ira_event.specs.Messages.{sending}
+use Rattle.ira_event.proofs.Pieces.{or_parts}
 use Rattle.ira_node.specs.declared.node_state.NodeState.{NodeState}
 use Rattle.ira_node.specs.declared.step_fault.StepFault.{StepFault}
 use Rattle.ira_node.specs.declared.phase.Phase.{Phase}
@@ -74,10 +75,6 @@ same_kind Passive = (refl, refl, refl, refl, refl, refl)
 same_kind (Leader r i) = (refl, refl, refl, refl, refl, refl)
 same_kind Yielding = (refl, refl, refl, refl, refl, refl)
 
-neither : (a b : Bool) → (a || b) ≡ false → (a ≡ false) × (b ≡ false)
-neither false b e = (refl, e)
-neither true b e = cc
-
 told_by_kind : (f : Formula) (at : Stage) (o : Bool) → names_round_or_term f ≡ false
     → test_of f (in_first_round at) o ≡ test_of f at o
 told_by_kind always at o e = refl
@@ -91,11 +88,11 @@ told_by_kind (round rel n) at o e = cc
 told_by_kind (id rel n) at o e = ap (λ x. compare_some_test x rel n) (same_kind at.phase).5
 told_by_kind (term rel n) at o e = cc
 told_by_kind (both a b) at o e =
-    let apart = neither (names_round_or_term a) (names_round_or_term b) e in
+    let apart = or_parts (names_round_or_term a) (names_round_or_term b) e in
     ap (λ x. x && test_of b (in_first_round at) o) (told_by_kind a at o apart.0)
     ∙ ap (λ y. test_of a at o && y) (told_by_kind b at o apart.1)
 told_by_kind (either a b) at o e =
-    let apart = neither (names_round_or_term a) (names_round_or_term b) e in
+    let apart = or_parts (names_round_or_term a) (names_round_or_term b) e in
     ap (λ x. x || test_of b (in_first_round at) o) (told_by_kind a at o apart.0)
     ∙ ap (λ y. test_of a at o || y) (told_by_kind b at o apart.1)
 told_by_kind (negated a) at o e = ap not (told_by_kind a at o e)
@@ -113,11 +110,11 @@ free_as_owing (round rel n) at e = refl
 free_as_owing (id rel n) at e = refl
 free_as_owing (term rel n) at e = refl
 free_as_owing (both a b) at e =
-    let apart = neither (names_debt a) (names_debt b) e in
+    let apart = or_parts (names_debt a) (names_debt b) e in
     ap (λ x. x && test_of b at false) (free_as_owing a at apart.0)
     ∙ ap (λ y. test_of a at true && y) (free_as_owing b at apart.1)
 free_as_owing (either a b) at e =
-    let apart = neither (names_debt a) (names_debt b) e in
+    let apart = or_parts (names_debt a) (names_debt b) e in
     ap (λ x. x || test_of b at false) (free_as_owing a at apart.0)
     ∙ ap (λ y. test_of a at true || y) (free_as_owing b at apart.1)
 free_as_owing (negated a) at e = ap not (free_as_owing a at e)

@@ -30,11 +30,11 @@ use Rattle.ira_cert.proofs.Prefixes.{sound_more}
 use Rattle.ira_cert.proofs.SomeVerdict.{candidates_at, enough}
 
 -- the first conjunct of a longer case is another one, or this one
-asked_after : (c : Conjunct) (case : List Conjunct) (i : ℕ) → c.place ≢ i → IsAsked (c ∷ case) i → IsAsked case i
+pub asked_after : (c : Conjunct) (case : List Conjunct) (i : ℕ) → c.place ≢ i → IsAsked (c ∷ case) i → IsAsked case i
 asked_after c case i other (f, (zero, within, is)) = absurd (other (ap (λ (x : Conjunct). x.place) is))
 asked_after c case i other (f, (suc k, within, is)) = (f, (k, omega (arith, within), is))
 
-is_asked : (case : List Conjunct) (i : ℕ) → IsAsked case i ⊎ ¬ (IsAsked case i)
+pub is_asked : (case : List Conjunct) (i : ℕ) → IsAsked case i ⊎ ¬ (IsAsked case i)
 is_asked [] i = inr (λ asked. omega (arith, asked.1.1))
 is_asked (c ∷ case) i = elim (cases_eq c.place i) [
   | inl here ↦ inl (c.formula, (0, omega arith, ap (λ (p : ℕ). record { place = p; formula = c.formula }) here))

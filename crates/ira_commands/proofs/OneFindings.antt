@@ -3,6 +3,7 @@ use Rattle.std.proofs.Common.{◌≡◌, ℕ, List, [], Some, arith, length, ref
 use Rattle.std.specs.Prelude.{Contains, slice_get}
 use Rattle.std.specs.List.{AllZip}
 use Rattle.std.proofs.lemmas.Option.{get_or_from_slice_get, slice_get_read, slice_get_within}
+use Rattle.std.proofs.lemmas.Slice.Zip.{AllZip-long}
 use Rattle.ira_event.specs.Log.{Log}
 use Rattle.ira_pred.specs.Case.{Conjunct}
 use Rattle.ira_pred.specs.Question.{IsQuestion, QuestionCases}
@@ -13,7 +14,7 @@ use Rattle.ira_elim.specs.declared.found.Found.TheVariants.{Absent, Present}
 use Rattle.ira_audit.proofs.NeverMet.{absent_more}
 use Rattle.ira_audit.proofs.OnePosed.{one_posed, posed_or_not}
 use Rattle.ira_audit.proofs.Places.{different_places}
-use Rattle.ira_audit.proofs.Zipped.{partner_at, zipped_at, zipped_length}
+use Rattle.ira_audit.proofs.Zipped.{partner_at, zipped_at}
 use Rattle.ira_audit.specs.Findings.{AreFindings, HasPresent, MakeNoCertificate}
 use Rattle.ira_audit.specs.declared.findings.Findings.{Findings}
 use Rattle.ira_audit.specs.declared.findings.Findings.TheVariants.{Cases, Refused}
@@ -39,7 +40,7 @@ module _ {A B : Type 0} (logs : List Log) (asked : QuestionCases) (valid : IsQue
   some_present has =
       let k = has.1.0 in
       let at = slice_get_read found (length found) k (Present has.0) refl has.1.1 (sym has.1.2) in
-      let case = one_at asked.cases k (omega (arith, has.1.1, zipped_length (IsFound logs) asked.cases found are)) in
+      let case = one_at asked.cases k (omega (arith, has.1.1, AllZip-long (IsFound logs) asked.cases found are)) in
       let f = partner_at asked.cases other k case.0 (IsFound logs) also case.1 in
       present_too k case.0 has.0 f.0 case.1
       (zipped_at (IsFound logs) asked.cases found k case.0 (Present has.0) are case.1 at) f.1

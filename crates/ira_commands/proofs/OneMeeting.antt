@@ -6,8 +6,8 @@ use Rattle.ira_event.specs.Log.{Log}
 use Rattle.ira_view_election.proofs.Nexts.{one_at}
 use Rattle.ira_view_election.specs.Election.{Standing, goes_on, over}
 use Rattle.ira_view_election.specs.ElectionAt.{SomeNodeLeads, Stands}
-use Rattle.ira_view_moment.proofs.Progress.{one_state}
 use Rattle.ira_view_moment.specs.Moment.{IsMoment, LeadsAt, Moment, whole_cut}
+use Rattle.ira_view_moment.proofs.Progress.{one_end}
 use Rattle.ira_view.specs.Status.{IsLeadsStatus}
 use Rattle.ira_view.specs.declared.status.Status.{Status}
 use Rattle.ira_view.specs.declared.status.Status.TheVariants.{Refused}
@@ -29,7 +29,7 @@ module _ (logs : List Log) (cut : List ℕ) (m n : Moment) (is : IsMoment logs c
       let here : i < length m.nodes = slice_get_within m.nodes i leads.progress leads.at in
       let log = one_at logs i (omega (arith, here, is.places)) in
       let other = one_at n.nodes i (omega (arith, here, is.places, also.places)) in
-      let same = one_state log.0.nodes _ (take (slice_index cut i) log.0.events) leads.progress.state other.0.state
+      let same = one_end log.0.nodes _ (take (slice_index cut i) log.0.events) leads.progress.state other.0.state
       (is.nodes i log.0 leads.progress log.1 leads.at).state (also.nodes i log.0 other.0 log.1 other.1).state in
       record { progress = other.0; at = other.1; leads = rw same at leads.leads }
 

@@ -1,15 +1,15 @@
 -- What a sink takes of what is made as it is printed.
-use Rattle.std.proofs.Common.{◌≡◌, ◌∙◌, ℕ, List, [], ◌++◌, Result, Err, Ok, OnOk, append_assoc, inl, inr, refl}
-use Rattle.std.proofs.lemmas.List.Folds.{list_all-append}
-use Rattle.std.specs.Prelude.{nat_eq, ◌||◌, ⊤}
+use Rattle.std.proofs.Common.{◌≡◌, ℕ, List, [], ◌++◌, Result, Err, Ok, OnOk, append_assoc, inl, inr, refl}
+use Rattle.std.specs.Prelude.{⊤}
 use Rattle.ira_audit.specs.Report.{report_line}
 use Rattle.ira_audit.specs.declared.answer.Answer.TheVariants.{Yes}
 use Rattle.ira_event.proofs.Writing.{StopsIn-append, Takes-StopsIn, Takes-append}
 use Rattle.ira_event.specs.Sink.{SinkState, StopsIn, Takes}
 use Rattle.ira_view_json.specs.ShownAnswer.{AreTold, WroteRing}
-use Rattle.ira_view_page.specs.Printable.{IsPrintable, is_graphic}
+use Rattle.ira_view_page.specs.Printable.{IsPrintable}
 use Rattle.ira_view_page.specs.declared.show_fault.ShowFault.{ShowFault}
 use Rattle.ira_view_page.specs.declared.show_fault.ShowFault.TheVariants.{OutOfMemory, WrongColumns, Write}
+use Rattle.ira_view_page.proofs.Printables.{printable_append}
 use Rattle.ira_view_show.specs.Showed.{Showed}
 use Rattle.ira_view.specs.ShownRing.{AreEventsOf, ShownRing}
 use Rattle.ira_view.specs.Status.{status_number}
@@ -21,13 +21,10 @@ use Rattle.ira_commands.specs.Output.Printed.{all_events, json_lines}
 abbrev pub front : List ℕ → List ℕ
 front differences = report_line Yes ++ differences
 
-printable_both : (a b : List ℕ) → IsPrintable a → IsPrintable b → IsPrintable (a ++ b)
-printable_both a b p q = list_all-append (λ c. is_graphic c || nat_eq c 10) a b ∙ rw p q
-
 -- such lines come after them
 pub lines_after : (d : List ℕ) (AreLines : List ℕ → Type 0) (lines : List ℕ) → IsPrintable d → AreLines lines
     → IsPrintable lines → AreLinesAfter d AreLines (front d ++ lines)
-lines_after d AreLines lines p are q = (lines, are, printable_both d lines p q, append_assoc (report_line Yes) d lines)
+lines_after d AreLines lines p are q = (lines, are, printable_append d lines p q, append_assoc (report_line Yes) d lines)
 
 -- the sink failed before the events
 pub events_unbegun : (ring : ShownRing) (d : List ℕ) (s t : SinkState) → IsPrintable d → StopsIn (front d) s t

@@ -21,15 +21,17 @@ use Rattle.ira_order.specs.Run.{Configuration, Chains, AreLocalRuns, IsRunOfLogs
 use Rattle.ira_order.specs.Run.{places_of, event_of}
 use Rattle.ira_order.proofs.Acyclic.{before_within}
 use Rattle.ira_order.proofs.Ranks.{next_below}
-use Rattle.ira_order.proofs.Runs.{next_prev, prev_below}
+use Rattle.ira_order.proofs.Runs.{next_prev, prev_below, next_up}
 use Rattle.ira_order.proofs.RunsOfLogs.{run_is_order}
 use Rattle.ira_safety.specs.Reaches.{Reaches}
 use Rattle.ira_safety.proofs.Course.{settled}
 use Rattle.ira_safety.proofs.Sendings.{HasSending, has_sending}
+use Rattle.ira_safety.proofs.Steps.{phase_is}
+use Rattle.ira_safety.proofs.Terms.{next_home}
 use Rattle.ira_election.specs.AnOrder.{LocalRunsHaveAnOrder, CirclesHaveAFault}
 use Rattle.ira_election.specs.StandingStill.{IsStill}
-use Rattle.ira_election.proofs.Queues.{owed_is, phase_is, owes_or_sends, not_some}
-use Rattle.ira_election.proofs.Beginning.{next_up, next_home, all_or_one, initiator_or, no_run, Passes, passive_passes}
+use Rattle.ira_election.proofs.Queues.{owed_is, owes_or_sends, not_some}
+use Rattle.ira_election.proofs.Beginning.{all_or_one, initiator_or, no_run, Passes, passive_passes}
 use Rattle.ira_election.proofs.Beginning.{first_passive, hop}
 use Rattle.ira_election.proofs.Going.{IsCutOfRuns, st, course, st_first, IsCome, ends_or_waits, farthest, sent_split}
 use Rattle.ira_election.proofs.Still.{no_run_stands_still}

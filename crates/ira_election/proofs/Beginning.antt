@@ -1,8 +1,7 @@
 -- How runs begin: the election of each term is on, where a node is an initiator, and else nothing comes to be.
 use Rattle.std.proofs.Common.{◌≡◌, ℕ, zero, suc, ◌+◌, ◌<◌, ◌≤◌, ◌⊎◌, inl, inr, Bool, true, false, List, [], ◌∷◌, ◌++◌}
-use Rattle.std.proofs.Common.{Some, None, refl, sym, ◌∙◌, subst, ap, arith}
+use Rattle.std.proofs.Common.{Some, refl, sym, ◌∙◌, subst, ap, arith}
 use Rattle.std.proofs.lemmas.Bool.{cases_eq, cases_lt}
-use Rattle.std.proofs.lemmas.Bool.Decides.{nat_tests}
 use Rattle.ira_event.specs.declared.event.Event.{Event}
 use Rattle.ira_event.specs.declared.event.Event.TheVariants.{Got}
 use Rattle.ira_event.specs.declared.load.Load.{Load}
@@ -17,20 +16,16 @@ use Rattle.ira_node.specs.NodeStep.{restarts, comes_home}
 use Rattle.ira_order.specs.Ring.{next}
 use Rattle.ira_order.specs.Run.{Configuration, RingStep, LinkStep}
 use Rattle.ira_safety.specs.Reaches.{Reaches, beginning}
-use Rattle.ira_safety.proofs.Steps.{settled_first, resets, yielding}
+use Rattle.ira_safety.proofs.Steps.{settled_first, resets, yielding, phase_is}
+use Rattle.ira_safety.proofs.Terms.{first_owes}
+use Rattle.ira_safety.proofs.Course.{first_state_term}
 use Rattle.ira_election.proofs.Election.{debt, queue, of_term, messages_of, Has, phase_in, HasRank, IsOn, IsOnOrPast}
 use Rattle.ira_election.proofs.Turns.{has_split, none_of}
-use Rattle.ira_election.proofs.Queues.{owed_is, phase_is, phase_before, phase_now, not_some}
+use Rattle.ira_election.proofs.Queues.{owed_is, phase_before, phase_now, not_some}
 use Rattle.ira_election.proofs.Keeps.{IsSound}
 use Rattle.ira_election.proofs.Past.{run_on}
 
 -- ---- places
-
-pub next_up : (n j : ℕ) → j + 1 < n → next n j ≡ j + 1
-next_up n j more = grind (arith, nat_tests)
-
-pub next_home : (n j : ℕ) → n ≤ j + 1 → next n j ≡ 0
-next_home n j top = grind (arith, nat_tests)
 
 -- below n each is so, or one is other
 pub all_or_one : (A B : ℕ → Type 0) (n : ℕ) → ((j : ℕ) → j < n → A j ⊎ B j) → ((j : ℕ) → j < n → A j)
@@ -53,14 +48,6 @@ initiator_or false = inl refl
 
 -- ---- where a node is an initiator
 
-first_owes : (b : Bool) → (first_state b).owed ≡ None
-first_owes true = refl
-first_owes false = refl
-
-pub first_term : (b : Bool) → (first_state b).term ≡ 1
-first_term true = refl
-first_term false = refl
-
 pub first_runs : (b : Bool) → yielding (first_state b).phase ≡ 0
 first_runs true = refl
 first_runs false = refl
@@ -71,11 +58,11 @@ first_queue initiators j = ap debt (first_owes (initiators j))
 pub begins_sound : (n : ℕ) (initiators : ℕ → Bool) → IsSound n (beginning initiators)
 begins_sound n initiators = record {
   settled = λ j lj. settled_first (initiators j);
-  positive = λ j lj. omega (arith, first_term (initiators j));
+  positive = λ j lj. omega (arith, first_state_term (initiators j));
   even = λ j lj. omega (
     arith,
-    first_term (initiators j),
-    first_term (initiators (next n j)),
+    first_state_term (initiators j),
+    first_state_term (initiators (next n j)),
     first_runs (initiators j),
     ap resets (first_queue initiators j),
   );
@@ -108,7 +95,7 @@ begins_on n term initiators k one lk is =
     ] in
     record {
       within = record {
-        terms = λ j lj. omega (arith, first_term (initiators j));
+        terms = λ j lj. omega (arith, first_state_term (initiators j));
         none_yields = λ j lj now. first_runs (initiators j);
       };
       alive = record {

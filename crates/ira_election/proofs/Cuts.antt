@@ -4,7 +4,7 @@
 use Rattle.std.proofs.Common.{◌≡◌, ◌≢◌, ℕ, zero, suc, ◌+◌, ◌<◌, ◌≤◌, inl, inr, Bool, true, false, List, [], ◌∷◌, ◌++◌}
 use Rattle.std.proofs.Common.{Some, None, length, take, sym, ◌∙◌, subst, ap, arith, append-nil, length-append}
 use Rattle.std.specs.Prelude.{slice_get, slice_index}
-use Rattle.std.proofs.lemmas.List.{nil_from_length}
+use Rattle.std.proofs.lemmas.List.{nil_from_length, append_cancel_left}
 use Rattle.std.proofs.lemmas.Option.{slice_get_within}
 use Rattle.ira_event.specs.Limits.{MAX_RECORDS, MAX_NODES}
 use Rattle.ira_event.specs.declared.event.Event.{Event}
@@ -92,10 +92,6 @@ no_limit n b es s (Reset k) small few h past =
     omega (arith, past, (leads_bound n (first_state b) es s h).0, (first_bound b).0)
 
 -- ---- the configuration at a cut
-
-cancel : (xs ys zs : List Load) → xs ++ ys ≡ xs ++ zs → ys ≡ zs
-cancel [] ys zs e = e
-cancel (x ∷ xs) ys zs e = (let rest : xs ++ ys ≡ xs ++ zs = cc in cancel xs ys zs rest)
 
 none_more : (xs ys : List Load) → xs ++ ys ≡ xs → ys ≡ []
 none_more xs ys e = nil_from_length ys (omega (arith, ap length e, length-append xs ys))
@@ -205,7 +201,7 @@ module _ {logs : List Log} {cut : ℕ → ℕ} (r : IsCutOfRuns logs cut) where
       subst (λ (k : ℕ). got (take (cut k) (log_of logs k)) ++ h.c.link p ≡ sent (take (cut p) (log_of logs p)))
       (next_prev (length logs) i li) (h.links p (prev_below (length logs) i li)) in
       let link : h.c.link p ≡ l ∷ rest =
-      cancel (got (take (cut i) (log_of logs i))) (h.c.link p) (l ∷ rest) (links ∙ input) in
+      append_cancel_left (got (take (cut i) (log_of logs i))) (h.c.link p) (l ∷ rest) (links ∙ input) in
       subst (λ (s : NodeState). HasStep (length logs) s (Got l)) (sym is)
       (elim (loads_have_steps (length logs) (λ k. is_initiator (slice_get logs k)) h.run h.c i l rest r.two
       h.reaches li (subst (λ (s : NodeState). s.owed ≡ None) is owes)
@@ -220,7 +216,7 @@ module _ {logs : List Log} {cut : ℕ → ℕ} (r : IsCutOfRuns logs cut) where
 
 -- ---- the laws
 
-runs_to : (logs : List Log) (cut : List ℕ) → AreLogs logs → Matches logs → AreLocalRuns logs → IsConsistentCut logs cut
+pub runs_to : (logs : List Log) (cut : List ℕ) → AreLogs logs → Matches logs → AreLocalRuns logs → IsConsistentCut logs cut
     → IsCutOfRuns logs (slice_index cut)
 runs_to logs cut are matches local consistent =
     record {

@@ -15,9 +15,8 @@ use Rattle.ira_node.specs.declared.phase.Phase.TheVariants.{Choosing, Active, Pa
 use Rattle.ira_node.specs.NodeState.{first_state}
 use Rattle.ira_node.specs.NodeStep.{NodeStep, sends, draws, passes, gives_in, purges, meets, ties, wins, yields}
 use Rattle.ira_node.specs.NodeStep.{restarts, comes_home}
-use Rattle.ira_replay.specs.LocalRun.{LeadsTo}
 use Rattle.ira_replay.proofs.Reached.{same_next}
-use Rattle.ira_order.specs.Cut.{IsConsistentCut}
+use Rattle.ira_replay.proofs.Alike.{leads_prefix}
 use Rattle.ira_order.specs.Matching.{Matches}
 use Rattle.ira_order.specs.Ring.{log_of, next}
 use Rattle.ira_order.specs.Run.{Configuration, RingStep, AreLocalRuns, event_of, is_initiator, opening}
@@ -25,7 +24,7 @@ use Rattle.ira_order.proofs.RunsOfLogs.{event_yes, event_no}
 use Rattle.ira_safety.specs.OneLeader.{IsIn}
 use Rattle.ira_safety.specs.Reaches.{Reaches}
 use Rattle.ira_safety.proofs.Course.{log_reached, first_term, term_kept}
-use Rattle.ira_safety.proofs.Steps.{IsStill}
+use Rattle.ira_safety.proofs.Steps.{IsStill, phase_is, term_is}
 use Rattle.ira_election.specs.Draws.{Drew, OneDrawInARound, TheGreatestGoOn, TheGreatestLeads, NobodyDrawsLate}
 use Rattle.ira_election.specs.Draws.{AllTheGreatestGoOn, AllWhoStartDraw, OnlyWhoStartDraw, RoundsCountFromOne}
 use Rattle.ira_election.specs.Draws.{DrewWithin, IsStillIn, IsTermPast, TheGreatestAreStillIn, still_active, still_leads}
@@ -33,14 +32,15 @@ use Rattle.ira_election.specs.Draws.{still_chooses, drew_next}
 use Rattle.ira_election.proofs.Election.{phase_in, phases_of, messages_of, of_term}
 use Rattle.ira_election.proofs.Drawn.{IsTold, IsSaid, HasBefore, chooses_later, told_said, said_on}
 use Rattle.ira_election.proofs.Turns.{none_of}
-use Rattle.ira_election.proofs.Queues.{phase_is, term_is, phase_before, phase_now}
+use Rattle.ira_election.proofs.Queues.{phase_before, phase_now}
 use Rattle.ira_election.proofs.Keeps.{IsSound, stays_sound}
 use Rattle.ira_election.proofs.Beginning.{all_or_one, initiator_or, begins_on, begins_sound, no_run, first_queue}
-use Rattle.ira_election.proofs.Going.{IsCutOfRuns, st, course, st_first, more_of}
+use Rattle.ira_election.proofs.Going.{IsCutOfRuns, st, course, st_first, more_of, more_yes, more_no}
 use Rattle.ira_election.proofs.AnOrder.{comes_to, whole_logs}
 use Rattle.ira_election.proofs.Onwards.{Goes, IsGoing, IsEnded, going_ended, ended_on, goes_active, goes_leader}
 use Rattle.ira_election.proofs.Onwards.{goes_chooses, goes_on}
-use Rattle.ira_election.proofs.History.{Was, Drawn, Led, Begins, Tells, tells_on, more_yes, more_no, in_now, not_still}
+use Rattle.ira_election.proofs.History.{Was, Drawn, Led, Begins, Tells, tells_on, in_now, not_still}
+use Rattle.ira_election.proofs.Cuts.{runs_to}
 
 -- ---- of one node
 
@@ -99,14 +99,6 @@ from_of n s e t x y (wins term round id m es ee g h k et) is = (let z = sym (pha
 from_of n s e t x y (yields l ee low et) is = (let z = sym (phase_is t _ et) ∙ is in absurd cc)
 from_of n s e t x y (restarts term h es ee below low et) is = (let z = sym (phase_is t _ et) ∙ is in absurd cc)
 from_of n s e t x y (comes_home term es ee low et) is = (let z = sym (phase_is t _ et) ∙ is in absurd cc)
-
-leads_prefix : (n : ℕ) (s : NodeState) (es : List Event) (t : NodeState) (a : ℕ) → LeadsTo n s es t
-    → (u : NodeState) × LeadsTo n s (take a es) u
-leads_prefix n s es t zero h = (s, refl)
-leads_prefix n s [] t (suc a) h = (s, refl)
-leads_prefix n s (e ∷ es) t (suc a) h =
-    let w = leads_prefix n h.0 es t a h.2 in
-    (w.0, (h.0, h.1, w.1))
 
 get_taken : (k : ℕ) (es : List Event) (a : ℕ) (e : Event) → slice_get (take k es) a ≡ Some e → slice_get es a ≡ Some e
 get_taken zero es a e is = cc
@@ -587,21 +579,9 @@ module _ {logs : List Log} {cut : List ℕ} (r : IsCutOfRuns logs (slice_index c
 
 -- ---- the laws
 
--- a consistent cut of such logs
-cut_said : (logs : List Log) (cut : List ℕ) → AreLogs logs → Matches logs → AreLocalRuns logs → IsConsistentCut logs cut
-    → IsCutOfRuns logs (slice_index cut)
-cut_said logs cut are matches local consistent = record {
-  two = are.ring.0;
-  sizes = are.sizes;
-  matches = matches;
-  local = local;
-  fits = consistent.0.within;
-  held = consistent.1;
-}
-
 pub the_greatest_are_still_in : TheGreatestAreStillIn
 the_greatest_are_still_in logs cut are matches local consistent i term round id state drew best is_in =
-    let r = cut_said logs cut are matches local consistent in
+    let r = runs_to logs cut are matches local consistent in
     subst (λ (s : NodeState). IsTermPast logs cut term ⊎ ((s.term ≡ term)
     × IsStillIn logs cut i term round id s.phase)) (sym (state_is r i (slice_index cut i) state is_in))
     (still_in r i term round id drew best)
@@ -649,7 +629,7 @@ the_greatest_leads logs are matches local i events round id state is_in leads =
 
 pub nobody_draws_late : NobodyDrawsLate
 nobody_draws_late logs cut are matches local consistent i j round other a b one in_a in_b chooses =
-    let r = cut_said logs cut are matches local consistent in
+    let r = runs_to logs cut are matches local consistent in
     let a_is = state_is r i (slice_index cut i) a in_a in
     let b_is = state_is r j (slice_index cut j) b in_b in
     let w = late r i j round other one (slice_get_within logs i in_a.log in_a.at)

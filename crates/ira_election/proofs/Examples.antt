@@ -1,13 +1,13 @@
 -- Worked logs of two nodes: what the laws need.
-use Rattle.std.proofs.Common.{◌≡◌, ℕ, zero, suc, ◌<◌, ◌≤◌, true, false, List, [], ◌∷◌, length, refl, subst, arith}
+use Rattle.std.proofs.Common.{◌≡◌, ℕ, zero, suc, ◌<◌, ◌≤◌, true, false, List, [], ◌∷◌, length, refl, arith}
 use Rattle.std.proofs.Common.{lit≤, lit<}
 use Rattle.std.specs.List.{list_all}
 use Rattle.std.specs.Prelude.{Some, slice_get}
 use Rattle.ira_event.specs.declared.event.Event.{Event}
 use Rattle.ira_event.specs.declared.event.Event.TheVariants.{Draw, Sent, Got}
 use Rattle.ira_event.specs.Event.{is_event, is_of_version}
-use Rattle.ira_event.specs.Log.{Log, IsLog}
-use Rattle.ira_event.specs.Logs.{AreLogs, EachLog}
+use Rattle.ira_event.specs.Log.{IsLog}
+use Rattle.ira_event.specs.Logs.{AreLogs}
 use Rattle.ira_node.specs.NodeState.{first_state}
 use Rattle.ira_order.specs.Before.{Before, own, message, onward}
 use Rattle.ira_order.specs.Matching.{Matches}
@@ -15,7 +15,7 @@ use Rattle.ira_order.specs.Order.{IsPair}
 use Rattle.ira_order.specs.Ring.{log_of}
 use Rattle.ira_order.proofs.Acyclic.{before_own}
 use Rattle.ira_safety.specs.TwoNodes.{hopped, log_of_two, both_elected, elected}
-use Rattle.ira_safety.proofs.TwoNodes.{one_may_lead, two_may_lead_unmatched}
+use Rattle.ira_safety.proofs.TwoNodes.{one_may_lead, two_may_lead_unmatched, both}
 use Rattle.ira_election.specs.AnOrder.{exchanged, MatchingIsNotEnough}
 use Rattle.ira_election.specs.Draws.{Drew, BothMayLeadUnmatched}
 use Rattle.ira_election.specs.Ending.{LeadsBeforeTheEnd}
@@ -53,11 +53,6 @@ circle =
     (onward {j = 1} {b = 1} (message refl there)
     (onward {j = 1} {b = 2} (own refl (lit< tt) (lit≤ tt) (lit< tt) (lit≤ tt)) (message refl back)))
 
-each : (a b : Log) (P : ℕ → Log → Type 0) → P 0 a → P 1 b → EachLog (a ∷ b ∷ []) P
-each a b P p q zero log at = (let same : a ≡ log = cc in subst (P 0) same p)
-each a b P p q (suc zero) log at = (let same : b ≡ log = cc in subst (P 1) same q)
-each a b P p q (suc (suc i)) log at = cc
-
 is_log : (place : ℕ) (events : List Event) → place < 2 → length events ≤ 10 → list_all is_event events ≡ true
     → list_all (is_of_version 1) events ≡ true → IsLog (log_of_two 1 place false events)
 is_log place events low few numbers held = record {
@@ -78,12 +73,12 @@ are_logs =
     let second = log_of_two 1 1 false b in
     record {
       ring = (lit≤ tt, lit≤ tt);
-      sizes = each first second (λ i log. log.nodes ≡ 2) refl refl;
-      places = each first second (λ i log. log.place ≡ i) refl refl;
-      valid = each first second (λ i log. IsLog log) (is_log 0 a (lit< tt) (lit≤ tt) refl refl)
+      sizes = both first second (λ i log. log.nodes ≡ 2) refl refl;
+      places = both first second (λ i log. log.place ≡ i) refl refl;
+      valid = both first second (λ i log. IsLog log) (is_log 0 a (lit< tt) (lit≤ tt) refl refl)
           (is_log 1 b (lit< tt) (lit≤ tt) refl refl);
       version = 1;
-      versions = each first second (λ i log. log.version ≡ 1) refl refl;
+      versions = both first second (λ i log. log.version ≡ 1) refl refl;
     }
 
 pub matching_is_not_enough : MatchingIsNotEnough

@@ -38,10 +38,10 @@ use Rattle.ira_election.proofs.Beginning.{all_or_one}
 abbrev pub more_of : (ℕ → ℕ) → ℕ → ℕ → ℕ
 more_of at i j = cond (i == j) (at j + 1) (at j)
 
-more_yes : (at : ℕ → ℕ) (i : ℕ) → more_of at i i ≡ at i + 1
+pub more_yes : (at : ℕ → ℕ) (i : ℕ) → more_of at i i ≡ at i + 1
 more_yes at i = rw (eq-eqb i i refl) refl
 
-more_no : (at : ℕ → ℕ) (i j : ℕ) → j ≢ i → more_of at i j ≡ at j
+pub more_no : (at : ℕ → ℕ) (i j : ℕ) → j ≢ i → more_of at i j ≡ at j
 more_no at i j ne = rw (ne_eqb i j (λ e. ne (sym e))) refl
 
 abbrev pub put_at : ℕ → List Load → (ℕ → List Load) → ℕ → List Load

@@ -1,8 +1,8 @@
 -- What the nodes of logs drew, as far as a run of them has come.
-use Rattle.std.proofs.Common.{◌≡◌, ◌≢◌, ℕ, suc, ◌+◌, ◌<◌, ◌≤◌, ◌⊎◌, inl, inr, List}
-use Rattle.std.proofs.Common.{length, refl, sym, ◌∙◌, subst, ap, arith}
+use Rattle.std.proofs.Common.{◌≡◌, ℕ, suc, ◌+◌, ◌<◌, ◌≤◌, ◌⊎◌, inl, inr, List}
+use Rattle.std.proofs.Common.{length, sym, ◌∙◌, subst, ap, arith}
 use Rattle.std.specs.Prelude.{slice_get}
-use Rattle.std.proofs.lemmas.Bool.{cases_eq, cases_lt, eq-eqb, ne_eqb}
+use Rattle.std.proofs.lemmas.Bool.{cases_eq, cases_lt}
 use Rattle.ira_event.specs.declared.event.Event.{Event}
 use Rattle.ira_event.specs.Log.{Log}
 use Rattle.ira_node.specs.declared.node_state.NodeState.{NodeState}
@@ -17,15 +17,9 @@ use Rattle.ira_election.proofs.Onwards.{IsGoing, IsEnded, turn_going, same_going
 use Rattle.ira_election.proofs.Queues.{phase_before, phase_now}
 use Rattle.ira_election.proofs.Keeps.{IsSound, seen}
 use Rattle.ira_election.proofs.Past.{on_or_past, stays_past}
-use Rattle.ira_election.proofs.Going.{IsCutOfRuns, st, more_of}
+use Rattle.ira_election.proofs.Going.{IsCutOfRuns, st, more_of, more_yes, more_no}
 
 -- ---- of one node
-
-pub more_yes : (at : ℕ → ℕ) (i : ℕ) → more_of at i i ≡ at i + 1
-more_yes at i = rw (eq-eqb i i refl) refl
-
-pub more_no : (at : ℕ → ℕ) (i j : ℕ) → j ≢ i → more_of at i j ≡ at j
-more_no at i j ne = rw (ne_eqb i j (λ e. ne (sym e))) refl
 
 -- a phase in the election of a term that no node is past, other than that in which a node comes to it
 pub now_in : (term : ℕ) (s : NodeState) (p : Phase) → s.term ≤ term → (p ≡ Choosing 1 → ⊥) → phase_in term s ≡ p

@@ -15,8 +15,8 @@ use Rattle.ira_node.specs.NodeStep.{NodeStep, sends, draws, passes, gives_in, pu
 use Rattle.ira_node.specs.NodeStep.{restarts, comes_home}
 use Rattle.ira_order.specs.Ring.{log_of, numbered}
 use Rattle.ira_order.specs.Run.{is_initiator}
+use Rattle.ira_safety.proofs.Steps.{phase_is, term_is}
 use Rattle.ira_election.specs.Draws.{FirstTermInOrder}
-use Rattle.ira_election.proofs.Queues.{phase_is, term_is}
 use Rattle.ira_election.proofs.Going.{IsCutOfRuns, st, course, st_first}
 use Rattle.ira_election.proofs.Draws.{positive, first_is, state_is, whole_said}
 

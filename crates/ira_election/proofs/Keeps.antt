@@ -15,7 +15,7 @@ use Rattle.ira_node.specs.NodeStep.{NodeStep, sends, draws, passes, gives_in, pu
 use Rattle.ira_node.specs.NodeStep.{restarts, comes_home}
 use Rattle.ira_order.specs.Ring.{prev, next}
 use Rattle.ira_order.specs.Run.{Configuration, RingStep}
-use Rattle.ira_safety.proofs.Steps.{Settled, stays_settled, resets, yielding}
+use Rattle.ira_safety.proofs.Steps.{Settled, stays_settled, resets, yielding, phase_is, term_is}
 use Rattle.ira_election.proofs.Election.{debt, queue, of_term, messages_of, phase_in, phases_of, AreTermsEven}
 use Rattle.ira_election.proofs.Election.{IsWithin, IsOn}
 use Rattle.ira_election.proofs.Turns.{Turn, turn_draw, turn_pass, turn_give, turn_meet, turn_purge, turn_tie}
@@ -24,7 +24,7 @@ use Rattle.ira_election.proofs.Turns.{Moves, HasTurn, IsUnseen}
 use Rattle.ira_election.proofs.Alive.{changes, unseen, kept, lower}
 use Rattle.ira_election.proofs.Orderly.{turn_keeps, same_orderly}
 use Rattle.ira_election.proofs.Guards.{guard_keeps, same_guarded}
-use Rattle.ira_election.proofs.Queues.{owed_is, phase_is, term_is, phase_before, phase_now, moves, step_terms, of_one}
+use Rattle.ira_election.proofs.Queues.{owed_is, phase_before, phase_now, moves, step_terms, of_one}
 use Rattle.ira_election.proofs.Queues.{of_none}
 use Rattle.ira_election.proofs.Queues.{moved, stay_even, not_message, not_reset}
 

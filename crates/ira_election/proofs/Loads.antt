@@ -18,11 +18,11 @@ use Rattle.ira_order.specs.Ring.{next, prev}
 use Rattle.ira_order.specs.Run.{Configuration}
 use Rattle.ira_order.proofs.Runs.{next_prev, prev_below}
 use Rattle.ira_safety.specs.Reaches.{beginning}
-use Rattle.ira_safety.proofs.Steps.{resets, yielding}
+use Rattle.ira_safety.proofs.Steps.{resets, yielding, phase_is}
 use Rattle.ira_election.specs.GoingOn.{IsPastLimits, LoadsHaveSteps}
 use Rattle.ira_election.proofs.Election.{debt, queue, of_term, messages_of, IsAt, IsUnderWay, IsResetOn, IsOnOrPast}
 use Rattle.ira_election.proofs.Turns.{at_home, home_at, one_hop, has_split}
-use Rattle.ira_election.proofs.Queues.{of_head, phase_is}
+use Rattle.ira_election.proofs.Queues.{of_head}
 use Rattle.ira_election.proofs.Keeps.{IsSound}
 use Rattle.ira_election.proofs.Past.{sends_within, run_sound}
 use Rattle.ira_election.proofs.Beginning.{initiator_or, begins_sound, none_or_on}

@@ -17,20 +17,14 @@ use Rattle.ira_node.specs.NodeStep.{NodeStep, sends, draws, passes, gives_in, pu
 use Rattle.ira_node.specs.NodeStep.{restarts, comes_home}
 use Rattle.ira_order.specs.Ring.{prev, next}
 use Rattle.ira_order.specs.Run.{Configuration, RingStep, LinkStep}
-use Rattle.ira_order.proofs.Ranks.{next_below}
+use Rattle.ira_order.proofs.Ranks.{next_below, next_other}
 use Rattle.ira_order.proofs.Runs.{next_prev, prev_next, prev_below}
-use Rattle.ira_safety.proofs.Steps.{Settled, resets, yielding}
+use Rattle.ira_safety.proofs.Steps.{Settled, resets, yielding, phase_is, term_is}
 use Rattle.ira_election.proofs.Election.{debt, queue, of_term, messages_of, phase_in, IsResetOn, AreTermsEven}
-use Rattle.ira_election.proofs.Turns.{Moves, prev_other, next_other}
+use Rattle.ira_election.proofs.Turns.{Moves, prev_other}
 
 pub owed_is : (s t : NodeState) → s ≡ t → s.owed ≡ t.owed
 owed_is s t e = ap (λ (x : NodeState). x.owed) e
-
-pub phase_is : (s t : NodeState) → s ≡ t → s.phase ≡ t.phase
-phase_is s t e = ap (λ (x : NodeState). x.phase) e
-
-pub term_is : (s t : NodeState) → s ≡ t → s.term ≡ t.term
-term_is s t e = ap (λ (x : NodeState). x.term) e
 
 -- ---- what is owed or received
 

@@ -10,8 +10,10 @@ use Rattle.ira_node.specs.declared.phase.Phase.TheVariants.{Choosing, Active, Pa
 use Rattle.ira_node.specs.NodeState.{Receives}
 use Rattle.ira_order.specs.Ring.{next}
 use Rattle.ira_order.specs.Run.{Configuration}
+use Rattle.ira_order.proofs.Runs.{next_up}
 use Rattle.ira_safety.specs.Reaches.{beginning}
 use Rattle.ira_safety.proofs.Steps.{resets, yielding}
+use Rattle.ira_safety.proofs.Terms.{next_home}
 use Rattle.ira_election.specs.StandingStill.{NoRunStandsStill, StillWithoutInitiators}
 use Rattle.ira_election.proofs.Election.{debt, queue, of_term, messages_of, Has, phase_in, phases_of, IsAtMost, HasRank}
 use Rattle.ira_election.proofs.Election.{AreTermsEven, IsOn}
@@ -19,7 +21,7 @@ use Rattle.ira_election.proofs.Ranks.{highest}
 use Rattle.ira_election.proofs.Turns.{none_of}
 use Rattle.ira_election.proofs.Queues.{phase_now}
 use Rattle.ira_election.proofs.Past.{run_sound, run_on}
-use Rattle.ira_election.proofs.Beginning.{next_up, next_home, begins_sound, begins_on}
+use Rattle.ira_election.proofs.Beginning.{begins_sound, begins_on}
 
 -- a node with a rank that waits is active
 waits_active : (p : Phase) (x y : ℕ) → Receives p → HasRank p x y → p ≡ Active x y

@@ -8,8 +8,8 @@ use Rattle.ira_event.specs.declared.msg.Msg.{Msg}
 use Rattle.ira_node.specs.declared.phase.Phase.{Phase}
 use Rattle.ira_node.specs.declared.phase.Phase.TheVariants.{Choosing, Active, Passive, Leader}
 use Rattle.ira_node.specs.Msg.{IsGreater, IsLess, IsEqual}
-use Rattle.ira_order.specs.Ring.{prev, next}
-use Rattle.ira_order.proofs.Runs.{prev_below, prev_next}
+use Rattle.ira_order.specs.Ring.{prev}
+use Rattle.ira_order.proofs.Runs.{prev_below}
 use Rattle.ira_election.proofs.Election.{IsAt, Has}
 
 -- ---- places
@@ -17,9 +17,6 @@ use Rattle.ira_election.proofs.Election.{IsAt, Has}
 pub prev_other : (n i : ℕ) → 2 ≤ n → i < n → prev n i ≢ i
 prev_other n zero two li = λ e. omega arith
 prev_other n (suc i) two li = λ e. omega arith
-
-pub next_other : (n i : ℕ) → 2 ≤ n → i < n → next n i ≢ i
-next_other n i two li e = prev_other n i two li (sym (prev_next n i i li li e))
 
 -- with hop n a message on its way to node i is node i's
 pub at_home : (n a i : ℕ) → a < n → i < n → IsAt n a (prev n i) n → a ≡ i

@@ -6,10 +6,10 @@ use Rattle.std.proofs.lemmas.Bool.Decides.{nat_tests}
 use Rattle.ira_event.specs.Log.{Log}
 use Rattle.ira_order.specs.Ring.{log_of, prev}
 use Rattle.ira_order.specs.Order.{IsOrder}
-use Rattle.ira_order.specs.Before.{Before, own, message, onward}
+use Rattle.ira_order.specs.Before.{Before, message, onward}
 use Rattle.ira_order.specs.DirectDependencies.{distance}
 use Rattle.ira_order.specs.VectorClock.{IsCount}
-use Rattle.ira_order.proofs.Acyclic.{before_within, came_with}
+use Rattle.ira_order.proofs.Acyclic.{before_within, came_with, known_on}
 use Rattle.ira_order.proofs.Bridge.{before_places}
 use Rattle.ira_order.proofs.Runs.{prev_next}
 use Rattle.ira_order.proofs.WayBack.{distance_back, distance_next, distance_some}
@@ -21,15 +21,6 @@ distance_tells n i k j li lk e = grind (arith, nat_tests)
 -- a place is as far from itself as the ring has links, and no other is as far
 pub farthest_tells : (n i j : ℕ) → i < n → j < n → distance n j j ≤ distance n i j → i ≡ j
 farthest_tells n i j li lj le = grind (arith, nat_tests)
-
--- what a node knows at an event it knows at a later one
-pub known_on : (logs : List Log) (i a j q r : ℕ) → Before logs i a j q → q ≤ r → r ≤ length (log_of logs j)
-    → Before logs i a j r
-known_on logs i a j q r before le within = elim (cases_eq q r) [
-  | inl same ↦ subst (λ (k : ℕ). Before logs i a j k) same before
-  | inr other ↦ onward before (own refl (before_places logs i a j q before).1 (before_within logs i a j q before).2
-      (omega (arith, le, other)) within)
-]
 
 -- event a of node i is known to node w at one of its events, which happened before event b of node j
 pub record PassesBy (logs : List Log) (i a w j b : ℕ) : Type 0 where

@@ -4,8 +4,8 @@ use Rattle.ira_event.specs.Log.{Log}
 use Rattle.ira_order.specs.Before.{Before}
 use Rattle.ira_order.specs.Ring.{log_of}
 use Rattle.ira_order.specs.VectorClock.{IsCount}
+use Rattle.ira_order.proofs.Acyclic.{known_on}
 use Rattle.ira_elim.specs.CandidateClock.{CandidateClock, IsCandidateClock, IsCounted}
-use Rattle.ira_elim.proofs.Between.{known_on}
 use Rattle.ira_elim.proofs.Present.{before_counts, counts_before}
 
 module _ (logs : List Log) (j q : ℕ) (s : CandidateClock) (is : IsCandidateClock logs j q s) where

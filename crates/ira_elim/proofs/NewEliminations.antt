@@ -8,9 +8,8 @@ use Rattle.std.proofs.lemmas.List.{drop-drop}
 use Rattle.std.proofs.lemmas.Option.{same_Some, get_or_from_slice_get, slice_get_within}
 use Rattle.ira_event.specs.Log.{Log}
 use Rattle.ira_pred.specs.Case.{Conjunct}
-use Rattle.ira_order.specs.Before.{Before, own, onward}
-use Rattle.ira_order.proofs.Acyclic.{before_within}
-use Rattle.ira_order.proofs.Bridge.{before_places}
+use Rattle.ira_order.specs.Before.{Before}
+use Rattle.ira_order.proofs.Acyclic.{before_earlier}
 use Rattle.ira_cert_text.specs.declared.cert_step.CertStep.{CertStep}
 use Rattle.ira_cert.specs.Front.{made}
 use Rattle.ira_cert.specs.QueuesAfter.{AreQueuesAfter}
@@ -19,14 +18,6 @@ use Rattle.ira_cert.proofs.NoCut.{rising_le}
 use Rattle.ira_cert.specs.Queues.{HasList}
 use Rattle.ira_elim.specs.Elimination.{HasEliminations, IsElimination, IsFirstLeft}
 use Rattle.ira_elim.specs.PairSet.{Has}
-
--- an earlier event of the node happened before it too
-pub before_earlier : (logs : List Log) (i a b j c : ℕ) → 1 ≤ a → a ≤ b → Before logs i b j c → Before logs i a j c
-before_earlier logs i a b j c first le before = elim (cases_eq a b) [
-  | inl same ↦ subst (λ (k : ℕ). Before logs i k j c) (sym same) before
-  | inr other ↦ onward (own refl (before_places logs i b j c before).0 first (omega (arith, le, other))
-      (before_within logs i b j c before).1) before
-]
 
 module _ (logs : List Log) (case : List Conjunct) (before : List CertStep) (queues left : List (Option (List ℕ)))
     (queues_after : AreQueuesAfter logs case before queues) (s : CertStep) (is : IsElimination logs queues s)

@@ -13,15 +13,16 @@ use Rattle.ira_cert.proofs.QueueHeads.{one_fewer, slice_get-set_same, slice_get-
 use Rattle.ira_cert.specs.Queues.{HasList}
 use Rattle.ira_order.specs.Before.{Before}
 use Rattle.ira_order.specs.Ring.{log_of}
+use Rattle.ira_order.proofs.Pushed.{pushed_last}
+use Rattle.ira_order.proofs.Acyclic.{before_earlier}
 use Rattle.ira_elim.specs.Elimination.{AreCounted, ArePlaces, AreStands, AreWithin, HasEliminations, IsElimination}
 use Rattle.ira_elim.specs.Elimination.{IsFirstLeft}
 use Rattle.ira_elim.specs.PairSet.{Has}
 use Rattle.ira_elim.specs.CandidateClock.{CandidateClock, AreInLogs, AreStanding, HasRuledOut, HasRuledOutBy}
 use Rattle.ira_elim.specs.CandidateClock.{IsCandidateClock, IsCounted, IsNearest, KnowsNext, RulesOut}
 use Rattle.ira_elim.proofs.Clocks.{all_counted}
-use Rattle.ira_elim.proofs.NewEliminations.{before_earlier, other_first}
+use Rattle.ira_elim.proofs.NewEliminations.{other_first}
 use Rattle.ira_elim.proofs.Places.{one_first}
-use Rattle.ira_elim.proofs.Steps.{last_at}
 
 pub found_at : (xs : List CandidateClock) (k i : ℕ) (s : CandidateClock) → k ≡ i → k < length xs
     → s ≡ slice_index_or xs k s
@@ -240,7 +241,7 @@ one_stand_more logs queues stands more t n pushed count are here =
     × IsCandidateClock logs j q s × IsCounted s in
     let last : slice_get more n ≡ Some t =
     ap (λ (xs : List CandidateClock). slice_get xs n) pushed
-    ∙ subst (λ (k : ℕ). slice_get (stands ++ t ∷ []) k ≡ Some t) count (last_at stands t) in
+    ∙ subst (λ (k : ℕ). slice_get (stands ++ t ∷ []) k ≡ Some t) count (pushed_last stands t) in
     let below : (j : ℕ) → j < n → Q j = λ j l q first.
     let st = are j l q first in (
       st.0,

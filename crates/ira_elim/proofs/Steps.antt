@@ -8,6 +8,7 @@ use Rattle.std.proofs.lemmas.List.Sums.{sum_by-set}
 use Rattle.std.proofs.lemmas.Option.{get_or_from_slice_get, slice_get_within}
 use Rattle.ira_event.specs.Log.{Log}
 use Rattle.ira_pred.specs.Case.{Conjunct}
+use Rattle.ira_order.proofs.Pushed.{pushed_last}
 use Rattle.ira_cert_text.specs.declared.cert_step.CertStep.{CertStep}
 use Rattle.ira_cert.specs.Conjuncts.{HasDifferentPlaces}
 use Rattle.ira_cert.specs.Queues.{AreQueues}
@@ -29,10 +30,6 @@ is_sound logs case before queues s queues_after is = record {
   happened_before = is.happened_before;
 }
 
-pub last_at : {X : Type 0} → (xs : List X) (x : X) → slice_get (xs ++ x ∷ []) (length xs) ≡ Some x
-last_at [] x = refl
-last_at (y ∷ xs) x = last_at xs x
-
 -- the steps made are sound, and the lists are those left after them
 pub record AreMade (logs : List Log) (case : List Conjunct) (steps : List CertStep) (queues : List (Option (List ℕ)))
     : Type 0 where
@@ -53,7 +50,7 @@ pub made_more : (logs : List Log) (case : List Conjunct) (steps more : List Cert
 made_more logs case steps more queues left s differ made is pushed e =
     let k : ℕ = length steps in
     let xs : List CertStep = steps ++ s ∷ [] in
-    let at : slice_get xs k ≡ Some s = last_at steps s in
+    let at : slice_get xs k ≡ Some s = pushed_last steps s in
     let begin : take k xs ≡ steps = take-append_seam steps (s ∷ []) in
     let whole : take (k + 1) xs ≡ xs = take_all (k + 1) xs (omega (arith, length-append steps (s ∷ []))) in
     let sound : IsSoundStep logs case (take k xs) s =

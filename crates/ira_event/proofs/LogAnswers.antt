@@ -19,14 +19,14 @@ use Rattle.ira_event.proofs.LogTexts.{records_faults_same, records_fault_not_all
 use Rattle.ira_event.proofs.Spelled.{log_text_short, log_text_spelled, log_text_is}
 
 -- a text begins with one head
-heads_same : (text : List ℕ) (a b : LogHead) (r s : List ℕ) → BeginsWithHead text a r → BeginsWithHead text b s
+pub heads_same : (text : List ℕ) (a b : LogHead) (r s : List ℕ) → BeginsWithHead text a r → BeginsWithHead text b s
     → (a ≡ b) × (r ≡ s)
 heads_same text a b r s h k =
     let e = same_Some _ _ (sym (begins-again text a r h) ∙ begins-again text b s k) in
     (ap (λ (x : HeadLines × List ℕ). head_says x.0) e, ap (λ (x : HeadLines × List ℕ). x.1) e)
 
 -- the text of a log is a head and all its records
-head_begins : (text : List ℕ) (log : Log) (h : IsLogText text log)
+pub head_begins : (text : List ℕ) (log : Log) (h : IsLogText text log)
     → BeginsWithHead text (head_of log) (h.records ++ (h.end ++ codes "\n"))
 head_begins text log h = record {
   lines = h.head;

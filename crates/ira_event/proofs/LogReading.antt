@@ -111,7 +111,7 @@ begins_nothing v text = record {
   parts = refl;
 }
 
-all_pushed : (p : Event → Bool) (es : List Event) (e : Event) → list_all p es ≡ true → p e ≡ true
+pub all_pushed : (p : Event → Bool) (es : List Event) (e : Event) → list_all p es ≡ true → p e ≡ true
     → list_all p (es ++ e ∷ []) ≡ true
 all_pushed p es e h k = list_all-append p es (e ∷ []) ∙ rw (h, k) refl
 
@@ -247,7 +247,7 @@ record_shorter old new e r =
 
 -- ---- where no line was read
 
-position-cases : (b : Bool) (i : ℕ) → cond b (Some i) None ≡ None → b ≡ false
+pub position-cases : (b : Bool) (i : ℕ) → cond b (Some i) None ≡ None → b ≡ false
 position-cases true i e = absurd cc
 position-cases false i e = refl
 

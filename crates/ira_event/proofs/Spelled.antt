@@ -60,7 +60,7 @@ numeral_cases n small (inr pos) =
     numeral_of (decimal n) n pos (decimal_nonempty n small) (first_decimal n pos small) (digits_decimal own n small)
     (digits_value-decimal own n small)
 
-zero_or_more : (n : ℕ) → (n ≡ 0) ⊎ (0 < n)
+pub zero_or_more : (n : ℕ) → (n ≡ 0) ⊎ (0 < n)
 zero_or_more n = grind arith
 
 pub decimal_is_numeral : (n : ℕ) → n < 2 ^ 64 → IsNumeral (decimal n) n

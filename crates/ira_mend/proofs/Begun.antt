@@ -1,6 +1,6 @@
 -- Logs of which a beginning was kept.
 use Rattle.std.proofs.Common.{◌≡◌, ℕ, zero, suc, ◌+◌, ◌<◌, ◌≤◌, inl, inr, List, [], ◌∷◌, ◌++◌, length, refl, sym, ◌∙◌}
-use Rattle.std.proofs.Common.{ap, arith, subst, take, drop, true, false, ◌&&◌, Bool, Option, Some, None, get_or}
+use Rattle.std.proofs.Common.{ap, arith, subst, take, drop, true, false, Bool, Option, Some, None, get_or}
 use Rattle.std.specs.Prelude.{slice_index, slice_get}
 use Rattle.std.specs.List.{list_all}
 use Rattle.std.proofs.lemmas.Bool.{cases_eq}
@@ -11,6 +11,7 @@ use Rattle.ira_event.specs.Event.{is_event, is_of_version}
 use Rattle.ira_event.specs.declared.event.Event.{Event}
 use Rattle.ira_event.specs.Log.{Log, IsLog}
 use Rattle.ira_event.specs.Logs.{AreLogs}
+use Rattle.ira_event.proofs.Numerals.{and_parts}
 use Rattle.ira_order.specs.declared.match_fault.MatchFault.{MatchFault}
 use Rattle.ira_order.specs.declared.match_fault.MatchFault.TheVariants.{NoSending, Differs}
 use Rattle.ira_order.specs.MatchFault.{HasNoSending, IsMatchFault}
@@ -23,14 +24,10 @@ use Rattle.ira_mend.specs.Beginning.{AreBegun, IsGreatestBeginning, begun}
 use Rattle.ira_mend.specs.Laws.{AreLeft, IsLeft}
 use Rattle.ira_mend.specs.Mended.{HasDifference}
 
-left_true : (a b : Bool) → (a && b) ≡ true → a ≡ true
-left_true true b e = refl
-left_true false b e = e
-
 all_of_first : (p : Event → Bool) (xs : List Event) (n : ℕ) → list_all p xs ≡ true → list_all p (take n xs) ≡ true
 all_of_first p xs n all =
-    left_true (list_all p (take n xs)) (list_all p (drop n xs)) (sym (list_all-append p (take n xs) (drop n xs))
-    ∙ ap (list_all p) (take-append-drop n xs) ∙ all)
+    (and_parts (list_all p (take n xs)) (list_all p (drop n xs)) (sym (list_all-append p (take n xs) (drop n xs))
+    ∙ ap (list_all p) (take-append-drop n xs) ∙ all)).0
 
 -- a beginning of a log is one
 pub begun_is_log : (log : Log) (n : ℕ) → IsLog log → IsLog (begun log n)

@@ -17,6 +17,7 @@ use Rattle.ira_event.proofs.Pieces.{or_parts}
 use Rattle.ira_event.proofs.RecordLines.{end_is_one_line, record_is_one_line}
 use Rattle.ira_audit.specs.RingAnswer.{yes}
 use Rattle.ira_event.proofs.Spelled.{log_text_is, log_text_short, log_text_spelled}
+use Rattle.ira_event.proofs.LogAnswers.{head_begins, heads_same}
 use Rattle.ira_mend.specs.Beginning.{begun}
 use Rattle.ira_mend.specs.Laws.{AreLeft, CutTextsAreOfLogs, CutTextsDontDiffer, CutTextsGetYes, HasWholeHead, IsBegunText}
 use Rattle.ira_mend.specs.Laws.{IsLeft}
@@ -24,7 +25,7 @@ use Rattle.ira_mend.specs.RecordedLogs.{AreLeftTexts, IsCutHead, IsLeftText, IsR
 use Rattle.ira_mend.specs.RecordedLogs.{RecordsLog, empty_log}
 use Rattle.ira_mend.proofs.Begun.{begun_is_log, left_are_logs}
 use Rattle.ira_mend.proofs.MendedRuns.{dont_differ, runs_mended}
-use Rattle.ira_mend.proofs.OneReason.{begins, heads_same, left_texts_are_one, whole_head}
+use Rattle.ira_mend.proofs.OneReason.{begins, left_texts_are_one}
 
 -- ---- beginnings of texts
 
@@ -129,7 +130,7 @@ begun_text log text rest valid e =
     is = log_text_is log valid
 
     head : BeginsWithHead (log_text log) (head_of log) (is.records ++ (is.end ++ codes "\n"))
-    head = whole_head (log_text log) log is
+    head = head_begins (log_text log) log is
 
     no_head : (more : List ℕ) → more ≢ [] → text ++ more ≡ head.lines → BeginsWithNoHead text
     no_head more some parts h r other =

@@ -12,10 +12,8 @@ use Rattle.ira_order.specs.Cut.{IsCut, IsJoin, IsMeet}
 use Rattle.ira_order.specs.Matching.{receipt, sending}
 use Rattle.ira_order.specs.Ring.{events_of, log_of, next}
 use Rattle.ira_order.proofs.Ranks.{next_below, rank_mono}
+use Rattle.ira_order.proofs.CutLattice.{either}
 use Rattle.ira_mend.specs.Beginning.{IsConsistentBeginning, IsGreatestBeginning, receipts_in, sendings_in}
-
-either : (a b : ℕ) → (a ≤ b) ⊎ (b ≤ a)
-either a b = grind arith
 
 -- more events are no fewer sendings, and no fewer receipts
 more_sendings : (logs : List Log) (i m n : ℕ) → m ≤ n → sendings_in logs i m ≤ sendings_in logs i n

@@ -1,15 +1,13 @@
 -- Mended logs of a run that was cut off are those of a run.
-use Rattle.std.proofs.Common.{◌≡◌, ℕ, zero, suc, ◌<◌, ◌≤◌, ◌↔◌, inl, inr, get_or, List, [], ◌∷◌, ◌++◌, length, refl}
+use Rattle.std.proofs.Common.{◌≡◌, ℕ, zero, suc, ◌<◌, ◌≤◌, ◌↔◌, inl, inr, get_or, List, [], ◌∷◌, length, refl}
 use Rattle.std.proofs.Common.{sym, ◌∙◌, ap, arith, drop, take, Option, Some}
 use Rattle.std.specs.Prelude.{slice_get, slice_index}
-use Rattle.std.specs.List.{filter_map}
 use Rattle.std.proofs.lemmas.Bool.{cases_lt}
 use Rattle.std.proofs.lemmas.List.{length-take, take-append-drop, take-take, take_all, same_lists}
-use Rattle.std.proofs.lemmas.List.Elements.{All-take, filter_map-append}
+use Rattle.std.proofs.lemmas.List.Elements.{All-take}
 use Rattle.std.proofs.lemmas.Option.{get_or_from_slice_get, slice_get-get_or, slice_get_within}
 use Rattle.ira_event.specs.declared.event.Event.{Event}
 use Rattle.ira_event.specs.declared.event.Event.TheVariants.{Got, Sent}
-use Rattle.ira_event.specs.declared.load.Load.{Load}
 use Rattle.ira_event.specs.Log.{Log}
 use Rattle.ira_event.specs.Logs.{AreLogs}
 use Rattle.ira_node.specs.NodeState.{first_state}
@@ -27,23 +25,15 @@ use Rattle.ira_order.specs.Run.{AreLocalRuns}
 use Rattle.ira_order.proofs.Bridge.{before_places, consistent_covers, covers_consistent}
 use Rattle.ira_order.proofs.Cuts.{cut_moment}
 use Rattle.ira_order.proofs.Faults.{unmatched}
-use Rattle.ira_order.proofs.Pairing.{numbered-append, numbered-within}
+use Rattle.ira_order.proofs.Pairing.{numbered-within}
 use Rattle.ira_order.proofs.Ranks.{next_below}
+use Rattle.ira_order.proofs.Runs.{load_before}
 use Rattle.ira_mend.specs.Beginning.{begun}
 use Rattle.ira_mend.specs.Laws.{AreLeft, HasItsPast, IsLeft}
 use Rattle.ira_mend.specs.Mended.{HasDifference, IsGreatestOf}
 use Rattle.ira_mend.proofs.Begun.{begun_events, left_again, left_are_logs, left_events, left_of}
 use Rattle.ira_mend.proofs.Pasts.{beginning_covers, covers_beginning, kept_has_past, left_count, no_events}
 use Rattle.ira_mend.proofs.Pasts.{past_is_kept}
-
--- what was sent or received at first is what was at all, as far as it goes
-numbered_first : (h : Event → Option Load) (es : List Event) (n k : ℕ) → k ≤ length (filter_map h (take n es))
-    → numbered (filter_map h es) k ≡ numbered (filter_map h (take n es)) k
-numbered_first h es n k le =
-    let parts : filter_map h es ≡ filter_map h (take n es) ++ filter_map h (drop n es) =
-    ap (filter_map h) (sym (take-append-drop n es)) ∙ filter_map-append h (take n es) (drop n es) in
-    ap (λ (ms : List Load). numbered ms k) parts
-    ∙ numbered-append (filter_map h (take n es)) (filter_map h (drop n es)) k le
 
 -- an event, or a place, of the first ones is one of all
 first_slice : {X : Type 0} (n : ℕ) (xs : List X) (k : ℕ) (x : X) → slice_get (take n xs) k ≡ Some x
@@ -99,8 +89,8 @@ module _ (whole mended : List Log) (at : List ℕ) (are : AreLeft whole at mende
     link_matches k m is =
         let here : numbered (got (take (slice_index at j) (log_of whole j))) k ≡ Some m = rw (← reader_events) is in
         let few = numbered-within (got (take (slice_index at j) (log_of whole j))) k m here in
-        let received = numbered_first receipt (log_of whole j) (slice_index at j) k few ∙ here in
-        let first = numbered_first sending (log_of whole i) (slice_index at i) k (omega (arith, few, covers i l)) in
+        let received = load_before receipt (log_of whole j) (slice_index at j) k few ∙ here in
+        let first = load_before sending (log_of whole i) (slice_index at i) k (omega (arith, few, covers i l)) in
         rw (events i l) (sym first ∙ matches i l k m received)
 
   -- a pair of theirs is one of the whole logs

@@ -3,7 +3,7 @@ use Rattle.std.proofs.Common.{◌≡◌, ◌<◌, ◌⊎◌, ◌+◌, ℕ, List,
 use Rattle.std.proofs.Common.{refl, sym, ap, ap₂, subst, ◌∙◌, arith, take, append_assoc, length}
 use Rattle.std.specs.Prelude.{codes, slice_get}
 use Rattle.std.proofs.lemmas.Bool.{cases_lt}
-use Rattle.std.proofs.lemmas.Option.{same_Some, slice_get_within, unwrap_or-slice_get}
+use Rattle.std.proofs.lemmas.Option.{slice_get_within, unwrap_or-slice_get}
 use Rattle.std.specs.List.{All}
 use Rattle.std.specs.Option.{unwrap_or}
 use Rattle.ira_event.specs.Limits.{MAX_RECORDS}
@@ -12,14 +12,13 @@ use Rattle.ira_event.specs.declared.log_fault.LogFault.{LogFault}
 use Rattle.ira_event.specs.declared.log_fault.LogFault.TheVariants as fault
 use Rattle.ira_event.specs.declared.log_head.LogHead.{LogHead}
 use Rattle.ira_event.specs.Log.{Log}
-use Rattle.ira_event.specs.LogText.{AreRecords, IsLogText, IsRecord, head_of}
+use Rattle.ira_event.specs.LogText.{AreRecords, IsRecord, head_of}
 use Rattle.ira_event.specs.LogTextFault.{BeginsWithHead, HasNoLineFeed, LineFault, LogTextFault, RestFault, no_line}
 use Rattle.ira_event.specs.LogTextFault.{other_count, out_of_range, too_many, trailing}
 use Rattle.ira_event.specs.NextLine as next
 use Rattle.ira_event.specs.Logs.{AreLogs, HeadFaultOf}
 use Rattle.ira_event.proofs.Gathering.{no-fault, one-fault}
-use Rattle.ira_event.proofs.Heads.{begins-again, head_says}
-use Rattle.ira_event.proofs.LogAnswers.{log_or_fault, one_fault, one_log}
+use Rattle.ira_event.proofs.LogAnswers.{log_or_fault, one_fault, one_log, head_begins, heads_same}
 use Rattle.ira_event.proofs.Pieces.{line_has_feed, line_same}
 use Rattle.ira_event.proofs.RecordLines.{record_is_one_line, record_same}
 use Rattle.ira_audit.specs.declared.reason.Reason.{Reason}
@@ -32,30 +31,10 @@ use Rattle.ira_mend.proofs.RecordedTexts.{cut_fault, goes_on}
 
 -- ---- one text
 
-pub whole_head : (text : List ℕ) (log : Log) (is : IsLogText text log)
-    → BeginsWithHead text (head_of log) (is.records ++ (is.end ++ codes "\n"))
-whole_head text log is = record {
-  lines = is.head;
-  lines_are = is.head_is;
-  version = is.valid.version;
-  size = is.valid.size;
-  fits = is.valid.fits;
-  in_ring = is.valid.place;
-  parts = is.parts ∙ ap (λ t. t ++ codes "\n") (append_assoc is.head is.records is.end)
-      ∙ append_assoc is.head (is.records ++ is.end) (codes "\n")
-      ∙ ap (λ t. is.head ++ t) (append_assoc is.records is.end (codes "\n"));
-}
-
 pub begins : (text : List ℕ) (log : Log) → IsRecordedText text log → (rest : List ℕ)
     × BeginsWithHead text (head_of log) rest
 begins text log (inr is) = (is.lines, is.head)
-begins text log (inl is) = (is.records ++ (is.end ++ codes "\n"), whole_head text log is)
-
-pub heads_same : (text : List ℕ) (h g : LogHead) (r q : List ℕ) → BeginsWithHead text h r → BeginsWithHead text g q
-    → (h ≡ g) × (r ≡ q)
-heads_same text h g r q a b =
-    let p = same_Some _ _ (sym (begins-again text h r a) ∙ begins-again text g q b) in
-    (ap (λ x. head_says x.0) p, ap (λ x. x.1) p)
+begins text log (inl is) = (is.records ++ (is.end ++ codes "\n"), head_begins text log is)
 
 front : (a b c d x : List ℕ) → a ≡ b ++ codes "\n" ++ c → a ++ x ≡ d → b ++ codes "\n" ++ (c ++ x) ≡ d
 front a b c d x p q = sym (append_assoc (b ++ codes "\n") c x) ∙ ap (λ w. w ++ x) (sym p) ∙ q

@@ -1,19 +1,19 @@
 -- What mending keeps of logs that were cut off: the events of which the whole past is left.
 use Rattle.std.proofs.Common.{◌≡◌, ℕ, zero, suc, ◌+◌, ◌<◌, ◌≤◌, inl, inr, List, [], ◌∷◌, length, refl, ◌∙◌, ap, arith}
-use Rattle.std.proofs.Common.{subst, take}
+use Rattle.std.proofs.Common.{take}
 use Rattle.std.specs.Prelude.{slice_index}
-use Rattle.std.proofs.lemmas.Bool.{cases_eq, cases_lt}
+use Rattle.std.proofs.lemmas.Bool.{cases_lt}
 use Rattle.std.proofs.lemmas.List.{length-take, take-take}
 use Rattle.ira_event.specs.declared.event.Event.{Event}
 use Rattle.ira_event.specs.declared.event.Event.TheVariants.{Draw}
 use Rattle.ira_event.specs.Log.{Log}
-use Rattle.ira_order.specs.Before.{Before, message, onward, own}
+use Rattle.ira_order.specs.Before.{Before, message, onward}
 use Rattle.ira_order.specs.Counts.{Covers}
 use Rattle.ira_order.specs.Cut.{IsCut}
 use Rattle.ira_order.specs.Order.{IsPair}
 use Rattle.ira_order.specs.Matching.{Matches, got, receipt, sending, sent}
 use Rattle.ira_order.specs.Ring.{log_of, next}
-use Rattle.ira_order.proofs.Acyclic.{before_within}
+use Rattle.ira_order.proofs.Acyclic.{known_on}
 use Rattle.ira_order.proofs.Bridge.{before_places, covers_consistent, pair_of}
 use Rattle.ira_order.proofs.Places.{Ranked, ranked}
 use Rattle.ira_order.proofs.Ranks.{next_below, rank_mono}
@@ -26,16 +26,6 @@ pub no_events : (logs : List Log) (i : ℕ) → length logs ≤ i → log_of log
 no_events [] i l = refl
 no_events (log ∷ logs) zero l = absurd (omega arith)
 no_events (log ∷ logs) (suc i) l = no_events logs i (omega arith)
-
--- what happened before an event happened before the later ones of its node
-before_later : (logs : List Log) (i a j b c : ℕ) → Before logs i a j b → b ≤ c → c ≤ length (log_of logs j)
-    → Before logs i a j c
-before_later logs i a j b c before le within = elim (cases_eq b c) [
-  | inl same ↦ subst (λ x. Before logs i a j x) same before
-  | inr other ↦
-      let there = before_within logs i a j b before in
-      onward before (own refl (before_places logs i a j b before).1 there.2 (omega (arith, le, other)) within)
-]
 
 module _ (whole left : List Log) (cut : List ℕ) (are : AreLeft whole cut left) where
   n : length left ≡ length whole
@@ -126,7 +116,7 @@ module _ (whole left : List Log) (cut : List ℕ) (are : AreLeft whole cut left)
 
       sent_before : Before whole link (suc pair.0.place) (reader link) last
       sent_before =
-          before_later whole link (suc pair.0.place) (reader link) (suc receipt_lacks.place) last (message refl pair.1)
+          known_on whole link (suc pair.0.place) (reader link) (suc receipt_lacks.place) last (message refl pair.1)
           (omega (arith, receipt_lacks.below)) last_within
 
       sending_past : HasItsPast whole left link (suc pair.0.place)

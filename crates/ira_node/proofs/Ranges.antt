@@ -9,6 +9,7 @@ use Rattle.ira_event.specs.declared.load.Load.{Load}
 use Rattle.ira_event.specs.declared.load.Load.TheVariants.{Msg as Message}
 use Rattle.ira_event.specs.declared.event.Event.{Event}
 use Rattle.ira_event.specs.declared.event.Event.TheVariants.{Sent}
+use Rattle.ira_event.proofs.Numerals.{and_parts}
 use Rattle.ira_node.specs.declared.phase.Phase.TheVariants.{Choosing, Active, Passive}
 use Rattle.ira_node.specs.declared.node_state.NodeState.{NodeState}
 use Rattle.ira_node.specs.Msg.{first_message, raised, dirtied}
@@ -33,18 +34,12 @@ next_reset_stays : (n h : ℕ) → IsRingSize n → h < n → is_number (h + 1) 
 next_reset_stays n h size below = let few : h + 1 ≤ MAX_NUMBER = omega (arith, size.1, below) in
     grind (arith, nat_tests)
 
-first_of_both : (a b : Bool) → (a && b) ≡ true → a ≡ true
-first_of_both a b h = grind (arith, nat_tests)
-
-second_of_both : (a b : Bool) → (a && b) ≡ true → b ≡ true
-second_of_both a b h = grind (arith, nat_tests)
-
 -- the parts of a state
 term_of : (s : NodeState) → is_state s ≡ true → is_number s.term ≡ true
-term_of s h = first_of_both (is_number s.term) (is_phase s.phase) (first_of_both _ _ h)
+term_of s h = (and_parts (is_number s.term) (is_phase s.phase) (and_parts _ _ h).0).0
 
 phase_of : (s : NodeState) → is_state s ≡ true → is_phase s.phase ≡ true
-phase_of s h = second_of_both (is_number s.term) (is_phase s.phase) (first_of_both _ _ h)
+phase_of s h = (and_parts (is_number s.term) (is_phase s.phase) (and_parts _ _ h).0).1
 
 three : (a b c : Bool) → a ≡ true → b ≡ true → c ≡ true → (a && b && c) ≡ true
 three a b c h k l = rw (h, k, l) refl
@@ -79,7 +74,7 @@ stays n s e t size h k (comes_home term es ee low et) = rw et (three _ _ _ (next
 pub sendings : (n : ℕ) (s : NodeState) (l : Load) (t : NodeState) → is_state s ≡ true → NodeStep n s (Sent l) t
     → is_load l ≡ true
 sendings n s l t h (sends k runs o ee et) =
-    let same : l ≡ k = cc in rw same (subst (λ x. is_debt x ≡ true) o (second_of_both _ _ h))
+    let same : l ≡ k = cc in rw same (subst (λ x. is_debt x ≡ true) o (and_parts _ _ h).1)
 sendings n s l t h (draws term round id es ee lo hi et) = cc
 sendings n s l t h (passes term k es ee low et) = cc
 sendings n s l t h (gives_in term round id k es ee g low et) = cc

@@ -2,7 +2,7 @@
 -- one node happened before one another by their numbers alone, and what is known of another node came
 -- with a receipt.
 use Rattle.std.proofs.Common.{◌≡◌, ◌≢◌, ℕ, zero, suc, ◌+◌, ◌-◌, ◌<◌, ◌≤◌, inl, inr, List, length, refl, ◌∙◌, ap, arith}
-use Rattle.std.proofs.Common.{take, Some}
+use Rattle.std.proofs.Common.{take, Some, subst, sym}
 use Rattle.ira_event.specs.declared.event.Event.{Event}
 use Rattle.ira_event.specs.declared.load.Load.{Load}
 use Rattle.ira_event.specs.Log.{Log}
@@ -34,6 +34,23 @@ before_within logs i a j b (onward f g) =
     let x = before_within logs _ _ _ _ f in
     let y = before_within logs _ _ _ _ g in
     (x.0, x.1, y.2, y.3)
+
+-- an earlier event of the node happened before it too
+pub before_earlier : (logs : List Log) (i a b j c : ℕ) → 1 ≤ a → a ≤ b → Before logs i b j c → Before logs i a j c
+before_earlier logs i a b j c first le before = elim (cases_eq a b) [
+  | inl same ↦ subst (λ (k : ℕ). Before logs i k j c) (sym same) before
+  | inr other ↦ onward (own refl (before_places logs i b j c before).0 first (omega (arith, le, other))
+      (before_within logs i b j c before).1) before
+]
+
+-- what a node knows at an event it knows at a later one
+pub known_on : (logs : List Log) (i a j q r : ℕ) → Before logs i a j q → q ≤ r → r ≤ length (log_of logs j)
+    → Before logs i a j r
+known_on logs i a j q r before le within = elim (cases_eq q r) [
+  | inl same ↦ subst (λ (k : ℕ). Before logs i a j k) same before
+  | inr other ↦ onward before (own refl (before_places logs i a j q before).1 (before_within logs i a j q before).2
+      (omega (arith, le, other)) within)
+]
 
 -- what is known at an event happened before what comes after that event
 pub known_before : (logs : List Log) (i a k s j r : ℕ) → AtOrBefore logs i a k s → Before logs k s j r

@@ -85,9 +85,6 @@ pub balanced_fewer : (n : ℕ) (past : ℕ → List Event) (link : ℕ → List 
 balanced_fewer n past link balanced k l =
     omega (arith, length-append (got (past (next n k))) (link k), ap length (balanced k l))
 
-cons_nil : (x : ℕ × Event) (r : List (ℕ × Event)) → x ∷ r ≡ [] → ⊥
-cons_nil x r h = cc
-
 module _ (logs : List Log) (order : List ℕ) (run : List (ℕ × Event))
     (two : 2 ≤ length logs)
     (means : Means logs order run)

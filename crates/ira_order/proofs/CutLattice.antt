@@ -66,7 +66,7 @@ meet_holds logs at parts i a j b before held =
     let part = parts i p.0 in
     omega (arith, part.1 i a j b before (omega (arith, part.3 j p.1)), part.2)
 
-either : (a b : ℕ) → (a ≤ b) ⊎ (b ≤ a)
+pub either : (a b : ℕ) → (a ≤ b) ⊎ (b ≤ a)
 either a b = grind arith
 
 pub join_cut : (logs : List Log) (a b cut : List ℕ) → IsConsistentCut logs a → IsConsistentCut logs b

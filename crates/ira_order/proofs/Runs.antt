@@ -35,6 +35,29 @@ pub prev_below : (n i : ℕ) → i < n → prev n i < n
 prev_below n zero l = omega arith
 prev_below n (suc i) l = omega arith
 
+pub next_up : (n j : ℕ) → j + 1 < n → next n j ≡ j + 1
+next_up n j more = grind (arith, nat_tests)
+
+-- that of event a stands after those of the events before it
+pub load_at : (load : Event → Option Load) (es : List Event) (a : ℕ) (e : Event) (l : Load) → slice_get es a ≡ Some e
+    → load e ≡ Some l → numbered (filter_map load es) (suc (length (filter_map load (take a es)))) ≡ Some l
+load_at load es a e l at is =
+    let first = filter_map load (take a es) in
+    let rest = filter_map load (drop (a + 1) es) in
+    let here : get_or es a e ≡ e = get_or_from_slice_get es a e e at in
+    let parts : filter_map load es ≡ first ++ l ∷ rest =
+    filter_map_split load es a e (slice_get_within es a e at)
+    ∙ ap (λ x. first ++ cons_option x rest) (ap load here ∙ is) in
+    ap (λ x. numbered x (suc (length first))) parts ∙ numbered-after first rest l
+
+-- those of the first a events have the same numbers among all
+pub load_before : (load : Event → Option Load) (es : List Event) (a k : ℕ) → k ≤ length (filter_map load (take a es))
+    → numbered (filter_map load es) k ≡ numbered (filter_map load (take a es)) k
+load_before load es a k low =
+    let parts : filter_map load es ≡ filter_map load (take a es) ++ filter_map load (drop a es) =
+    ap (filter_map load) (sym (take-append-drop a es)) ∙ filter_map-append load (take a es) (drop a es) in
+    ap (λ x. numbered x k) parts ∙ numbered-append (filter_map load (take a es)) (filter_map load (drop a es)) k low
+
 -- the messages that link k holds when the nodes have made (at j) events each
 abbrev pub on_link : List Log → (ℕ → ℕ) → ℕ → List Load
 on_link logs at k = drop (length (got (take (at (next (length logs) k)) (log_of logs (next (length logs) k)))))
@@ -137,7 +160,7 @@ module _ (logs : List Log) (at at' : ℕ → ℕ) (i : ℕ) (e : Event)
   links (Draw x) e_is matches covers covers' = λ j lj. link_same j (inr (ap sending e_is)) (inr (ap receipt e_is))
   links Yield e_is matches covers covers' = λ j lj. link_same j (inr (ap sending e_is)) (inr (ap receipt e_is))
 
-cons_nil : (x : ℕ × Event) (r : List (ℕ × Event)) → x ∷ r ≡ [] → ⊥
+pub cons_nil : (x : ℕ × Event) (r : List (ℕ × Event)) → x ∷ r ≡ [] → ⊥
 cons_nil x r h = cc
 
 -- the run has the order's places, and each entry is the event that its place means there

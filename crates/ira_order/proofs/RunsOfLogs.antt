@@ -154,12 +154,12 @@ run_means logs run inside is = record {
 
 -- ---- each order of local runs is a run of the ring
 
-abbrev state_at : (n : ℕ) (s : NodeState) (es : List Event) (t : NodeState) → LeadsTo n s es t → ℕ → NodeState
+abbrev pub state_at : (n : ℕ) (s : NodeState) (es : List Event) (t : NodeState) → LeadsTo n s es t → ℕ → NodeState
 state_at n s es t h zero = s
 state_at n s [] t h (suc a) = s
 state_at n s (e ∷ es) t h (suc a) = state_at n h.0 es t h.2 a
 
-state_step : (n : ℕ) (s : NodeState) (es : List Event) (t : NodeState) (h : LeadsTo n s es t) (a : ℕ) (e : Event)
+pub state_step : (n : ℕ) (s : NodeState) (es : List Event) (t : NodeState) (h : LeadsTo n s es t) (a : ℕ) (e : Event)
     → slice_get es a ≡ Some e → NodeStep n (state_at n s es t h a) e (state_at n s es t h (suc a))
 state_step n s [] t h a e at = cc
 state_step n s (x ∷ es) t h zero e at =

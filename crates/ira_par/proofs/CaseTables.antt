@@ -10,7 +10,7 @@ use Rattle.ira_cert.specs.Conjuncts.{IsAsked, CandidatesOf, HasPlacesOf}
 use Rattle.ira_par.specs.CandidateTable.{CandidateTable, IsTableFor, IsListAt, AreTables, AreBelow}
 
 -- what holds of all members holds of the one there
-all_at : {X : Type 0} (P : X → Type 0) (xs : List X) (i : ℕ) (x : X) → All P xs → slice_get xs i ≡ Some x → P x
+pub all_at : {X : Type 0} (P : X → Type 0) (xs : List X) (i : ℕ) (x : X) → All P xs → slice_get xs i ≡ Some x → P x
 all_at P xs i x all at = subst P (get_or_from_slice_get xs i x x at) (all i x (slice_get_within xs i x at))
 
 pub below_at : (places : ℕ) (tables : List CandidateTable) (i : ℕ) (xs : List ℕ) → AreBelow places tables

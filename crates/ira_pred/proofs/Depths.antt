@@ -9,6 +9,7 @@ use Rattle.std.proofs.lemmas.Bool.Decides.{nat_tests}
 use Rattle.ira_event.specs.Numeral.{IsNumeral}
 use Rattle.ira_event.proofs.Numerals.{Lacks-numeral}
 use Rattle.ira_event.proofs.Pieces.{Lacks, or_parts}
+use Rattle.ira_event.proofs.Spelled.{zero_or_more}
 use Rattle.ira_pred.specs.declared.rel.Rel.{Rel}
 use Rattle.ira_pred.specs.declared.rel.Rel.TheVariants.{Less, Equal, Greater}
 use Rattle.ira_pred.specs.Formula.{Formula, always, leader, active, passive, choosing, yielding, owes, round, id, term}
@@ -58,9 +59,6 @@ record Reached (text : List ℕ) (m : ℕ) : Type 0 where
   back : List ℕ
   parts : text ≡ front ++ back
   is : opened front ≡ closed front + m
-
-zero_or_more : (n : ℕ) → (n ≡ 0) ⊎ (0 < n)
-zero_or_more n = grind arith
 
 nothing_reached : (text : List ℕ) (m : ℕ) → m ≡ 0 → Reached text m
 nothing_reached text m e = record { front = []; back = text; parts = refl; is = omega (arith, e) }

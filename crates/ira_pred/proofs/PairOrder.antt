@@ -6,6 +6,7 @@ use Rattle.std.specs.List.{flat_map}
 use Rattle.std.proofs.lemmas.List.Elements.{All-nil, All-cons, All-head, All-tail, All-append, Contains-append_left}
 use Rattle.std.proofs.lemmas.List.Elements.{Contains-append_right}
 use Rattle.std.proofs.lemmas.List.Kept.{AllPairs-cons}
+use Rattle.std.proofs.lemmas.List.{map-append}
 use Rattle.ira_pred.specs.Case.{Conjunct}
 use Rattle.ira_pred.proofs.Walks.{first-pairs, other-pairs}
 use Rattle.ira_pred.specs.Pairs.{numbers_from, pair_case, IsBefore, ArePairCases, cases_of_place, pairs_asked}
@@ -40,7 +41,7 @@ All-rows P n i (suc k) fits h =
     (All-row P i (i + 1) (n - (i + 1)) (λ m low high. h i m (omega arith) (omega arith) (omega arith)))
     (All-rows P n (i + 1) k (omega arith) (λ l m low less high. h l m (omega arith) less high))
 
-at_or_above : (j m : ℕ) → j ≤ m → (j ≡ m) ⊎ (j + 1 ≤ m)
+pub at_or_above : (j m : ℕ) → j ≤ m → (j ≡ m) ⊎ (j + 1 ≤ m)
 at_or_above j m low = grind arith
 
 first-or-later : (i j m : ℕ) (others : List (ℕ × ℕ)) → (j ≡ m) ⊎ Contains others (i, m)
@@ -109,17 +110,13 @@ row-cases : (i j k : ℕ) → map (pair_case i) (numbers_from j k) ≡ map case_
 row-cases i j zero = refl
 row-cases i j (suc k) = ap (λ x. pair_case i j ∷ x) (row-cases i (j + 1) k)
 
-map-both : {X Y : Type 0} (f : X → Y) (xs ys : List X) → map f (xs ++ ys) ≡ map f xs ++ map f ys
-map-both f [] ys = refl
-map-both f (x ∷ xs) ys = ap (λ z. f x ∷ z) (map-both f xs ys)
-
 rows-cases : (n i k : ℕ) → flat_map (cases_of_place n) (numbers_from i k) ≡ map case_of (rows n i k)
 unfolding row rows
 rows-cases n i zero = refl
 rows-cases n i (suc k) =
     ap (λ x. x ++ flat_map (cases_of_place n) (numbers_from (i + 1) k)) (row-cases i (i + 1) (n - (i + 1)))
     ∙ ap (λ x. map case_of (row n i) ++ x) (rows-cases n (i + 1) k)
-    ∙ sym (map-both case_of (row n i) (rows n (i + 1) k))
+    ∙ sym (map-append case_of (row n i) (rows n (i + 1) k))
 
 pub pair_cases : (n : ℕ) → ArePairCases n (pairs_asked n).cases
 pair_cases n = record {

@@ -345,3 +345,13 @@ some_asked (p ∷ ps) h q = absurd cc
 
 pub last_line : (text after : List ℕ) → after_word (codes "end\n") text ≡ Some after → after ≡ [] → text ≡ codes "end\n"
 last_line text after e none = word-takes (codes "end\n") text after e ∙ ap (λ w. codes "end\n" ++ w) none
+
+-- what is asked of a node, by its parts
+pub conjunct_at : (o : Option Conjunct) (place : ℕ) (formula : Formula) → option_map (λ c. c.place) o ≡ Some place
+    → option_map (λ c. c.formula) o ≡ Some formula → o ≡ Some (record { place = place; formula = formula })
+conjunct_at None place formula p f = cc
+conjunct_at (Some c) place formula p f =
+    let make : ℕ → Formula → Conjunct = λ a b. record { place = a; formula = b } in
+    let a : c.place ≡ place = cc in
+    let b : c.formula ≡ formula = cc in
+    ap (λ n. Some (make n c.formula)) a ∙ ap (λ x. Some (make place x)) b

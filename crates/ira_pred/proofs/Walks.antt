@@ -79,7 +79,7 @@ walk_on nodes (l ∷ ls) ms a b d t u v h k =
     let w = walk_on nodes ls ms h.1 b d h.0 u v h.5 k in
     (l ∷ w.0, (h.0, h.1, h.2, h.3, h.4, w.1))
 
-All-back : {X : Type 0} (P : X → Type 0) (p xs : List X) → All P (p ++ xs) → All P xs
+pub All-back : {X : Type 0} (P : X → Type 0) (p xs : List X) → All P (p ++ xs) → All P xs
 All-back P [] xs h = h
 All-back P (y ∷ ys) xs h = All-back P ys xs (All-tail P y (ys ++ xs) h)
 

@@ -25,6 +25,15 @@ one_end n s (e ∷ es) t u h k =
     let P : NodeState → Type 0 = λ x. LeadsTo n x es u in
     one_end n h.0 es t u h.2 (subst P (same_next n s e k.0 h.0 k.1 h.1) k.2)
 
+-- the first of the events lead to a state
+pub leads_prefix : (n : ℕ) (s : NodeState) (es : List Event) (t : NodeState) (a : ℕ) → LeadsTo n s es t
+    → (u : NodeState) × LeadsTo n s (take a es) u
+leads_prefix n s es t zero h = (s, refl)
+leads_prefix n s [] t (suc a) h = (s, refl)
+leads_prefix n s (e ∷ es) t (suc a) h =
+    let w = leads_prefix n h.0 es t a h.2 in
+    (w.0, (h.0, h.1, w.1))
+
 -- the first of the events lead to a state, and the others on from there
 pub leads_split : (n : ℕ) (s : NodeState) (es fs : List Event) (t : NodeState) → LeadsTo n s (es ++ fs) t
     → (u : NodeState) × LeadsTo n s es u × LeadsTo n u fs t

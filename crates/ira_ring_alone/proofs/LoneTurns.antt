@@ -44,9 +44,6 @@ ids_left s nodes i j n node rules reached l is size read =
 
 -- ---- the node after
 
-pub next_above : (n i : ℕ) → i + 1 < n → next n i ≡ i + 1
-next_above n i l = grind (arith, nat_tests)
-
 pub next_not : (n i : ℕ) → 2 ≤ n → i < n → next n i ≡ i → ⊥
 next_not n i two l e = grind (arith, nat_tests)
 

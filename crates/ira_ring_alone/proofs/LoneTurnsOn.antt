@@ -16,8 +16,9 @@ use Rattle.ira_ring_alone.specs.LoneNode.{after_event, after_put}
 use Rattle.ira_ring_alone.specs.LoneRing.{idle, node_at, IsMoved, IsPut, IsTurn, IsLeastAfter, IsReached}
 use Rattle.ira_ring_setup.specs.Setup.{Setup, KeepsRules}
 use Rattle.std.proofs.lemmas.Bool.{cases_eq}
+use Rattle.ira_order.proofs.Runs.{next_up}
 use Rattle.ira_ring_alone.proofs.LoneSteps.{apart, own, turn_reaches}
-use Rattle.ira_ring_alone.proofs.LoneTurns.{next_above, next_not}
+use Rattle.ira_ring_alone.proofs.LoneTurns.{next_not}
 
 -- ---- the nodes below
 
@@ -26,7 +27,7 @@ still_ended : (n most terms i : ℕ) (m : Load) (after : NodeState) (old new : L
     → (j : ℕ) → j < i → HasNoNext n most terms (node_at new j)
 still_ended n most terms i m after old new moved far ended j l =
     let P : LoneNode → Type 0 = HasNoNext n most terms in
-    let above : next n i ≡ i + 1 = next_above n i far in
+    let above : next n i ≡ i + 1 = next_up n i far in
     subst P (sym (moved.2 j (omega arith) (omega arith))) (ended j l)
 
 -- ---- the room

@@ -11,6 +11,7 @@ use Rattle.std.proofs.lemmas.Option.{none-some, same_Some, some_pair_parts}
 use Rattle.ira_event.specs.Log.{Log, IsLog}
 use Rattle.ira_event.specs.Logs.{AreLogs}
 use Rattle.ira_event.specs.RingSize.{IsRingSize}
+use Rattle.ira_event.proofs.Numerals.{and_parts}
 use Rattle.ira_ring_setup.specs.declared.node_end.NodeEnd.{NodeEnd}
 use Rattle.ira_ring_setup.specs.declared.node_end.NodeEnd.TheVariants.{Leader, Stopped, DrawsSpent, LogFull, NoStep, Quiet}
 use Rattle.ira_ring_setup.specs.declared.run_fault.RunFault.{RunFault}
@@ -140,10 +141,6 @@ stopped-is LogFull e = absurd cc
 stopped-is (NoStep m) e = absurd cc
 stopped-is Quiet e = absurd cc
 
-pub both-true : (a b : Bool) → (a && b) ≡ true → (a ≡ true) × (b ≡ true)
-both-true true b e = (refl, e)
-both-true false b e = absurd cc
-
 -- every end is `Stopped`
 pub each-stopped : (logs : List Log) (ends : List NodeEnd) → list_all is_stopped ends ≡ true
     → (i : ℕ) (log : Log) (end : NodeEnd) → slice_get (parts_of logs ends) i ≡ Some (Some (log, end)) → end ≡ Stopped
@@ -151,9 +148,9 @@ each-stopped [] ends all i log end p = absurd cc
 each-stopped (l ∷ logs) [] all i log end p = absurd cc
 each-stopped (l ∷ logs) (e ∷ ends) all zero log end p =
     let e_is : e ≡ end = (some_pair_parts l log e end (same_Some (Some (l, e)) (Some (log, end)) p)).1 in
-    sym e_is ∙ stopped-is e (both-true (is_stopped e) (list_all is_stopped ends) all).0
+    sym e_is ∙ stopped-is e (and_parts (is_stopped e) (list_all is_stopped ends) all).0
 each-stopped (l ∷ logs) (e ∷ ends) all (suc i) log end p =
-    each-stopped logs ends (both-true (is_stopped e) (list_all is_stopped ends) all).1 i log end p
+    each-stopped logs ends (and_parts (is_stopped e) (list_all is_stopped ends) all).1 i log end p
 
 all-stopped : (logs : List Log) (ends : List NodeEnd) → length logs ≡ length ends
     → ((i : ℕ) (log : Log) (end : NodeEnd) → slice_get (parts_of logs ends) i ≡ Some (Some (log, end)) → end ≡ Stopped)
@@ -197,10 +194,10 @@ all-of-version version (part ∷ taken) all zero log end p =
     let is : part ≡ Some (log, end) = same_Some part (Some (log, end)) p in
     let here : nat_eq log.version version ≡ true =
     sym (ap (has_version version) is)
-    ∙ (both-true (has_version version part) (list_all (has_version version) taken) all).0 in
+    ∙ (and_parts (has_version version part) (list_all (has_version version) taken) all).0 in
     grind (arith, nat_tests)
 all-of-version version (part ∷ taken) all (suc i) log end p =
-    all-of-version version taken (both-true (has_version version part) (list_all (has_version version) taken) all).1 i
+    all-of-version version taken (and_parts (has_version version part) (list_all (has_version version) taken) all).1 i
     log end p
 
 -- a log that was taken is of another version

@@ -14,6 +14,7 @@ use Rattle.ira_event.specs.declared.event.Event.TheVariants.{Draw, Sent, Got, Yi
 use Rattle.ira_event.specs.declared.load.Load.{Load}
 use Rattle.ira_event.specs.Event.{is_number, is_event, is_later, is_of_version}
 use Rattle.ira_event.proofs.Upgrades.{all_held}
+use Rattle.ira_event.proofs.Numerals.{and_parts}
 use Rattle.ira_node.specs.declared.node_state.NodeState.{NodeState}
 use Rattle.ira_node.specs.NodeState.{first_state, is_state}
 use Rattle.ira_node.specs.NodeStep.{NodeStep}
@@ -24,11 +25,10 @@ use Rattle.ira_node.proofs.Ranges.{stays, sendings}
 use Rattle.ira_order.specs.Ring.{prev}
 use Rattle.ira_order.specs.Run.{Configuration, LinkStep, RingStep}
 use Rattle.ira_order.proofs.Runs.{prev_below}
+use Rattle.ira_safety.proofs.Steps.{term_rises}
 use Rattle.ira_ring_setup.specs.Setup.{Setup, is_initiator, KeepsRules}
 use Rattle.ira_ring_setup.specs.Terms.{version_of, IsLastLeader}
 use Rattle.ira_ring_setup.specs.FullRun.{opening_of, events_at, Walks}
-use Rattle.ira_ring_setup.proofs.Collecting.{both-true}
-use Rattle.ira_ring_setup.proofs.Yields.{term_rises}
 use Rattle.ira_ring_setup.proofs.Walks.{own_first, other_first, own_more, other_more}
 
 -- ---- what steps keep
@@ -59,7 +59,7 @@ module _ (s : Setup) (fits : NodeState → Bool) (allows : Event → Bool)
       let taken : LinkStep s.nodes i (Got l) old new = subst P is step in
       let h : comes (l ∷ new (prev s.nodes i)) ≡ true =
       subst (λ (x : List Load). comes x ≡ true) taken.0 (all (prev s.nodes i) (prev_below s.nodes i here)) in
-      ap allows is ∙ (both-true (allows (Got l)) (comes (new (prev s.nodes i))) h).0
+      ap allows is ∙ (and_parts (allows (Got l)) (comes (new (prev s.nodes i))) h).0
 
   links_fit : (i : ℕ) (e : Event) (old new : ℕ → List Load) → i < s.nodes → allows e ≡ true
       → ((k : ℕ) → k < s.nodes → comes (old k) ≡ true) → LinkStep s.nodes i e old new → (k : ℕ) → k < s.nodes
@@ -82,7 +82,7 @@ module _ (s : Setup) (fits : NodeState → Bool) (allows : Event → Bool)
         let P : ℕ → Type 0 = λ x. comes (new x) ≡ true in
         let h : comes (l ∷ new (prev s.nodes i)) ≡ true =
         subst (λ (x : List Load). comes x ≡ true) step.0 (all (prev s.nodes i) (prev_below s.nodes i here)) in
-        subst P (sym e) (both-true (allows (Got l)) (comes (new (prev s.nodes i))) h).1
+        subst P (sym e) (and_parts (allows (Got l)) (comes (new (prev s.nodes i))) h).1
     | inr ne ↦ subst (λ (x : List Load). comes x ≡ true) (sym (step.1 k lk ne)) (all k lk)
   ]
 
@@ -189,7 +189,7 @@ of_first_version : (s : Setup) (run : List (ℕ × Event)) (d : Configuration) (
 of_first_version s run d i one walk =
     run_allowed s (λ a. is_plain a.owed && nat_le 1 a.term) (is_of_version 1) (λ l. refl)
     (λ a e b runs fit taken step.
-    let parts = both-true (is_plain a.owed) (nat_le 1 a.term) fit in
+    let parts = and_parts (is_plain a.owed) (nat_le 1 a.term) fit in
     let not_last : ¬ (IsLastLeader 1 a) = λ l. runs (l.0, omega (arith, l.1, one)) in
     let event : is_of_version 1 e ≡ true = event_of_version s.nodes a e b not_last parts.0 parts.1 taken step in
     (event, both_true (owes_no_reset s.nodes a e b (no_later e event) step) (term_stays s.nodes a e b step parts.1)))

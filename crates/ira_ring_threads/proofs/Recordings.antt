@@ -1,6 +1,6 @@
 -- What the nodes of a ring recorded, from what they did one by one and from the frames that passed the links.
 -- No thread occurs here.
-use Rattle.std.proofs.Common.{◌≡◌, ℕ, zero, suc, ◌<◌, ◌≤◌, Bool, List, [], ◌∷◌, ◌++◌, map, length, Option, Some, refl}
+use Rattle.std.proofs.Common.{◌≡◌, ℕ, ◌<◌, ◌≤◌, Bool, List, [], ◌∷◌, ◌++◌, map, length, Option, Some, refl}
 use Rattle.std.proofs.Common.{sym, ap, ◌∙◌, subst, arith}
 use Rattle.std.specs.Prelude.{slice_get, option_map}
 use Rattle.std.proofs.lemmas.List.{append-nil, length-map, map-append}
@@ -22,6 +22,7 @@ use Rattle.ira_ring_setup.specs.declared.node_end.NodeEnd.TheVariants.{Leader, S
 use Rattle.ira_ring_setup.specs.Terms.{version_of, YieldsBelow}
 use Rattle.ira_ring_setup.specs.Setup.{Setup, KeepsRules, is_initiator, node_draws}
 use Rattle.ira_event.specs.Messages.{drawn}
+use Rattle.ira_order.proofs.Runs.{prev_below}
 use Rattle.ira_ring_setup.specs.FullRun.{BeginsWith}
 use Rattle.ira_ring_setup.specs.Run.{Run, IsRun}
 use Rattle.ira_ring_threads.specs.NodeFrames.{frames, last_taken, frames_put, frames_taken}
@@ -69,10 +70,6 @@ shown s i state events sendings left (NoStep l) h e =
     (h.0, h.1, got_of_put (got events ++ l ∷ []) sendings [] left (ap (λ (fs : List Frame). fs ++ left) one ∙ e))
 shown s i state events sendings left Stopped h e = (h, all_of_put (got events) sendings left e)
 shown s i state events sendings left Quiet h e = absurd h
-
-prev_within : (n i : ℕ) → i < n → prev n i < n
-prev_within n zero l = omega arith
-prev_within n (suc i) l = omega arith
 
 -- what the node of a place recorded
 recorded_at : (s : Setup) (finished_nodes : List FinishedNode) (i : ℕ) (d : FinishedNode)
@@ -128,7 +125,7 @@ all_at s finished_nodes run i d ring passed logs at =
     let many : s.nodes ≡ length finished_nodes =
     omega (arith, place_count s 0 s.nodes ring.0 ring.0 finished_nodes ring.1) in
     let l : i < s.nodes = omega (arith, many, slice_get_within finished_nodes i d at) in
-    let p = get_within finished_nodes (prev s.nodes i) (omega (arith, many, prev_within s.nodes i l)) in
+    let p = get_within finished_nodes (prev s.nodes i) (omega (arith, many, prev_below s.nodes i l)) in
     record {
       recorded = recorded_at s finished_nodes i d ring at;
       events = logged finished_nodes run i d logs at;

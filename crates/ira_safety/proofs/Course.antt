@@ -1,6 +1,6 @@
 -- The states of one node along its events.
 use Rattle.std.proofs.Common.{◌≡◌, ℕ, zero, suc, ◌+◌, ◌≤◌, inl, inr, Bool, true, false, Option, Some, None, List, []}
-use Rattle.std.proofs.Common.{◌∷◌, ◌++◌, length, take, refl, sym, ◌∙◌, ap, subst, arith, add-one}
+use Rattle.std.proofs.Common.{◌∷◌, ◌++◌, length, take, refl, ◌∙◌, ap, subst, arith, add-one}
 use Rattle.std.specs.Prelude.{slice_get}
 use Rattle.std.specs.List.{filter_map, cons_option}
 use Rattle.std.proofs.lemmas.Bool.{cases_lt}
@@ -16,6 +16,7 @@ use Rattle.ira_replay.specs.LocalRun.{LeadsTo, IsLocalRun}
 use Rattle.ira_replay.proofs.Reached.{same_next}
 use Rattle.ira_order.specs.Ring.{events_of}
 use Rattle.ira_order.proofs.Ranks.{filter_map_more}
+use Rattle.ira_order.proofs.RunsOfLogs.{state_at, state_step}
 use Rattle.ira_safety.proofs.Steps.{resets, resets_in, yielding, Settled, settled_first, stays_settled, term_more}
 use Rattle.ira_safety.proofs.Steps.{term_rises, balance}
 
@@ -28,28 +29,10 @@ pub record IsCourse (n : ℕ) (es : List Event) (st : ℕ → NodeState) : Type 
 
 -- ---- a local run has one
 
-abbrev state_at : (n : ℕ) (s : NodeState) (es : List Event) (t : NodeState) → LeadsTo n s es t → ℕ → NodeState
-state_at n s [] t h a = s
-state_at n s (e ∷ es) t h zero = s
-state_at n s (e ∷ es) t h (suc a) = state_at n h.0 es t h.2 a
-
-at_first : (n : ℕ) (s : NodeState) (es : List Event) (t : NodeState) (h : LeadsTo n s es t) → state_at n s es t h 0 ≡ s
-at_first n s [] t h = refl
-at_first n s (e ∷ es) t h = refl
-
-at_step : (n : ℕ) (s : NodeState) (es : List Event) (t : NodeState) (h : LeadsTo n s es t) (a : ℕ) (e : Event)
-    → slice_get es a ≡ Some e → NodeStep n (state_at n s es t h a) e (state_at n s es t h (suc a))
-at_step n s [] t h a e at = cc
-at_step n s (x ∷ es) t h zero e at =
-    let same : x ≡ e = cc in
-    let P : Event → Type 0 = λ y. NodeStep n s y (state_at n h.0 es t h.2 0) in
-    let Q : NodeState → Type 0 = λ y. NodeStep n s x y in
-    subst P same (subst Q (sym (at_first n h.0 es t h.2)) h.1)
-at_step n s (x ∷ es) t h (suc a) e at = at_step n h.0 es t h.2 a e at
-
 at_end : (n : ℕ) (s : NodeState) (es : List Event) (t : NodeState) (h : LeadsTo n s es t) (a : ℕ) → length es ≤ a
     → state_at n s es t h (suc a) ≡ state_at n s es t h a
-at_end n s [] t h a past = refl
+at_end n s [] t h zero past = refl
+at_end n s [] t h (suc a) past = refl
 at_end n s (x ∷ es) t h zero past = absurd (omega arith)
 at_end n s (x ∷ es) t h (suc a) past = at_end n h.0 es t h.2 a (omega arith)
 
@@ -73,10 +56,10 @@ pub log_course : (o : Option Log) (local : (log : Log) → o ≡ Some log → Is
 log_course None local n size = record { initiator = false; first = refl; steps = λ a e at. cc; ends = λ a past. refl }
 log_course (Some log) local n size = record {
   initiator = log.initiator;
-  first = at_first log.nodes (first_state log.initiator) log.events (local log refl).0 (local log refl).1;
+  first = refl;
   steps = λ a e at.
       let P : ℕ → Type 0 = λ x. NodeStep x (log_state (Some log) local a) e (log_state (Some log) local (suc a)) in
-      subst P (size log refl) (at_step log.nodes (first_state log.initiator) log.events (local log refl).0
+      subst P (size log refl) (state_step log.nodes (first_state log.initiator) log.events (local log refl).0
       (local log refl).1 a e at);
   ends = at_end log.nodes (first_state log.initiator) log.events (local log refl).0 (local log refl).1;
 }
@@ -92,7 +75,7 @@ log_reached (Some x) local log a u is k =
 
 -- ---- what holds along it
 
-first_state_term : (initiator : Bool) → (first_state initiator).term ≡ 1
+pub first_state_term : (initiator : Bool) → (first_state initiator).term ≡ 1
 first_state_term true = refl
 first_state_term false = refl
 

@@ -1,5 +1,5 @@
 -- The laws of leaders, from the courses of the nodes.
-use Rattle.std.proofs.Common.{◌≡◌, ◌≢◌, ℕ, zero, suc, ◌<◌, inl, inr, Bool, true, false, ◌&&◌, Some, List, [], ◌∷◌}
+use Rattle.std.proofs.Common.{◌≡◌, ◌≢◌, ℕ, zero, suc, ◌<◌, inl, inr, Bool, true, Some, List, [], ◌∷◌}
 use Rattle.std.proofs.Common.{length, refl, sym, ◌∙◌, ap, subst, arith}
 use Rattle.std.specs.Prelude.{slice_get, slice_index}
 use Rattle.std.specs.List.{list_all}
@@ -12,6 +12,7 @@ use Rattle.ira_event.specs.Event.{is_of_version}
 use Rattle.ira_event.specs.Log.{Log}
 use Rattle.ira_event.specs.Logs.{EachLog}
 use Rattle.ira_event.specs.Messages.{receipt}
+use Rattle.ira_event.proofs.Numerals.{and_parts}
 use Rattle.ira_node.specs.declared.node_state.NodeState.{NodeState}
 use Rattle.ira_node.specs.declared.phase.Phase.TheVariants.{Passive}
 use Rattle.ira_node.specs.NodeState.{IsLeader}
@@ -28,15 +29,11 @@ use Rattle.ira_safety.proofs.Terms.{one_leader}
 
 -- ---- events of version 1
 
-not_and : (a b : Bool) → (a && b) ≡ true → (a ≡ true) × (b ≡ true)
-not_and true b h = (refl, h)
-not_and false b h = absurd cc
-
 all_at : (p : Event → Bool) (es : List Event) (a : ℕ) (e : Event) → list_all p es ≡ true → slice_get es a ≡ Some e
     → p e ≡ true
 all_at p [] a e h at = cc
-all_at p (x ∷ es) zero e h at = (let same : x ≡ e = cc in ap p (sym same) ∙ (not_and (p x) (list_all p es) h).0)
-all_at p (x ∷ es) (suc a) e h at = all_at p es a e (not_and (p x) (list_all p es) h).1 at
+all_at p (x ∷ es) zero e h at = (let same : x ≡ e = cc in ap p (sym same) ∙ (and_parts (p x) (list_all p es) h).0)
+all_at p (x ∷ es) (suc a) e h at = all_at p es a e (and_parts (p x) (list_all p es) h).1 at
 
 -- none of them is the receipt of a reset
 no_reset : (e : Event) → is_of_version 1 e ≡ true → resets_in (receipt e) ≡ 0

@@ -13,13 +13,12 @@ use Rattle.ira_node.specs.declared.phase.Phase.TheVariants.{Passive}
 use Rattle.ira_node.specs.NodeState.{first_state, IsLeader}
 use Rattle.ira_replay.specs.LocalRun.{LeadsTo, IsLocalRun}
 use Rattle.ira_replay.proofs.Along.{leads_further}
-use Rattle.ira_order.specs.Before.{Before, own, message, onward}
 use Rattle.ira_order.specs.Matching.{Matches}
 use Rattle.ira_order.specs.Ring.{log_of, events_of, next}
 use Rattle.ira_order.specs.Run.{Configuration, RingStep, AreLocalRuns}
-use Rattle.ira_order.proofs.Bridge.{sending_of}
 use Rattle.ira_order.proofs.Ranks.{next_below}
 use Rattle.ira_order.proofs.Converse.{Balanced, balanced_step, balanced_matches}
+use Rattle.ira_order.proofs.Acyclic.{before_within}
 use Rattle.ira_safety.specs.OneLeader.{IsIn}
 use Rattle.ira_safety.specs.Reaches.{Reaches, beginning, NoRunHasTwoLeaders, LeadersOfRunsAreAlone}
 use Rattle.ira_safety.proofs.Leaders.{others_at_a_cut}
@@ -88,13 +87,6 @@ log_there log first (suc k) zero l = (let same : first + 0 ≡ first = omega ari
 log_there log first (suc k) (suc i) l = (let same : suc first + i ≡ first + suc i = omega arith in
     log_there log (suc first) k i (omega arith) ∙ ap (λ x. Some (log x)) same)
 
--- all events of logs are a consistent cut
-all_held : (logs : List Log) (i a j b : ℕ) → Before logs i a j b → a ≤ length (log_of logs i)
-all_held logs i a j b (own same l one lower upper) = omega arith
-all_held logs i a j b (message same pair) =
-    (let s = sending_of (log_of logs i) a pair.message pair.sends in omega (arith, s.number, s.below))
-all_held logs i a j b (onward first second) = all_held logs i a _ _ first
-
 module _ (n : ℕ) (initiators : ℕ → Bool) (past : ℕ
     → List Event) (c : Configuration) (made : Made n initiators past c) where
   log : ℕ → Log
@@ -151,7 +143,7 @@ module _ (n : ℕ) (initiators : ℕ → Bool) (past : ℕ
   others_at_the_end : (i j : ℕ) → i < n → j < n → i ≢ j → IsLeader (c.state i).phase → (c.state j).phase ≡ Passive
   others_at_the_end i j li lj ne leads =
       others_at_a_cut logs sizes matches local (λ k. length (log_of logs k)) (λ i a j b h held.
-      all_held logs i a j b h) i j (c.state j) ne
+      (before_within logs i a j b h).1) i j (c.state j) ne
       (record { state = c.state i; is_in = is_at_end i li; leads = leads }) (is_at_end j lj)
 
 pub leaders_of_runs_are_alone : LeadersOfRunsAreAlone

@@ -1,10 +1,9 @@
 -- The sending of a receipt, of logs that match.
-use Rattle.std.proofs.Common.{◌≡◌, ℕ, zero, suc, ◌+◌, ◌<◌, ◌≤◌, Option, Some, List, [], ◌∷◌, ◌++◌, length, take, drop}
+use Rattle.std.proofs.Common.{◌≡◌, ℕ, zero, suc, ◌+◌, ◌<◌, ◌≤◌, Option, Some, List, [], ◌∷◌, length, take}
 use Rattle.std.proofs.Common.{get_or, refl, sym, ◌∙◌, ap, arith, add-one}
 use Rattle.std.specs.Prelude.{slice_get}
 use Rattle.std.specs.List.{filter_map, cons_option}
-use Rattle.std.proofs.lemmas.List.{take_all, take-append-drop}
-use Rattle.std.proofs.lemmas.List.Elements.{filter_map-append}
+use Rattle.std.proofs.lemmas.List.{take_all}
 use Rattle.std.proofs.lemmas.Option.{slice_get-get_or, slice_get_within, get_or_from_slice_get}
 use Rattle.ira_event.specs.declared.load.Load.{Load}
 use Rattle.ira_event.specs.declared.event.Event.{Event}
@@ -15,31 +14,11 @@ use Rattle.ira_order.specs.Matching.{Matches}
 use Rattle.ira_order.specs.Order.{IsPair}
 use Rattle.ira_order.specs.Ring.{log_of, next, numbered}
 use Rattle.ira_order.proofs.OrderPrefixes.{rank_more}
-use Rattle.ira_order.proofs.Pairing.{numbered-append, numbered-after, numbered-within}
+use Rattle.ira_order.proofs.Pairing.{numbered-within}
 use Rattle.ira_order.proofs.Places.{Ranked, ranked, is_sending}
-use Rattle.ira_order.proofs.Ranks.{filter_map_split}
+use Rattle.ira_order.proofs.Runs.{load_at, load_before}
 
 -- ---- the loads of a log
-
--- that of event a stands after those of the events before it
-load_at : (load : Event → Option Load) (es : List Event) (a : ℕ) (e : Event) (l : Load) → slice_get es a ≡ Some e
-    → load e ≡ Some l → numbered (filter_map load es) (suc (length (filter_map load (take a es)))) ≡ Some l
-load_at load es a e l at is =
-    let first = filter_map load (take a es) in
-    let rest = filter_map load (drop (a + 1) es) in
-    let here : get_or es a e ≡ e = get_or_from_slice_get es a e e at in
-    let parts : filter_map load es ≡ first ++ l ∷ rest =
-    filter_map_split load es a e (slice_get_within es a e at)
-    ∙ ap (λ x. first ++ cons_option x rest) (ap load here ∙ is) in
-    ap (λ x. numbered x (suc (length first))) parts ∙ numbered-after first rest l
-
--- those of the first a events have the same numbers among all
-load_before : (load : Event → Option Load) (es : List Event) (a k : ℕ) → k ≤ length (filter_map load (take a es))
-    → numbered (filter_map load es) k ≡ numbered (filter_map load (take a es)) k
-load_before load es a k low =
-    let parts : filter_map load es ≡ filter_map load (take a es) ++ filter_map load (drop a es) =
-    ap (filter_map load) (sym (take-append-drop a es)) ∙ filter_map-append load (take a es) (drop a es) in
-    ap (λ x. numbered x k) parts ∙ numbered-append (filter_map load (take a es)) (filter_map load (drop a es)) k low
 
 -- and with event a there is one more
 rank_after : (load : Event → Option Load) (es : List Event) (a : ℕ) (e : Event) (l : Load) → slice_get es a ≡ Some e

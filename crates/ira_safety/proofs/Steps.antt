@@ -39,10 +39,10 @@ yielding Yielding = 1
 
 -- ---- terms
 
-term_is : (s t : NodeState) → s ≡ t → s.term ≡ t.term
+pub term_is : (s t : NodeState) → s ≡ t → s.term ≡ t.term
 term_is s t e = ap (λ (x : NodeState). x.term) e
 
-phase_is : (s t : NodeState) → s ≡ t → s.phase ≡ t.phase
+pub phase_is : (s t : NodeState) → s ≡ t → s.phase ≡ t.phase
 phase_is s t e = ap (λ (x : NodeState). x.phase) e
 
 -- the term is how many resets were received, and one

@@ -21,12 +21,13 @@ use Rattle.ira_order.specs.Cut.{HoldsAllBefore}
 use Rattle.ira_order.specs.Matching.{Matches}
 use Rattle.ira_order.specs.Ring.{log_of, next}
 use Rattle.ira_order.proofs.Ranks.{next_below}
+use Rattle.ira_order.proofs.Runs.{next_up}
 use Rattle.ira_safety.proofs.Course.{IsCourse, kept, settled, term_counted, sent_counted}
 use Rattle.ira_safety.proofs.Sendings.{HasSending, has_sending}
 use Rattle.ira_safety.proofs.Steps.{resets, yielding, Settled, message_owed, won, IsStill, IsDone, leader_led, stays}
 use Rattle.ira_safety.proofs.Steps.{stays_done}
 
-first_owes : (initiator : Bool) → (first_state initiator).owed ≡ None
+pub first_owes : (initiator : Bool) → (first_state initiator).owed ≡ None
 first_owes true = refl
 first_owes false = refl
 
@@ -47,10 +48,7 @@ not_done : (term : ℕ) (s : NodeState) → IsDone term s → s.phase ≡ Passiv
 not_done term s (inl past) passive at = omega arith
 not_done term s (inr h) passive at = rw passive at (h.1)
 
-next_up : (n j : ℕ) → j + 1 < n → next n j ≡ j + 1
-next_up n j more = grind (arith, nat_tests)
-
-next_home : (n j : ℕ) → n ≤ j + 1 → next n j ≡ 0
+pub next_home : (n j : ℕ) → n ≤ j + 1 → next n j ≡ 0
 next_home n j top = grind (arith, nat_tests)
 
 module _ (logs : List Log) (st : ℕ → ℕ → NodeState)

@@ -22,7 +22,7 @@ use Rattle.ira_safety.specs.TwoNodes.{both_elected, elected_in_turn, OneMayLead,
 
 -- ---- two logs
 
-both : (a b : Log) (P : ℕ → Log → Type 0) → P 0 a → P 1 b → EachLog (a ∷ b ∷ []) P
+pub both : (a b : Log) (P : ℕ → Log → Type 0) → P 0 a → P 1 b → EachLog (a ∷ b ∷ []) P
 both a b P p q zero log at = (let same : a ≡ log = cc in subst (P 0) same p)
 both a b P p q (suc zero) log at = (let same : b ≡ log = cc in subst (P 1) same q)
 both a b P p q (suc (suc i)) log at = cc

@@ -2,7 +2,6 @@ pub mod Asked
 pub mod Htmls
 pub mod LogLines
 pub mod Moments
-pub mod Pairs
 pub mod Pictures
 pub mod Statuses
 pub mod Texts

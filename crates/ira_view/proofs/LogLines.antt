@@ -9,8 +9,8 @@ use Rattle.ira_event.specs.Log.{Log}
 use Rattle.ira_view_json.proofs.LineTexts.{lines_append, one_line}
 use Rattle.ira_view_json.specs.Line.{AreLinesOf, IsLineOf}
 use Rattle.ira_view_json.specs.LogValue.{log_value}
-use Rattle.ira_view.proofs.Pairs.{pair_at}
 use Rattle.ira_audit.proofs.LogTexts.{next_taken}
+use Rattle.ira_view_show.proofs.Lines.{both_at}
 use Rattle.ira_view.specs.Html.{AreLogLines}
 
 -- the name at an index
@@ -30,6 +30,6 @@ log_lines_next names logs i name log text line at at' before is =
     let files = take i (zip names logs) in
     let more = lines_append (map value files) (value (name, log) ∷ []) text line before
     (one_line (value (name, log)) line is) in
-    let all = ap (map value) (sym (next_taken (zip names logs) i (name, log) (pair_at names logs i name log at at')))
+    let all = ap (map value) (sym (next_taken (zip names logs) i (name, log) (both_at names logs i name log at at')))
     ∙ map-append value files ((name, log) ∷ []) in
     subst (λ values. AreLinesOf values (text ++ line)) (sym all) more

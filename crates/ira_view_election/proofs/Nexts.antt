@@ -4,6 +4,7 @@ use Rattle.std.specs.Prelude.{slice_get}
 use Rattle.std.specs.List.{enumerate_from}
 use Rattle.std.proofs.lemmas.Option.{slice_get_cases}
 use Rattle.ira_event.specs.declared.event.Event.{Event}
+use Rattle.ira_election.proofs.Past.{none_first, none_second}
 use Rattle.ira_view_moment.specs.Moment.{Moment}
 use Rattle.ira_view_election.specs.declared.due.Due.{Due}
 use Rattle.ira_view_page.specs.Parts.{AreParts, more, none}
@@ -15,14 +16,6 @@ one_at xs i l = elim (slice_get_cases xs i).1 [
   | inl h ↦ (h.0, h.2)
   | inr past ↦ absurd (omega (arith, past.0))
 ]
-
-nil_left : {X : Type 0} (xs ys : List X) → xs ++ ys ≡ [] → xs ≡ []
-nil_left [] ys e = refl
-nil_left (x ∷ xs) ys e = cc
-
-nil_right : {X : Type 0} (xs ys : List X) → xs ++ ys ≡ [] → ys ≡ []
-nil_right [] ys e = e
-nil_right (x ∷ xs) ys e = cc
 
 -- an element of a list that is longer by one
 before_or_last : {X : Type 0} (P : X → Type 0) (xs : List X) (y : X)
@@ -40,8 +33,8 @@ parts_of_none : {X Y : Type 0} (IsPart : X → List Y → Type 0) (xs : List X) 
 parts_of_none IsPart xs ys none e i x at = cc
 parts_of_none IsPart xs ys (more before y those part are is) e i x at =
     before_or_last (λ w. IsPart w []) before y
-    (λ k w here. parts_of_none IsPart before those are (nil_left those part e) k w here)
-    (subst (IsPart y) (nil_right those part e) is) i x at
+    (λ k w here. parts_of_none IsPart before those are (none_first those part e) k w here)
+    (subst (IsPart y) (none_second those part e) is) i x at
 
 none_due : (m : Moment) (i : ℕ) (e : Event) (due : Option Due) → [] ≡ due_at i due
     → ((f : Event) → IsDue (length m.nodes) due f ↔ MayCome m i f) → ¬ (MayCome m i e)

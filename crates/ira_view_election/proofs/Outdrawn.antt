@@ -18,7 +18,7 @@ use Rattle.ira_view_moment.specs.declared.node_progress.NodeProgress.{NodeProgre
 use Rattle.ira_view_moment.specs.Rounds.{AreRounds, DrawnRound, drawn}
 use Rattle.ira_view_moment.specs.Those.{AreThosePlaces}
 use Rattle.ira_view_moment.specs.declared.rounds.Round.{Round}
-use Rattle.ira_view_moment.proofs.Progress.{one_state}
+use Rattle.ira_view_moment.proofs.Progress.{one_end}
 
 any_drawn : {A : Type 0} (p : DrawnRound → Bool) (rounds : List (Round A))
     → list_any p (map drawn rounds) ≡ list_any (λ r. p (drawn r)) rounds
@@ -86,7 +86,7 @@ state_at logs cut m is i state is_in = elim (slice_get_cases m.nodes i).1 [
       let p = is.nodes i is_in.log found.0 is_in.at found.2 in (
         found.0,
         found.2,
-        one_state is_in.log.nodes (first_state is_in.log.initiator)
+        one_end is_in.log.nodes (first_state is_in.log.initiator)
             (take (slice_index cut i) is_in.log.events) found.0.state state p.state is_in.reached,
       )
   | inr past ↦ absurd (omega (arith, past.0, is.places, slice_get_within logs i is_in.log is_in.at))

@@ -2,9 +2,7 @@
 use Rattle.std.proofs.Common.{◌≡◌, ℕ, zero, suc, ◌+◌, ◌<◌, ◌≤◌, ◌-◌, subst, arith}
 use Rattle.std.proofs.lemmas.Bool.Decides.{nat_tests}
 use Rattle.ira_order.specs.Ring.{next}
-
-next_up : (n i : ℕ) → i + 1 < n → next n i ≡ i + 1
-next_up n i l = grind (arith, nat_tests)
+use Rattle.ira_order.proofs.Runs.{next_up}
 
 next_last : (n i : ℕ) → i + 1 ≡ n → next n i ≡ 0
 next_last n i l = grind (arith, nat_tests)

@@ -1,5 +1,5 @@
 -- The k-th event of its kind in a log, counted along it.
-use Rattle.std.proofs.Common.{◌≡◌, ℕ, zero, suc, ◌+◌, ◌<◌, List, [], ◌∷◌, Option, Some, None, length, refl, ◌∙◌}
+use Rattle.std.proofs.Common.{◌≡◌, ℕ, zero, suc, ◌+◌, ◌<◌, List, [], Option, Some, None, length, refl, ◌∙◌}
 use Rattle.std.proofs.Common.{ap, arith, take, drop, add-one}
 use Rattle.std.specs.Prelude.{MatchOption, slice_get}
 use Rattle.std.proofs.lemmas.List.{take_all}
@@ -14,24 +14,9 @@ use Rattle.ira_order.proofs.OrderPrefixes.{counted_more}
 use Rattle.ira_order.proofs.Pairing.{numbered-past}
 use Rattle.ira_order.proofs.Receipts.{none_ahead}
 use Rattle.ira_order.proofs.Places.{is_receipt, is_sending}
+use Rattle.ira_order.proofs.Runs.{load_at}
 use Rattle.ira_view_evidence.specs.declared.exchange.Exchange.{Exchange}
 use Rattle.ira_view_evidence.specs.Exchange.{IsNth, IsNthGot, IsNthReceipt, IsNthSending, IsNthSent}
-
--- the load of an event is the one after those before it
-pub counted_load : (h : Event → Option Load) (es : List Event) (n : ℕ) (e : Event) (x : Load) → slice_get es n ≡ Some e
-    → h e ≡ Some x → numbered (filter_map h es) (suc (length (filter_map h (take n es)))) ≡ Some x
-counted_load h [] n e x is has = cc
-counted_load h (d ∷ es) zero e x is has =
-    let same : d ≡ e = cc in
-    let first : h d ≡ Some x = ap h same ∙ has in
-    rw first refl
-counted_load h (d ∷ es) (suc n) e x is has =
-    rest (h d) (filter_map h es) (filter_map h (take n es)) (counted_load h es n e x is has)
-  where
-    rest : (o : Option Load) (xs ys : List Load) → numbered xs (suc (length ys)) ≡ Some x
-        → numbered (cons_option o xs) (suc (length (cons_option o ys))) ≡ Some x
-    rest None xs ys at = at
-    rest (Some y) xs ys at = at
 
 -- there is no k-th of fewer
 none_numbered : (xs : List Load) (k : ℕ) → (0 < k → length xs < k) → numbered xs k ≡ None
@@ -56,7 +41,7 @@ pub nth : (h : Event → Option Load) (i : ℕ) (es : List Event) (n k : ℕ) (e
     → IsNth h i es k (record { at = record { place = i; position = n + 1 }; load = x })
 nth h i es n k e x is has number =
     let at : numbered (filter_map h es) (suc (length (filter_map h (take n es)))) ≡ Some x =
-    counted_load h es n e x is has in
+    load_at h es n e x is has in
     let count : k ≡ suc (length (filter_map h (take n es))) = omega (arith, number) in
     let one : length (cons_option (h e) []) ≡ 1 = ap (λ o. length (cons_option o [])) has in
     record {

@@ -7,9 +7,8 @@ use Rattle.std.proofs.lemmas.List.{length-append, take-append-le, take_more}
 use Rattle.std.proofs.lemmas.Option.{same_Some, get_or_from_slice_get, slice_get-get_or, slice_get_within}
 use Rattle.ira_event.specs.Log.{Log}
 use Rattle.ira_pred.specs.Case.{Conjunct}
-use Rattle.ira_order.specs.Before.{Before, own, onward}
-use Rattle.ira_order.proofs.Acyclic.{before_within}
-use Rattle.ira_order.proofs.Bridge.{before_places}
+use Rattle.ira_order.specs.Before.{Before, own}
+use Rattle.ira_order.proofs.Acyclic.{before_earlier}
 use Rattle.ira_cert_text.specs.declared.cert_step.CertStep.{CertStep}
 use Rattle.ira_cert_text.specs.Certificate.{Section}
 use Rattle.ira_cert.specs.Conjuncts.{CandidatesOf, HasDifferentPlaces}
@@ -23,14 +22,6 @@ use Rattle.ira_view_evidence.specs.Absence.{ShowsAbsence}
 use Rattle.ira_view_evidence.specs.Elimination.{AreEliminations, AreOfSteps, IsAdded, IsCandidate, IsEliminated, IsElimination}
 use Rattle.ira_view_evidence.specs.Elimination.{IsFurther, ending, of_step}
 use Rattle.ira_order.proofs.Pushed.{pushed_cases, pushed_last, pushed_old}
-
--- an earlier event of the node happened before it too
-before_earlier : (logs : List Log) (i a b j c : ℕ) → 1 ≤ a → a ≤ b → Before logs i b j c → Before logs i a j c
-before_earlier logs i a b j c first le before = elim (cases_eq a b) [
-  | inl same ↦ subst (λ (k : ℕ). Before logs i k j c) (sym same) before
-  | inr other ↦ onward (own refl (before_places logs i b j c before).0 first (omega (arith, le, other))
-      (before_within logs i b j c before).1) before
-]
 
 -- lists with one more at their ends that are one have one last member, and are one before it
 last_pushed : {X : Type 0} → (xs ys : List X) (x y : X) → xs ++ x ∷ [] ≡ ys ++ y ∷ [] → (xs ≡ ys) × (x ≡ y)

@@ -5,11 +5,6 @@ use Rattle.std.proofs.Math.Seq.{drop-append_seam}
 use Rattle.ira_event.specs.declared.load.Load.{Load}
 use Rattle.ira_view_evidence.specs.LinkCause.{BeginsWith, GoesOn, IsTwice}
 
--- what stands after the same front is the same
-pub after_front : (front xs ys : List Load) → front ++ xs ≡ front ++ ys → xs ≡ ys
-after_front [] xs ys e = e
-after_front (x ∷ front) xs ys e = after_front front xs ys (let rest : front ++ xs ≡ front ++ ys = cc in rest)
-
 -- what stands after a front of this length
 pub drop_front : (n : ℕ) (loads front after : List Load) → length front ≡ n → loads ≡ front ++ after
     → drop n loads ≡ after

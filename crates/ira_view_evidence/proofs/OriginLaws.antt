@@ -1,11 +1,10 @@
 -- Where to begin, of events without a step: there is such an event, and all that happened before it has steps.
-use Rattle.std.proofs.Common.{◌≡◌, ℕ, zero, suc, ◌+◌, ◌<◌, ◌≤◌, ◌⊎◌, inl, inr, false, get_or, List, [], ◌∷◌, ◌++◌, Some}
-use Rattle.std.proofs.Common.{drop, length, refl, sym, ◌∙◌, ap, subst, arith, take, length-append}
+use Rattle.std.proofs.Common.{◌≡◌, ℕ, zero, suc, ◌+◌, ◌<◌, ◌≤◌, ◌⊎◌, inl, inr, false, get_or, List, [], ◌∷◌, Some}
+use Rattle.std.proofs.Common.{length, refl, sym, ◌∙◌, ap, subst, arith, take, length-append}
 use Rattle.std.specs.Prelude.{slice_get}
 use Rattle.std.proofs.lemmas.Bool.{cases_eq, cases_lt}
-use Rattle.std.proofs.lemmas.List.{take-append-drop, take-append-le}
+use Rattle.std.proofs.lemmas.List.{take-append-le}
 use Rattle.std.proofs.lemmas.Option.{slice_get-get_or, slice_get_within}
-use Rattle.ira_event.specs.declared.event.Event.{Event}
 use Rattle.ira_event.specs.Log.{Log}
 use Rattle.ira_node.specs.NodeState.{first_state}
 use Rattle.ira_node.specs.declared.node_state.NodeState.{NodeState}
@@ -18,7 +17,7 @@ use Rattle.ira_order.proofs.Acyclic.{before_stands, before_within, place_of}
 use Rattle.ira_order.proofs.FaultyEvents.{is_stop, same_stop, stop_of}
 use Rattle.ira_order.proofs.HasCounts.{before_decided}
 use Rattle.ira_replay.specs.LocalRun.{IsLocalRun, LeadsTo}
-use Rattle.ira_replay.proofs.Alike.{leads_split}
+use Rattle.ira_replay.proofs.Alike.{leads_prefix}
 use Rattle.ira_replay.proofs.FirstFaults.{run_or_fault, run_or_stop}
 use Rattle.ira_order.specs.declared.faulty_event.FaultyEvent.{FaultyEvent}
 use Rattle.ira_view_evidence.specs.Origin.{HappenedBefore, IsOrigin, IsEventAt}
@@ -107,27 +106,18 @@ some_origin logs named has is =
     let here = place_of logs has.1 has.2 named.at.place named.at.position event.place event.first event.last in
     go_back logs has.1 has.2 has.0 (here.0 + 1) named here.0 (omega arith) here.1 is
 
--- the beginning of what leads on leads on
-leads_begun : (n : ℕ) (s : NodeState) (es : List Event) (t : NodeState) (b : ℕ) → LeadsTo n s es t → (u : NodeState)
-    × LeadsTo n s (take b es) u
-leads_begun n s es t b leads =
-    let parts : LeadsTo n s (take b es ++ drop b es) t =
-    subst (λ xs. LeadsTo n s xs t) (sym (take-append-drop b es)) leads in
-    let split = leads_split n s (take b es) (drop b es) t parts in
-    (split.0, split.1)
-
 pub steps_before : (logs : List Log) (s : FaultyEvent) (j b : ℕ) (log : Log) → IsOrigin logs s
     → Before logs j b s.at.place s.at.position → slice_get logs j ≡ Some log
     → (t : NodeState) × LeadsTo log.nodes (first_state log.initiator) (take b log.events) t
 steps_before logs s j b log is before at = elim (run_or_stop log) [
-  | inl run ↦ leads_begun log.nodes (first_state log.initiator) log.events run.0 b run.1
+  | inl run ↦ leads_prefix log.nodes (first_state log.initiator) log.events run.0 b run.1
   | inr stops ↦ elim (cases_lt b stops.0.position) [
     | inl low ↦
         let f = stops.1 in
         let short : b ≤ length stops.1.before = omega (arith, low, stops.1.position) in
         let front : take b log.events ≡ take b stops.1.before =
         ap (take b) stops.1.parts ∙ take-append-le b stops.1.before (stops.1.event ∷ stops.1.after) short in
-        let begun = leads_begun log.nodes (first_state log.initiator) stops.1.before stops.1.state b stops.1.leads in
+        let begun = leads_prefix log.nodes (first_state log.initiator) stops.1.before stops.1.state b stops.1.leads in
         (begun.0, subst (λ xs. LeadsTo log.nodes (first_state log.initiator) xs begun.0) (sym front) begun.1)
     | inr high ↦
         let stop = is_stop logs j log stops.0 at stops.1 in

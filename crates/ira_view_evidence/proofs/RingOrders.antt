@@ -3,12 +3,12 @@ use Rattle.std.proofs.Common.{◌≡◌, ◌≢◌, ℕ, ◌<◌, List, [], ◌�
 use Rattle.std.specs.Prelude.{slice_get}
 use Rattle.std.proofs.lemmas.Option.{slice_get_within}
 use Rattle.std.proofs.lemmas.Bool.{cases_lt}
+use Rattle.std.proofs.lemmas.List.{append_cancel_left}
 use Rattle.ira_event.specs.declared.event.Event.{Event}
 use Rattle.ira_event.specs.declared.load.Load.{Load}
 use Rattle.ira_event.specs.Log.{Log}
 use Rattle.ira_order.specs.Matching.{got, sent}
 use Rattle.ira_view_evidence.specs.RingOrder.{IsRingOrder, StandsAt, Takes}
-use Rattle.ira_view_evidence.proofs.Fronts.{after_front}
 
 -- the same loads were taken so far on both sides
 pub record TakenSoFar (writer reader sendings receipts : List Event) : Type 0 where
@@ -42,7 +42,7 @@ left_alike : (writer reader s r : List Event) → TakenSoFar writer reader s r �
     → (rest : List Load) × (sent s ≡ got r ++ rest)
 left_alike writer reader s r t h = (
   h.0,
-  after_front t.taken (sent s) (got r ++ h.0) (sym t.sent_is ∙ (h.1
+  append_cancel_left t.taken (sent s) (got r ++ h.0) (sym t.sent_is ∙ (h.1
       ∙ (ap (λ (z : List Load). z ++ h.0) t.received_is ∙ append_assoc t.taken (got r) h.0))),
 )
 

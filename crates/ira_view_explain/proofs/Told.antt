@@ -8,8 +8,3 @@ pub told_as : {A E : Type 0} (P : List (Evidence A) → Type 0) (r : Result (Exp
     → IfOk r (λ x. x.evidence.items ≡ told) → P told → IfOk r (λ x. P x.evidence.items)
 told_as P (Ok x) told same p = subst P (sym same) p
 told_as P (Err e) told same p = tt
-
--- what follows from what holds of it
-pub also : {X E : Type 0} (P Q : X → Type 0) (r : Result X E) → ((x : X) → P x → Q x) → IfOk r P → IfOk r Q
-also P Q (Ok x) so p = so x p
-also P Q (Err e) so p = tt

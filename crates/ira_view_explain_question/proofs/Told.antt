@@ -1,5 +1,5 @@
 -- What is told of eliminations.
-use Rattle.std.proofs.Common.{◌≡◌, ◌∙◌, ℕ, ◌-◌, ◌≤◌, List, ◌++◌, ap, arith, inl, inr, length, min, sym, take}
+use Rattle.std.proofs.Common.{◌≡◌, ◌∙◌, ℕ, ◌-◌, ◌≤◌, List, ◌++◌, ap, arith, length, min, take}
 use Rattle.std.specs.List.{flat_map}
 use Rattle.ira_event.specs.Log.{Log}
 use Rattle.ira_pred.specs.Case.{Conjunct}
@@ -9,20 +9,10 @@ use Rattle.ira_view_evidence.specs.Absence.{ShowsAbsence}
 use Rattle.ira_view_evidence.specs.declared.absence.Absence.{Absence}
 use Rattle.ira_view_explain_question.specs.declared.case_finding.CaseFinding.TheVariants as finding
 use Rattle.ira_view_explain_question.specs.CaseFinding.{IsCaseFinding}
-use Rattle.std.proofs.lemmas.Bool.{cases_eq}
 use Rattle.std.proofs.lemmas.List.{take_all}
 use Rattle.ira_view_evidence.specs.declared.elimination.Elimination.{Elimination}
 use Rattle.ira_view_explain_question.specs.CaseFinding.{more_eliminations_text}
-
--- the first of them, or all where there are no more
-pub take_first : {X : Type 0} (xs : List X) (m n : ℕ) → m ≡ min (length xs) n → take m xs ≡ take n xs
-take_first xs m n is = elim (cases_eq m n) [
-  | inl same ↦ ap (λ k. take k xs) same
-  | inr other ↦
-      (let first : length xs ≤ m = omega (arith, is, other) in
-      let more : length xs ≤ n = omega (arith, is, other) in
-      take_all m xs first ∙ sym (take_all n xs more))
-]
+use Rattle.ira_view_show.proofs.Lines.{take_shown}
 
 -- the first eliminations, and how many there are besides
 pub eliminations_told : (f : Elimination → List ℕ) (all : List Elimination) (told i : ℕ) → told ≡ min (length all) 12
@@ -31,7 +21,7 @@ pub eliminations_told : (f : Elimination → List ℕ) (all : List Elimination) 
     ≡ flat_map f (take 12 all) ++ more_eliminations_text (length all - 12)
 eliminations_told f all told i is past =
     let count : length all - told ≡ length all - 12 = omega (arith, is) in
-    let same : take i (take told all) ≡ take 12 all = take_all i (take told all) past ∙ take_first all told 12 is in
+    let same : take i (take told all) ≡ take 12 all = take_all i (take told all) past ∙ take_shown all told 12 is in
     ap (λ es. flat_map f es ++ more_eliminations_text (length all - told)) same
     ∙ ap (λ k. flat_map f (take 12 all) ++ more_eliminations_text k) count
 

@@ -1,5 +1,5 @@
 -- Nodes and links at a cut.
-use Rattle.std.proofs.Common.{◌≡◌, ℕ, zero, suc, ◌+◌, ◌<◌, ◌≤◌, inl, inr, Option, Some, None, List, [], ◌∷◌, ◌++◌}
+use Rattle.std.proofs.Common.{◌≡◌, ℕ, suc, ◌+◌, ◌<◌, ◌≤◌, inl, inr, Option, Some, None, List, [], ◌∷◌, ◌++◌}
 use Rattle.std.proofs.Common.{length, take, drop, get_or, refl, sym, ◌∙◌, ap, subst, arith, append-nil}
 use Rattle.std.specs.Prelude.{slice_get, slice_index}
 use Rattle.std.specs.List.{cons_option}
@@ -13,7 +13,6 @@ use Rattle.ira_event.specs.declared.event.Event.{Event}
 use Rattle.ira_event.specs.declared.event.Event.TheVariants.{Draw, Sent, Got, Yield}
 use Rattle.ira_event.specs.Log.{Log}
 use Rattle.ira_event.specs.Messages.{sending, receipt, sent, got}
-use Rattle.ira_order.specs.Before.{Before, own, message, onward}
 use Rattle.ira_order.specs.Cut.{IsConsistentCut}
 use Rattle.ira_order.specs.Matching.{Matches}
 use Rattle.ira_order.specs.Ring.{events_of, log_of, next, numbered}
@@ -21,20 +20,12 @@ use Rattle.ira_order.proofs.Bridge.{before_places, consistent_covers}
 use Rattle.ira_order.proofs.Pairing.{numbered-append}
 use Rattle.ira_order.proofs.Pushed.{found_in_push}
 use Rattle.ira_order.proofs.Ranks.{filter_map_more}
+use Rattle.ira_order.proofs.Acyclic.{before_within}
 use Rattle.ira_view_moment.specs.declared.node_progress.NodeProgress.{NodeProgress}
 use Rattle.ira_view_moment.specs.NodeProgress.{IsProgress}
 use Rattle.ira_view_moment.specs.Moment.{AreOnTheirWay, whole_cut}
 
 -- ---- the whole cut
-
-numbered_within : (es : List Event) (k : ℕ) (e : Event) → numbered es k ≡ Some e → k ≤ length es
-numbered_within es zero e at = omega arith
-numbered_within es (suc k) e at = omega (arith, slice_get_within es k e at)
-
-before_within : (logs : List Log) (i a j b : ℕ) → Before logs i a j b → a ≤ length (log_of logs i)
-before_within logs i a j b (own same l one lower upper) = omega arith
-before_within logs i a j b (message same pair) = numbered_within (log_of logs i) a _ pair.sends
-before_within logs i a j b (onward first second) = before_within logs _ _ _ _ first
 
 whole_at : (logs : List Log) (i : ℕ) → i < length logs → slice_index (whole_cut logs) i ≡ length (log_of logs i)
 whole_at logs i l = elim (slice_get_cases logs i).1 [
@@ -53,7 +44,7 @@ whole_is_consistent logs = (
   },
   λ i a j b before held. omega (
     arith,
-    before_within logs i a j b before,
+    (before_within logs i a j b before).1,
     whole_at logs i (before_places logs i a j b before).0,
   ),
 )

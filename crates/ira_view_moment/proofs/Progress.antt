@@ -19,19 +19,13 @@ use Rattle.ira_node.specs.StepAnswer.{answer}
 use Rattle.ira_node.proofs.Answers.{fault_gives, step_gives}
 use Rattle.ira_replay.specs.LocalRun.{IsLocalRun, LeadsTo}
 use Rattle.ira_replay.proofs.Reached.{same_next}
+pub use Rattle.ira_replay.proofs.Alike.{one_end}
 use Rattle.ira_order.specs.Tally.{sent_by, got_by}
 use Rattle.ira_order.proofs.OrderPrefixes.{rank_le, rank_more}
 use Rattle.ira_view_moment.specs.declared.node_progress.NodeProgress.{NodeProgress}
 use Rattle.ira_view_moment.specs.NodeProgress.{Reaches, IsDropped, IsNumberBelow, is_draw, IsProgress}
 
 -- ---- states along events
-
-pub one_state : (n : ℕ) (s : NodeState) (es : List Event) (t u : NodeState) → LeadsTo n s es t → LeadsTo n s es u
-    → t ≡ u
-one_state n s [] t u h k = h ∙ sym k
-one_state n s (e ∷ es) t u h k =
-    let F : NodeState → Type 0 = λ x. LeadsTo n x es u in
-    one_state n h.0 es t u h.2 (subst F (same_next n s e k.0 h.0 k.1 h.1) k.2)
 
 -- events all of which have steps go on from each state that they come to
 next_step : (n : ℕ) (s : NodeState) (es : List Event) (t u : NodeState) (a : ℕ) (e : Event) → LeadsTo n s es t
@@ -100,8 +94,8 @@ pub dropped_over : (log : Log) (a : ℕ) (p : NodeProgress) (t : NodeState) → 
 dropped_over log a p t is reached differs =
     number_over (IsDropped log) a p.dropped
     (λ h. differs
-    (one_state log.nodes (first_state log.initiator) (take (a + 1) log.events) t h.0 reached h.2
-    ∙ one_state log.nodes (first_state log.initiator) (take a log.events) h.0 p.state h.1 is.state))
+    (one_end log.nodes (first_state log.initiator) (take (a + 1) log.events) t h.0 reached h.2
+    ∙ one_end log.nodes (first_state log.initiator) (take a log.events) h.0 p.state h.1 is.state))
     is.dropped
 
 -- an event that is no receipt changes the state

@@ -1,16 +1,14 @@
 -- Parts of pages.
-use Rattle.std.proofs.Common.{◌≡◌, ◌∙◌, ℕ, Bool, false, List, [], ◌∷◌, ◌++◌, ◌-◌, Option, Some, None, ap, decimal}
+use Rattle.std.proofs.Common.{◌≡◌, ◌∙◌, ℕ, Bool, false, List, [], ◌∷◌, ◌++◌, ◌-◌, ap, decimal}
 use Rattle.std.proofs.Common.{length}
 use Rattle.std.proofs.Common.{map, nat_eq, refl, sym, take}
-use Rattle.std.specs.Prelude.{◌==◌, codes, if◌then◌else◌, option_map}
+use Rattle.std.specs.Prelude.{◌==◌, codes, if◌then◌else◌}
 use Rattle.std.specs.List.{enumerate_from, flat_map, list_any}
 use Rattle.std.proofs.lemmas.List.{take-map}
 use Rattle.std.proofs.lemmas.List.Folds.{flat_map-map}
 use Rattle.ira_event.specs.declared.load.Load.{Load}
 use Rattle.ira_view_moment.specs.Rounds.{DrawnRound, drawn}
 use Rattle.ira_view_moment.specs.declared.rounds.Round.{Round}
-use Rattle.ira_pred.specs.Case.{Conjunct}
-use Rattle.ira_pred.specs.Formula.{Formula}
 use Rattle.ira_view_show.proofs.Lines.{list_any-map}
 use Rattle.ira_view_moment.specs.Totals.{capped_sum}
 use Rattle.ira_view_show.specs.RoundLines.{beyond_text, head_cells, is_later, round_row, round_rows, rounds_text}
@@ -50,13 +48,3 @@ rounds_are rounds seen later same is =
     let rows : flat_map (λ r. round_row later (drawn r)) (take 20 rounds) ≡ flat_map (round_row later) (take 20 seen) =
     sym (flat_map-map (round_row later) drawn (take 20 rounds)) ∙ ap (flat_map (round_row later)) first in
     ap (λ more. table_row Plain (head_cells later) ∷ [] ++ more) rows ∙ ap (λ t. round_rows t seen) terms
-
--- what is asked of a node, by its parts
-pub conjunct_at : (o : Option Conjunct) (place : ℕ) (formula : Formula) → option_map (λ c. c.place) o ≡ Some place
-    → option_map (λ c. c.formula) o ≡ Some formula → o ≡ Some (record { place = place; formula = formula })
-conjunct_at None place formula p f = cc
-conjunct_at (Some c) place formula p f =
-    let make : ℕ → Formula → Conjunct = λ a b. record { place = a; formula = b } in
-    let a : c.place ≡ place = cc in
-    let b : c.formula ≡ formula = cc in
-    ap (λ n. Some (make n c.formula)) a ∙ ap (λ x. Some (make place x)) b

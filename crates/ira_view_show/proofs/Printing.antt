@@ -1,16 +1,12 @@
 -- Printable texts that are written one after the other.
-use Rattle.std.proofs.Common.{◌≡◌, ℕ, List, [], ◌++◌, Result, Ok, Err, refl, ◌∙◌}
-use Rattle.std.specs.Prelude.{nat_eq, ◌||◌}
-use Rattle.std.proofs.lemmas.List.Folds.{list_all-append}
+use Rattle.std.proofs.Common.{◌≡◌, ℕ, List, [], ◌++◌, Result, Ok, Err, refl}
 use Rattle.ira_event.specs.Sink.{SinkState, StopsIn, Takes}
 use Rattle.ira_event.proofs.Writing.{Appends-nothing, Takes-append, Takes-StopsIn}
-use Rattle.ira_view_page.specs.Printable.{IsPrintable, is_graphic}
+use Rattle.ira_view_page.specs.Printable.{IsPrintable}
 use Rattle.ira_view_page.specs.declared.show_fault.ShowFault.{ShowFault}
 use Rattle.ira_view_page.specs.declared.show_fault.ShowFault.TheVariants.{OutOfMemory, WrongColumns, Write}
+use Rattle.ira_view_page.proofs.Printables.{printable_append}
 use Rattle.ira_view_show.specs.Showed.{OfPrintable, Showed}
-
-pub printable_append : (a b : List ℕ) → IsPrintable a → IsPrintable b → IsPrintable (a ++ b)
-printable_append a b p q = list_all-append (λ c. is_graphic c || nat_eq c 10) a b ∙ rw p q
 
 -- nothing was taken yet
 pub none_taken : (s : SinkState) → OfPrintable (λ text. Takes text s s)

@@ -53,14 +53,6 @@ holds_more replies parts old new holds adds = (
       ∙ flat_map_more (λ (ps : List (List ℕ)). length ps ∷ map length ps) [] replies parts,
 )
 
--- one more of each
-pub zip_push : {X Y : Type 0} (R : X → Y → Type 0) (xs : List X) (ys : List Y) (x : X) (y : Y) → AllZip R xs ys → R x y
-    → AllZip R (xs ++ x ∷ []) (ys ++ y ∷ [])
-zip_push R [] [] x y all is = (is, tt)
-zip_push R [] (z ∷ ys) x y all is = absurd all
-zip_push R (z ∷ xs) [] x y all is = absurd all
-zip_push R (z ∷ xs) (w ∷ ys) x y all is = (all.0, zip_push R xs ys x y all.1 is)
-
 -- the parts of replies, with the status of the first, are told of them
 pub tells : (replies : List Reply) (first : Reply) (status : Status) (parts : List (List (List ℕ)))
     → slice_get replies 0 ≡ Some first → status ≡ first.status → AllZip AreParts replies parts

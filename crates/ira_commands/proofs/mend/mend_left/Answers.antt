@@ -1,5 +1,5 @@
 use Rattle.std.proofs.Common.{◌∙◌, ap, length, sym}
-use Rattle.ira_audit.proofs.Zipped.{zipped_length}
+use Rattle.std.proofs.lemmas.Slice.Zip.{AllZip-long}
 use Rattle.ira_mend.proofs.RecordedTexts.{left_length}
 use Rattle.ira_mend.specs.RecordedLogs.{SaysLost}
 use Rattle.ira_commands.proofs.Served.{if_ok}
@@ -19,7 +19,7 @@ tell_mended-requires-clause-lost g c =
     let texts = c.requires.0 in
     let left = (c.in-Ok.ensures texts c.requires.1).0 in
     ap length c.deref.ensures.value
-    ∙ zipped_length SaysLost texts c.in_ok-lost.lost.items (c.in_ok-lost.ensures texts c.requires.1)
+    ∙ AllZip-long SaysLost texts c.in_ok-lost.lost.items (c.in_ok-lost.ensures texts c.requires.1)
     ∙ sym (left_length 0 _ _ texts c.in-Ok.logs left.each)
 
 pub returns-in-Ok-mend : goal.returns-in-Ok-mend

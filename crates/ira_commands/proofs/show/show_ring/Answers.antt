@@ -1,6 +1,6 @@
 use Rattle.std.proofs.Common.{◌∙◌, sym}
+use Rattle.std.proofs.lemmas.Slice.Zip.{AllZip-long}
 use Rattle.ira_event.specs.LogText.{IsLogText}
-use Rattle.ira_audit.proofs.Zipped.{zipped_length}
 use Rattle.ira_audit.proofs.Judging.{refused_reason}
 use Rattle.ira_commands.proofs.Served.{if_ok}
 use Rattle.ira_commands.specs.Show.ShowsLogs.{good, no_ring, no_run}
@@ -9,7 +9,7 @@ use Rattle.ira_commands.proofs.show.show_ring.Goals as goal
 pub show_good-requires : goal.show_good-requires
 show_good-requires g c =
     let are = rw c.in-Good.is at c.requires.1 in
-    c.requires.2 ∙ sym (zipped_length IsLogText c.requires.0 c.in-Good.logs are.texts_are)
+    c.requires.2 ∙ sym (AllZip-long IsLogText c.requires.0 c.in-Good.logs are.texts_are)
 
 pub returns-in-Good : goal.returns-in-Good
 returns-in-Good g c = λ names texts judged told.

@@ -2,7 +2,7 @@ use Rattle.std.proofs.Common.{◌≡◌, ◌+◌, ◌++◌, ◌∷◌, [], ap, a
 use Rattle.std.proofs.lemmas.List.{length-append, length-drop}
 use Rattle.std.specs.Borrow.{Bor}
 use Rattle.std.specs.Vec.Iter.{into_iter_items}
-use Rattle.ira_audit.proofs.Zipped.{zipped_length}
+use Rattle.std.proofs.lemmas.Slice.Zip.{AllZip-long}
 use Rattle.ira_main.proofs.Folders.{told_more, told_whole, zipped_each, zipped_next}
 use Rattle.ira_main.specs.Each.{IsTold}
 use Rattle.ira_main.specs.declared.folder_answer.ToldFolder.{ToldFolder}
@@ -63,6 +63,6 @@ returns g c =
       arith,
       c.in-None.ensures.steps.0,
       c.loop-told.invariant.count,
-      zipped_length _ _ _ c.loop-told.invariant.left,
+      AllZip-long _ _ _ c.loop-told.invariant.left,
       length-drop (length answers) folders,
     ))

@@ -4,8 +4,8 @@ use Rattle.std.proofs.lemmas.List.{length-map}
 use Rattle.ira_event.specs.Log.{Log}
 use Rattle.ira_event.specs.LogText.{IsLogText}
 use Rattle.std.specs.Prelude.{List, None, Option}
+use Rattle.std.proofs.lemmas.Slice.Zip.{AllZip-long}
 use Rattle.ira_audit.proofs.Judging.{refused_reason}
-use Rattle.ira_audit.proofs.Zipped.{zipped_length}
 use Rattle.ira_audit.specs.RefusedLogs.{RefusedLogs}
 use Rattle.ira_audit.specs.declared.answer.Answer.TheVariants.{No}
 use Rattle.ira_audit.specs.declared.judged.Judged.TheVariants.{Refused}
@@ -38,7 +38,7 @@ add_logs-requires g c =
     let judged = rw c.in-Refused.is at c.requires in
     let files = c.args.files.now in
     sym (length-map files (λ (file : NamedText). file.text.now))
-    ∙ sym (zipped_length IsLogText (texts_of files) c.in-Refused.refused.logs judged.0)
+    ∙ sym (AllZip-long IsLogText (texts_of files) c.in-Refused.refused.logs judged.0)
     ∙ sym (ap length c.logs.ensures.value)
 
 pub returns : goal.returns

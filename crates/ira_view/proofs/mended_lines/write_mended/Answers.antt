@@ -9,7 +9,7 @@ use Rattle.std.proofs.lemmas.Slice.Zip.{length-zip}
 use Rattle.ira_event.specs.Log.{Log}
 use Rattle.ira_event.proofs.Writing.{HasWritten-more, HasWritten-stops}
 use Rattle.ira_ring_setup.proofs.EndLines.{drop-zip, next-text, HasWritten-whole}
-use Rattle.ira_view.proofs.Pairs.{pair_at}
+use Rattle.ira_view_show.proofs.Lines.{both_at}
 use Rattle.ira_view.specs.MendedLines.{mended_line, mended_lines}
 use Rattle.ira_view.proofs.mended_lines.write_mended.Goals as goal
 
@@ -27,7 +27,7 @@ next_line : (logs mended : List Log) (lost : List Bool) (i : ℕ) (d : Bool) (lo
     ≡ flat_map mended_line (drop i (zip (zip logs mended) lost))
 next_line logs mended lost i d log kept at at' l =
     let first = drop-zip (zip logs mended) lost i (log, kept) (slice_index_or lost i d)
-    (pair_at logs mended i log kept at at') (said_at lost i d l) in
+    (both_at logs mended i log kept at at') (said_at lost i d l) in
     next-text mended_line (mended_line ((log, kept), slice_index_or lost i d)) ((log, kept), slice_index_or lost i d)
     (drop i (zip (zip logs mended) lost)) (drop (i + 1) (zip (zip logs mended) lost)) refl first
 

@@ -2,9 +2,9 @@ use Rattle.std.proofs.Common.{◌≤◌, ap, arith, length}
 use Rattle.std.specs.List.{enumerate_from, flat_map}
 use Rattle.std.proofs.lemmas.List.{take_all}
 use Rattle.std.proofs.lemmas.List.FromFn.{length-enumerate_from}
+use Rattle.ira_pred.proofs.QuestionReading.{conjunct_at}
 use Rattle.ira_view_page.proofs.Adding.{added_as, added_at, element_at}
 use Rattle.ira_view_draw.specs.MomentLine.{asked_text}
-use Rattle.ira_view_draw.proofs.Lines.{conjunct_at}
 use Rattle.ira_view_draw.proofs.moment_line.write_case.Goals as goal
 
 pub loop-n-preserved : goal.loop-n-preserved

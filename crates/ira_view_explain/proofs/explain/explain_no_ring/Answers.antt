@@ -6,8 +6,8 @@ use Rattle.ira_audit.specs.declared.reason.Reason.{Reason}
 use Rattle.ira_view_page.specs.declared.named_text.NamedText.{NamedText}
 use Rattle.ira_view_explain.specs.Refused.{IsNoRingTold}
 use Rattle.ira_view_explain.proofs.LogFiles.{file_fault, file_there}
-use Rattle.ira_view_explain.proofs.Told.{also}
 use Rattle.ira_view_explain.proofs.explain.explain_no_ring.Goals as goal
+use Rattle.ira_view_show.proofs.Lines.{ok_then}
 
 pub explain_text-requires : goal.explain_text-requires
 explain_text-requires g c =
@@ -32,6 +32,6 @@ returns-in-Some-clause-told g c =
     let files = c.args.files.now in
     let lookup = c.in-Some.ensures.lookup in
     let there = slice_get_read files _ c.in-Log.number c.in-Some.file.now refl lookup.3.0 lookup.1 in
-    also _ _ c.explain_text.result (λ e told.
+    ok_then _ _ c.explain_text.result (λ e told.
     subst (λ (r : Reason). IsNoRingTold files r e.evidence.items) (sym c.in-Log.is) (c.in-Some.file.now, there, told))
     c.explain_text.ensures.told

@@ -3,8 +3,9 @@ use Rattle.std.specs.Prelude.{slice_index_or}
 use Rattle.std.specs.List.{AllZip}
 use Rattle.std.proofs.lemmas.List.{take_all}
 use Rattle.std.proofs.lemmas.Option.{slice_get-get_or}
+use Rattle.std.proofs.lemmas.Slice.Zip.{AllZip-long}
 use Rattle.ira_elim.specs.Found.{IsFound}
-use Rattle.ira_audit.proofs.Zipped.{zipped_at, zipped_length}
+use Rattle.ira_audit.proofs.Zipped.{zipped_at}
 use Rattle.ira_audit.specs.AskedQuestion.{AskedQuestion}
 use Rattle.ira_view_page.proofs.Adding.{◌&◌, holds, nothing_added}
 use Rattle.ira_view_page.specs.Counts.{counts}
@@ -13,8 +14,8 @@ use Rattle.ira_view_explain_question.specs.ChosenCases.{chosen_cases, rest_text}
 use Rattle.ira_view_explain_question.specs.ExplainedCase.{IsCaseOf, TellsCaseOf}
 use Rattle.ira_view_explain_question.proofs.Explained.{listed_within, zipped_next}
 use Rattle.ira_view_page.proofs.Parts.{part_more}
-use Rattle.ira_view_explain_question.proofs.Told.{take_first}
 use Rattle.ira_view_explain_question.proofs.explain.explain_cases.Goals as goal
+use Rattle.ira_view_show.proofs.Lines.{take_shown}
 
 pub loop-number-init : goal.loop-number-init
 loop-number-init g c = record {
@@ -29,7 +30,7 @@ case-case-requires g c =
     let asked = c.args.ring.now.asked.now in
     let here = listed_within c.deref.result.now c.in_ok-chosen.chosen.items c.min.result c.loop-number.number-index
     (length c.args.found.now) c.deref.ensures.value c.in_ok-chosen.ensures.within c.loop-number-test.true in
-    omega (arith, here, zipped_length (IsFound asked.logs) asked.question.cases c.args.found.now c.requires)
+    omega (arith, here, AllZip-long (IsFound asked.logs) asked.question.cases c.args.found.now c.requires)
 
 pub offset_bounds-found-number : goal.offset_bounds-found-number
 offset_bounds-found-number g c =
@@ -97,7 +98,7 @@ returns g c =
     let first : c.min.result ≡ min (length c.deref.result.now) 8 =
     omega (arith, c.min.ensures, c.len.ensures, c.deref.ensures.len) in
     let same : take i told ≡ take 8 all =
-    take_all i told c.loop-number-test.false ∙ take_first c.deref.result.now c.min.result 8 first ∙ ap (take 8) value in
+    take_all i told c.loop-number-test.false ∙ take_shown c.deref.result.now c.min.result 8 first ∙ ap (take 8) value in
     let count : c.len-2.result ≡ length all = omega (arith, c.len-2.ensures, c.deref.ensures.len, ap length value) in
     let page = holds c.in_ok-finish.field-0 c.new-page.ensures (so_far.added & c.print_rest.ensures)
     c.in_ok-finish.ensures in

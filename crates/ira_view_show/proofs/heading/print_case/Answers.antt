@@ -1,6 +1,6 @@
+use Rattle.ira_pred.proofs.QuestionReading.{conjunct_at}
 use Rattle.ira_view_show.specs.Asked.{conjunct_text}
 use Rattle.ira_view_show.proofs.Lines.{listed_at}
-use Rattle.ira_view_show.proofs.Parts.{conjunct_at}
 use Rattle.ira_view_show.proofs.heading.print_case.Goals as goal
 
 pub loop-n-preserved : goal.loop-n-preserved

@@ -3,13 +3,14 @@ use Rattle.std.proofs.Common.{rules}
 use Rattle.std.specs.List.{AllZip}
 use Rattle.std.proofs.lemmas.List.{take_all}
 use Rattle.std.proofs.lemmas.Option.{slice_get_read}
+use Rattle.std.proofs.lemmas.Slice.Zip.{AllZip-long}
 use Rattle.ira_event.specs.Log.{Log}
 use Rattle.ira_pred.specs.Case.{Conjunct}
 use Rattle.ira_elim.specs.Found.{IsFound}
 use Rattle.ira_audit.specs.declared.findings.Findings.TheVariants.{Cases}
 use Rattle.ira_audit.proofs.LogTexts.{next_taken}
 use Rattle.ira_audit.proofs.Counting.{list_of}
-use Rattle.ira_audit.proofs.Zipped.{as_many, zipped_more}
+use Rattle.ira_audit.proofs.Zipped.{zipped_more}
 use Rattle.ira_audit.proofs.asked_question.AskedQuestion.decide_counted.Goals as goal
 
 ok_into : {T E : Type 0} (P Q : T → Type 0) → ((x : T) → P x → Q x) → (r : Result T E) → IfOk r P → IfOk r Q
@@ -44,7 +45,7 @@ returns g c =
     let found = subst (λ (cs : List (List Conjunct)). AllZip (IsFound logs) cs so_far.0)
     (all ∙ c.cases-cases.ensures.value) so_far.1 in
     let few : length so_far.0 < 2 ^ 63 =
-    omega (arith, as_many (IsFound logs) asked.question.cases so_far.0 found, c.cases-cases.ensures.valid.count) in
+    omega (arith, AllZip-long (IsFound logs) asked.question.cases so_far.0 found, c.cases-cases.ensures.valid.count) in
     let list = list_of c.self.inside.alloc so_far.0 few in
     let findings = Cases (length logs) list.0 in
     let are = subst (λ (fs : List _). AllZip (IsFound logs) asked.question.cases fs) (sym list.1) found in
