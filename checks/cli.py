@@ -76,8 +76,7 @@ class Calls:
             assert found[0] == 2 and found[1] == '' and found[2], (words, found)
             self.lacking += 1
             return
-        # what stands below the line of a refused sentence the library doesn't say
-        if wanted[2].startswith('error: ') or words[:1] == ['ask']:
+        if wanted[2].startswith('error: '):
             found[2], wanted[2] = found[2].split('\n')[0], wanted[2].split('\n')[0]
             self.refused += 1
         assert found == wanted, (words, found, wanted)

@@ -29,6 +29,7 @@ LEAST = {
     'receipt missing': 69, 'receipt and its sending missing': 49, 'no receipts': 19, 'no resets': 1,
     'too many records': 6, 'log of another run': 20, 'two runs': 5, 'UTF-16': 18, 'NUL bytes': 12, 'place from 1': 6,
     'hop of a reset': 3, 'sent past a node': 33, 'head counted': 12, 'names exchanged': 33, 'log left out': 3,
+    'each record twice': 22, 'log in a buffer': 12,
 }
 FIELD = {1: 'round', 2: 'ID', 3: 'hop', 4: 'bit'}
 
@@ -109,6 +110,7 @@ RECORDS = {
     'sending twice': 'sent twice', 'receipt twice': 'came twice|recorded twice', 'sending missing': UNSENT,
     'receipt missing': 'receipts? (is|are) not recorded|a receipt too|never received',
     'receipt and its sending missing': 'both|(is|are) not recorded',
+    'each record twice': 'each record stands twice',
     'sent past a node': 'to the wrong node', 'no receipts': 'no receipt', 'no resets': 'no reset', 'too many records': 'at most 100,000 records',
 }
 
@@ -132,6 +134,7 @@ def records(logs):
                     case = planted('sent past a node', node, events[:at] + events[at + 2:])
                     case.logs[after] = initiator, [*past[:place], event, *past[place + 1:]]
                     yield case
+        yield planted('each record twice', node, [event for event in events for _ in (0, 1)])
         yield planted('no receipts', node, [event for event in events if event[0] != 'recv'])
     yield planted('too many records', 0, [*logs[0][1], *[('draw', '1')] * 100_001])
     rest = [(start, [e for e in events if e[0] != 'yield' and e[1] != 'reset']) for start, events in logs]
@@ -156,6 +159,7 @@ def texts(logs):
     for kind, wrong, right in (
             ('UTF-16', [text.decode().encode(code) for code in ('utf-16', 'utf-16-le', 'utf-16-be')], 'UTF-16'),
             ('NUL bytes', [b'\0' * len(text), b'\0'], 'NUL bytes'),
+            ('log in a buffer', [b'', text[:20]], 'before it had written'),
             ('bytes of no text', [b'a\0b', b'\0a\n', b'\0\0i\0'], NEVER),
             ('head counted', [re.sub(rb'end \d+', b'end %d' % (len(logs[0][1]) + more), text.replace(b'irlog 1', b'irlog 2'))
                               for more in (4, 5)], 'head is counted'),
@@ -202,6 +206,7 @@ def facts(case, link):
         (r'without receipt (\d+) all others .* node (\d+) is', lambda k, node: some(
             lambda s, r, i: i == node and (r[:k - 1] + r[k:])[:len(s)] == s[:len(r) - 1])),
         (r'sendings (\d+) and (\d+) are the same', lambda a, b: some(lambda s, r, i: s[a - 1] == s[b - 1] and a != b)),
+        (r'in the log of node (\d+) each record', lambda i: of(i)[::2] == of(i)[1::2]),
         (r'the logs? of nodes (\d+) and (\d+) have the same records', lambda a, b: a != b and of(a) == of(b)),
         (r'the log of node (\d+) (?:differs from|is that of a node).* node (\d+) sent .* node (\d+) received', beside),
         (r'differs from what node (\d+) sent and .*: perhaps node (\d+) records', lambda p, i: p == (i - 1) % n),

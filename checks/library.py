@@ -12,6 +12,7 @@ import os
 import random
 import re
 import resource
+import shlex
 import shutil
 import signal
 import struct
@@ -127,9 +128,7 @@ class Check(web.Check):
         if options.get('leads') is not None:
             # (the module has no more on who leads)
             page = re.sub(r'\n  A node leads once .*?\n\n', '\n', page, flags=re.S)
-        # (nor has it what stands below the line of a refused sentence)
-        told = err.decode().split('\n')[0] if name == 'ask' else err.decode().rstrip('\n')
-        wanted = [told if status == 2 else '', status, out.decode(), lines[0] if lines else None,
+        wanted = [err.decode().rstrip('\n') if status == 2 else '', status, out.decode(), lines[0] if lines else None,
                   lines[1:], [text.decode('latin1') for text in written], page if status < 2 else '']
         if name in ('pairs', 'ask') and status == 0:
             wanted = wanted[2]
@@ -180,9 +179,9 @@ class Check(web.Check):
                               for kind in ('ask', 'cert'))
         question = b'irask 1\nnodes 2\ncase\n0: leader\n1: active\ncase\n0: active\n1: passive\nend\n'
 
-        def of(name, words, *more, wrote=None, texts=texts, ask=question, **options):
-            names, words = options.get('names', [f'{i}.log' for i in range(len(texts))]), words.split()
-            files = [('question.ask', ask), ('question.cert', certificate), *zip(names, texts)]
+        def of(name, words, *more, wrote=None, texts=texts, asks=question, **options):
+            names, words = options.get('names', [f'{i}.log' for i in range(len(texts))]), shlex.split(words)
+            files = [('question.ask', asks), ('question.cert', certificate), *zip(names, texts)]
             self.named(name, [texts, *more], options, [*words, *names], files, wrote)
 
         by = {'question': question}
@@ -197,9 +196,9 @@ class Check(web.Check):
             of('explain', 'explain --question question.ask', **by, **names)
             of('explain', 'explain --question question.ask --case 0', **by, case=0, **names)
             both = '--question question.ask --cert question.cert'
-            of('explain', f'explain {both}', ask=never, question=never, certificate=certificate, **names)
-            of('check', f'check {both}', never, certificate, ask=never, **names)
-            of('decide', 'decide --question question.ask --out out/a.cert', never, wrote='out/a.cert', ask=never, **names)
+            of('explain', f'explain {both}', asks=never, question=never, certificate=certificate, **names)
+            of('check', f'check {both}', never, certificate, asks=never, **names)
+            of('decide', 'decide --question question.ask --out out/a.cert', never, wrote='out/a.cert', asks=never, **names)
             of('upgrade', 'upgrade --out out', **names)
             of('mend', 'mend --out out', **names)
             of('show', 'show', **names)
@@ -214,6 +213,14 @@ class Check(web.Check):
                 of('show', f'show --events {words} {leads}', events=True, **moment, **asked)
             of('draw', f'draw {words} --out out/a.html', wrote='out/a.html', page=True, **moment)
             of('draw', f'draw {words} --from 2 --to 3 --out out/a.svg', wrote='out/a.svg', columns=[2, 3], **moment)
+        for sentence in ('any leader, other active', 'any leader, other leader', 'node 1 active', 'any leading', 'leader'):
+            words = f'--ask "{sentence}"'
+            of('decide', f'decide {words} --out out/a.cert', None, wrote='out/a.cert', ask=sentence)
+            of('decide', f'decide {words}', None, texts=texts[:1], ask=sentence)
+            of('explain', f'explain {words} --case 0', ask=sentence, case=0)
+            of('explain', f'explain {words} --cert question.cert', ask=sentence, certificate=certificate)
+            of('show', f'show {words}', ask=sentence)
+            of('draw', f'draw {words} --out out/a.svg', wrote='out/a.svg', ask=sentence)
         for text in (texts[0], texts[0][:-2], b''):
             self.named('log', [text], {'name': '-'}, ['explain'], [], stdin=text)
             of('mend', 'mend --out out', texts=[text, b''])

@@ -80,7 +80,7 @@ done > "$made/below"
 # The numbers of requests to the module stand by their names, in this order, wherever they are sent from.
 requests_of() {
     sed 's|/\*.*\*/||; s/IRA_//' "$1" | tr -cs 'A-Za-z_' '\n' |
-        awk '/^LOG$/ { on = 1 } on && /^[A-Z_]+$/ { sub(/.*JSON.*/, "JSON"); print; if (/OVERVIEW/) exit }'
+        awk '/^LOG$/ { on = 1 } on && /^[A-Z_]+$/ { sub(/.*JSON.*/, "JSON"); print; if (/^ASK$/) exit }'
 }
 sed -n 's/^const \([A-Z_]*\): u64 = \([0-9]*\);$/\2 \1/p' crates/ira_web/src/request.rt | awk '$1 == n { print $2; n++ }' \
     > "$made/requests"

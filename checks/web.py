@@ -11,6 +11,7 @@ import http.server
 import io
 import json
 import os
+import shlex
 import subprocess
 import sys
 import tarfile
@@ -18,12 +19,13 @@ import tempfile
 import threading
 import time
 
+from cli import sentences
 from page import KEYS, READS, Browser, holds_event
 from pictures import HERE, Ring
 
 EXAMPLES = os.path.realpath(os.path.join(HERE, '..', 'examples'))
 LOG, LOGS, EXPLAIN_LOG, EXPLAIN, EXPLAIN_QUESTION, EXPLAIN_CERT, SHOW, EVENTS, DRAW, DECIDE, CHECK, PAIRS, UPGRADE, \
-    MEND, RUN, PAGE, AS_JSON, LEADERS, OVERVIEW = range(19)
+    MEND, RUN, PAGE, AS_JSON, LEADERS, OVERVIEW, ASK = range(20)
 ANY = 2 ** 64 - 1
 WITH_JSON = {LOGS, EXPLAIN_LOG, EXPLAIN, EXPLAIN_QUESTION, EXPLAIN_CERT, SHOW, EVENTS, DECIDE, CHECK, LEADERS}
 ALL = (0, 2 ** 64 - 1)
@@ -164,6 +166,7 @@ class Check:
             self.same(what, command, values, files, [*words, *names], wrote)
 
         ask(DECIDE, [], 'decide', *of, '--out', 'out/q.cert', wrote='out/q.cert')
+        assert self.ask(AS_JSON, [DECIDE, 1], files) == (4, []), what
         ask(EXPLAIN_QUESTION, [], 'explain', *of)
         ask(EXPLAIN_QUESTION, [0], 'explain', *of, '--case', '0')
         ask(SHOW, [2], 'show', *of)
@@ -189,6 +192,11 @@ class Check:
                     self.asked((folder, name), logs, texts[name], texts.get(name.replace('.ask', '.cert')))
         for nodes in (2, 3, 64, 255, 0, 1, 256):
             self.same('pairs', PAIRS, [nodes], [], ['pairs', str(nodes)])
+        for sentence in sentences():
+            status, (out, *err) = self.ask(ASK, [3], [('SENTENCE', sentence.encode())])
+            found, wanted = (status, [out, b''.join(err)]), self.run(['ask', '--nodes', '3', '--', sentence], [])
+            assert found == wanted, (sentence, found, wanted)
+            self.answers += 1
         names = ('--nodes', '--initiators', '--seed', '--draws', '--cap', '--terms')
         for values in ((2, 2, 17, 64, 10000, 2), (5, 1, 3, 64, 10000, 1), (8, 8, 2, 0, 9, 1), (3, 0, 1, 64, 99, 1)):
             words = [str(word) for pair in zip(names, values) for word in pair]
@@ -351,12 +359,17 @@ class Check:
         self.shows('a/: yes\nb\\x0a/: no: heads: number')
         self.load(logs, 'used')
         self.set('kind', 'pairs')
-        self.shows('case 0: absent, 0 steps, node 1 spent')
-        asked = [('two_leaders.ask', text_of(os.path.join(folder, 'two_leaders.ask'))), *logs]
-        words = ['decide', '--question', 'two_leaders.ask', '--out', 'out/q.cert', '0.log', '1.log']
-        self.saves('question.cert', self.run(words, asked, 'out/q.cert')[1][2])
+        self.shows('absent: no moment met its one case')
+        words = ['decide', '--ask', 'any leader, other leader', '--out', 'out/q.cert', '0.log', '1.log']
+        self.saves('question.cert', self.run(words, logs, 'out/q.cert')[1][2])
         self.set('kind', 'leads')
-        self.shows('case 0: present at 4 4\ncase 1: absent, 0 steps, node 1 spent')
+        self.shows('present: case 0, at 4 4; node 0 leader')
+        self.answers_are(logs, "$ ira decide --ask 'any leader' --out question.cert 0.log 1.log",
+                         "$ ira explain --ask 'any leader' 0.log 1.log")
+        self.set('question', 'any leading')
+        self.shows("$ ira ask --nodes 2 'any leading'")
+        _, (_, err) = self.run(['ask', '--nodes', '2', 'any leading'], [])
+        assert err.decode().rstrip('\n') in self.browser.run("return $('answers').textContent"), err
         self.set('question', text_of(os.path.join(folder, 'active_beside_passive.ask')).decode())
         self.shows('case 0: present at 2 3')
         self.set('moment', 'first')
@@ -438,7 +451,7 @@ class Check:
         lines = []
         for title, line, text in self.told()[2]:
             if line and 'draw' not in line:
-                _, (out, _, *_) = self.run(line.split()[2:], files)
+                _, (out, _, *_) = self.run(shlex.split(line)[2:], files)
                 assert text == out.decode().rstrip('\n'), (title, line, text, out)
                 lines.append(line)
         assert set(wanted) <= set(lines), (wanted, lines)

@@ -218,18 +218,6 @@ function asked(values, files) {
   return {status, out, err: LETTERS.decode(err), written};
 }
 
-// What is found for a sentence's question, the first of these files, in one line.
-function decided(files) {
-  const told = asked([ira.JSON_LINES, ira.DECIDE], files);
-  const [{answer}, ...cases] = LETTERS.decode(told.out).trimEnd().split('\n').map(line => JSON.parse(line));
-  if (answer != 'absent' && answer != 'present') return asked([ira.DECIDE], files);
-  const at = cases.find(it => it.found == 'present');
-  if (!at) return {...told, out: `absent: no moment met any of ${cases.length} cases\n`};
-  const asks = files[0][1].split('case\n')[at.case + 1].replace(/end\n$/, '').trimEnd().split('\n');
-  const clauses = asks.map(line => `; node ${line.replace(': ', ' ')}`).join('');
-  return {...told, out: `present: case ${at.case}, at ${at.cut.join(' ')}${clauses}\n`};
-}
-
 // As `logs --over --leads` and `explain --over --leads` say it of these files, with the first line of JSON.
 function expected(command, files, {over = false, json}, leads) {
   const texts = files.map(([, text]) => text), names = files.map(([name]) => name);
@@ -252,16 +240,19 @@ function featuresOf(files) {
   return {
     tie: some('round', it => it.drawn_by.length > 1), second_round: some('round', it => it.round > 1),
     second_term: some('node', it => it.term > 1), dropped: some('node', it => it.dropped),
+    wake_up: some('node', it => it.start == 'passive' && it.draws),
   };
 }
 
 // How many of the runs had what.
 function sumOf(runs, json) {
-  const [dropped, second_round, second_term, tie] = ['dropped', 'second_round', 'second_term', 'tie'].map(
-    name => runs.filter(run => run[name]).length);
-  if (json) return `${JSON.stringify({dropped, runs: runs.length, second_round, second_term, tie, type: 'sum'})}\n`;
+  const had = name => runs.filter(run => run[name]).length;
+  const [second_round, second_term] = [had('second_round'), had('second_term')];
+  const [tie, wake_up, dropped] = [had('tie'), had('wake_up'), had('dropped')];
+  const line = {dropped, runs: runs.length, second_round, second_term, tie, type: 'sum', wake_up};
+  if (json) return `${JSON.stringify(line)}\n`;
   return `of ${runs.length} runs: ${tie} with a tie, ${second_round} with a second round, ` +
-    `${second_term} with a second term, ${dropped} with a dropped message\n`;
+    `${second_term} with a second term, ${wake_up} with a wake-up, ${dropped} with a dropped message\n`;
 }
 
 function each(command, folders, said) {
@@ -349,7 +340,7 @@ function execute(command, said, input) {
         refuse("the ring's size is said either by --nodes <N> or by --dir <DIR>");
       }
       const nodes = said.nodes ?? ira.nodesOf(read(inFolder(said.dir, '0.log'))) ?? 0;
-      return {status: 0, out: ira.ask(Number(nodes), said.SENTENCE), err: ''};
+      return {status: 0, out: ira.ask(nodes, said.SENTENCE), err: ''};
     }
     case 'run': {
       if (!said.alone) fail('the module has no threads: run takes --alone here');
@@ -383,7 +374,7 @@ function execute(command, said, input) {
   const moment = asks ? [2, ...cases] : at === undefined ? [] : [1, ...at];
   switch (command) {
     case 'upgrade': return {...asked([ira.UPGRADE], files), folder: out};
-    case 'decide': return {...ask !== undefined && !json ? decided(files) : asked([...form, ira.DECIDE], files), file: out};
+    case 'decide': return {...asked([...form, ira.DECIDE, ...ask !== undefined && !json ? [1] : []], files), file: out};
     case 'check': return asked([...form, ira.CHECK], files);
     case 'show': return asked([...form, ...ira.led(leads), said.events ? ira.EVENTS : ira.SHOW, ...moment], files);
     case 'draw': {

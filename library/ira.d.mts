@@ -17,6 +17,7 @@ export interface Named {
 export interface Moment extends Named {
   at?: number[];
   question?: Text;
+  ask?: string;
   case?: number;
 }
 export interface Expected {
@@ -25,6 +26,7 @@ export interface Expected {
 }
 export interface Explained extends Named, Expected {
   question?: Text;
+  ask?: string;
   certificate?: Text;
   case?: number;
 }
@@ -36,7 +38,8 @@ export class Refused extends Error {
 export const YES: 0, NO: 1, REFUSED: 2, OUT_OF_MEMORY: 3, NO_REQUEST: 4, NO_ROOM: 5;
 export const LOG: number, LOGS: number, EXPLAIN_LOG: number, EXPLAIN: number, EXPLAIN_QUESTION: number,
   EXPLAIN_CERT: number, SHOW: number, EVENTS: number, DRAW: number, DECIDE: number, CHECK: number, PAIRS: number,
-  UPGRADE: number, MEND: number, RUN: number, PAGE: number, JSON_LINES: number, LEADERS: number, OVERVIEW: number;
+  UPGRADE: number, MEND: number, RUN: number, PAGE: number, JSON_LINES: number, LEADERS: number, OVERVIEW: number,
+  ASK: number;
 export const ANY: bigint, ALL: [bigint, bigint];
 
 export function serve(values: (number | bigint)[], files?: [string, Text][]): {status: number, parts: Uint8Array[]};
@@ -50,7 +53,7 @@ export function nodesOf(text: Text): number | null;
 export function led(leads?: number[] | 'any' | null): (number | bigint)[];
 export function show(texts: Text[], options?: Moment & {events?: boolean, leads?: number[] | 'any' | null}): Reply;
 export function draw(texts: Text[], options?: Moment & {columns?: (number | bigint)[], page?: boolean}): Reply;
-export function decide(texts: Text[], question: Text, options?: Named): Reply;
+export function decide(texts: Text[], question?: Text | null, options?: Named & {ask?: string}): Reply;
 export function check(texts: Text[], question: Text, certificate: Text, options?: Named): Reply;
 export function pairs(nodes: number): string;
 export function ask(nodes: number, sentence: string): string;

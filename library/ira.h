@@ -31,7 +31,8 @@ enum ira_request {
     IRA_SHOW,             /* what the ring looks like; a moment; logs */
     IRA_EVENTS,           /* an order of all events through it; a moment; logs */
     IRA_DRAW,             /* a picture, as a file; the first and the last column, and a moment; logs */
-    IRA_DECIDE,           /* what is found for the cases of a question, and a certificate as a file; a question, logs */
+    IRA_DECIDE,           /* what is found for the cases of a question, and a certificate as a file; nothing, or 1 for one
+                           * line of all cases; a question, logs */
     IRA_CHECK,            /* the answer of all three; a question, a certificate, logs */
     IRA_PAIRS,            /* the question whether two nodes ever lead at once; how many nodes */
     IRA_UPGRADE,          /* the logs in version 2, as files; logs */
@@ -42,8 +43,10 @@ enum ira_request {
     IRA_PAGE,             /* as IRA_DRAW, a page to move in the picture */
     IRA_JSON,             /* before IRA_LOGS to IRA_EVENTS, IRA_DECIDE and IRA_CHECK: JSON in place of other lines */
     IRA_LEADERS,          /* before IRA_SHOW and IRA_EVENTS: how many nodes are to lead, and their places; or IRA_ANY */
-    IRA_OVERVIEW          /* several of these, with a reply each, as crates/ira_web says: 0, 1 with a question, 2 with a
+    IRA_OVERVIEW,         /* several of these, with a reply each, as crates/ira_web says: 0, 1 with a question, 2 with a
                            * certificate too; the first and the last column, and a moment; these files, logs */
+    IRA_ASK               /* the question that a sentence stands for, or of one that is refused what stands below its
+                           * line, as a file; how many nodes; the sentence */
 };
 
 /* In place of how many nodes are to lead, and their places: any node. */

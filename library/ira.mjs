@@ -24,14 +24,14 @@ function moduleOfPage() {
 
 // The numbers of ira.h.
 export const [LOG, LOGS, EXPLAIN_LOG, EXPLAIN, EXPLAIN_QUESTION, EXPLAIN_CERT, SHOW, EVENTS, DRAW, DECIDE, CHECK, PAIRS,
-  UPGRADE, MEND, RUN, PAGE, JSON_LINES, LEADERS, OVERVIEW] = Array(19).keys();
+  UPGRADE, MEND, RUN, PAGE, JSON_LINES, LEADERS, OVERVIEW, ASK] = Array(20).keys();
 export const [YES, NO, REFUSED, OUT_OF_MEMORY, NO_REQUEST, NO_ROOM] = Array(6).keys();
 
 export const ANY = 2n ** 64n - 1n, ALL = [0n, 2n ** 64n - 1n];
 const PAGE_SIZE = 65536, FIRST = 2 ** 26, MOST = 2 ** 32, VALUES = 520, PARTS = 258;
 const encoder = new TextEncoder, decoder = new TextDecoder;
 
-// What the program refuses with status 2: the line that it says, and the reply with what it prints all the same.
+// What the program refuses with status 2: what it says, and the reply with what it prints all the same.
 export class Refused extends Error {
   constructor(line, reply) {
     super(line);
@@ -103,12 +103,22 @@ function asked(values, files = []) {
   const text = decoder.decode(out);
   const lines = values[0] == JSON_LINES ? text.split('\n').filter(Boolean).map(line => JSON.parse(line)) : [];
   const reply = {status, text, values: lines[0] ?? null, more: lines.slice(1), files: written, page: ''};
-  if (status == REFUSED) throw new Refused(decoder.decode(err).trimEnd(), reply);
+  // (what is written then is the page of a sentence)
+  const said = [err, ...written].map(part => decoder.decode(part)).join('').trimEnd();
+  if (status == REFUSED) throw new Refused(said, {...reply, files: []});
   return reply;
 }
 
 const ring = (texts, names) => texts.map((text, place) => [names?.[place] ?? `${place}.log`, text]);
 const named = (kind, text) => [[`question.${kind}`, text]];
+
+// The file of a question: of this text, or the one that a sentence stands for; none where neither is given.
+function questionOf(texts, question, sentence, isDue = false) {
+  const given = [question, sentence].filter(it => it != null).length;
+  if (given > 1 || given < isDue) throw new TypeError('a question is given either by its text or by `ask`, a sentence');
+  if (sentence == null) return question == null ? [] : named('ask', question);
+  return [['--ask', texts.length >= 2 && texts.length <= 255 ? ask(texts.length, sentence) : '']];
+}
 
 // The reply with the page of the same request without JSON, and lines after its first one.
 function paged(reply, values, files, said = '') {
@@ -133,15 +143,15 @@ export function logs(texts, {names, over = false, leads} = {}) {
   return {status, text: `${JSON.stringify(values)}\n`, values, more: [], files: [], page: ''};
 }
 
-// The answer for the logs of a ring, and why it is so, with `over` and `leads` as for `logs`; with a question what is
-// found for its cases, and why, of the case of a number or of the first ones; with a certificate too, the answer for
-// all three, and why.
-export function explain(texts, {question, certificate, case: number, names, over = false, leads} = {}) {
-  const files = [...question === undefined ? [] : named('ask', question),
-    ...certificate === undefined ? [] : named('cert', certificate), ...ring(texts, names)];
-  const values = certificate !== undefined ? [EXPLAIN_CERT] : question === undefined ? [EXPLAIN]
+// The answer for the logs of a ring, and why it is so, with `over` and `leads` as for `logs`; with a question, or `ask`,
+// a sentence that stands for one, what is found for its cases, and why, of the case of a number or of the first ones;
+// with a certificate too, the answer for all three, and why.
+export function explain(texts, {question, ask, certificate, case: number, names, over = false, leads} = {}) {
+  const of = questionOf(texts, question, ask, certificate !== undefined);
+  const files = [...of, ...certificate === undefined ? [] : named('cert', certificate), ...ring(texts, names)];
+  const values = certificate !== undefined ? [EXPLAIN_CERT] : !of.length ? [EXPLAIN]
     : [EXPLAIN_QUESTION, ...number === undefined ? [] : [number]];
-  const isExpected = question === undefined && (over || leads != null);
+  const isExpected = !of.length && (over || leads != null);
   const reply = isExpected && logs(texts, {names, over, leads});
   if (reply?.values?.answer != 'yes') return paged(asked([JSON_LINES, ...values], files), values, files);
   const [, ...lines] = decoder.decode(serve([...led(leads), SHOW], files).parts[0]).split('\n\n')[0].split('\n');
@@ -184,28 +194,29 @@ export function assertElection(folder, {leaders, over = true} = {}) {
 
 // The values and the files of a moment: where the logs end; when each node has made so many events; or the first that
 // meets a case of a question, of the one of a number or of any.
-function moment({at, question, case: number}) {
-  if (question !== undefined) return [[2, ...number === undefined ? [] : [number]], named('ask', question)];
-  return [at === undefined ? [] : [1, ...at], []];
+function moment(texts, {at, question, ask, case: number}) {
+  const of = questionOf(texts, question, ask);
+  return [of.length ? [2, ...number === undefined ? [] : [number]] : at === undefined ? [] : [1, ...at], of];
 }
 
 // A ring at a moment, with an order of all events where these are wanted. With places in `leads` the status says whether
 // these nodes lead when the logs end, and no other, so of an empty array whether nobody does; with 'any', whether some
 // node does.
 export function show(texts, {events = false, leads, names, ...when} = {}) {
-  const [values, files] = moment(when);
+  const [values, files] = moment(texts, when);
   return asked([JSON_LINES, ...led(leads), events ? EVENTS : SHOW, ...values], [...files, ...ring(texts, names)]);
 }
 
 // The answer's line, and a picture as the only file, or a page to move in it; without one where none is drawn.
 export function draw(texts, {columns = ALL, page = false, names, ...when} = {}) {
-  const [values, files] = moment(when);
+  const [values, files] = moment(texts, when);
   return asked([page ? PAGE : DRAW, ...columns, ...values], [...files, ...ring(texts, names)]);
 }
 
-// What is found for each case of a question; the only file is the certificate, where no case is met.
-export const decide = (texts, question, {names} = {}) =>
-  asked([JSON_LINES, DECIDE], [...named('ask', question), ...ring(texts, names)]);
+// What is found for each case of a question, or of that of a sentence; the only file is the certificate, where no case
+// is met.
+export const decide = (texts, question, {ask, names} = {}) =>
+  asked([JSON_LINES, DECIDE], [...questionOf(texts, question, ask, true), ...ring(texts, names)]);
 
 // The answer for logs, a question and a certificate.
 export const check = (texts, question, certificate, {names} = {}) =>
@@ -214,59 +225,8 @@ export const check = (texts, question, certificate, {names} = {}) =>
 // The question whether two nodes of a ring of so many ever lead at once.
 export const pairs = nodes => asked([PAIRS, nodes]).text;
 
-const words = ['any ', 'other ', 'each other ', 'all '], guide = '; see `ira guide questions`';
-const due = ['a sentence begins with `any CLAUSE`, `all CLAUSE` or `node P CLAUSE`',
-  'after `any CLAUSE` may stand `, other CLAUSE`, `, each other CLAUSE` or `, all CLAUSE`',
-  'after `other CLAUSE` may stand `, each other CLAUSE` or `, all CLAUSE`',
-  'after `each other CLAUSE` may stand `, all CLAUSE`', 'after `all CLAUSE` nothing may stand'];
-const dueOfNode = `after \`node \` a place and a clause are due, as \`node 3 leader\`${guide}`;
-const noEvents = [0, 1].map(place => `irlog 1\nnodes 2\nplace ${place}\nstart passive\nend 0\n`);
-const isClause = text => !text.includes('\n') &&
-  !decide(noEvents, `irask 1\nnodes 2\ncase\n0: ${text}\nend\n`).values.answer.startsWith('no');
-
 // The question whether a sentence on the nodes of a ring of so many ever holds.
-export function ask(nodes, sentence) {
-  const refuse = line => {
-    throw new Refused(`ira: ${line}`, {status: REFUSED, text: '', values: null, more: [], files: [], page: ''});
-  };
-  if (!(nodes >= 2 && nodes <= 255)) refuse('ring size');
-  if (encoder.encode(sentence).length > 65536) refuse('a sentence has at most 65,536 bytes');
-  if (sentence.startsWith('node ')) {
-    const [, place, clause] = /^node (0|[1-9]\d*) (.*)$/.exec(sentence) ?? refuse(dueOfNode);
-    if (!isClause(clause)) refuse(dueOfNode);
-    if (place >= nodes) refuse('SENTENCE names a node that the ring has not');
-    return `irask 1\nnodes ${nodes}\ncase\n${place}: ${clause}\nend\n`;
-  }
-  const clauses = Array(4);
-  let left = sentence, last = 0;
-  words.forEach((word, part) => {
-    if (!left?.startsWith(word) || (part == 1 || part == 2) && clauses[0] === undefined) return;
-    const comma = `${left},`.indexOf(','), rest = left.slice(comma);
-    clauses[part] = left.slice(word.length, comma);
-    if (rest && !rest.startsWith(', ') || !isClause(clauses[part])) {
-      refuse(`after \`${word}\` a clause is due, as \`leader\` or \`(active and round > 1)\`${guide}`);
-    }
-    left = rest ? rest.slice(2) : undefined;
-    last = part + 1;
-  });
-  if (left !== undefined) refuse(due[last] + guide);
-  const [first, second, , every] = clauses;
-  const asked = [...clauses.slice(0, 3)].map(clause => clause && every ? `(${clause} and ${every})` : clause ?? every);
-  if (!asked.every(clause => clause === undefined || isClause(clause))) {
-    refuse('with that of all nodes a clause is nested deeper than 32');
-  }
-  const places = [...Array(nodes).keys()];
-  const picks = first === undefined ? [[]] : second === undefined ? places.map(i => [i])
-    : places.flatMap(i => places.filter(j => i < j || i != j && first != second).map(j => [i, j]));
-  if (picks.length > 32385) refuse('a question has at most 32,385 cases');
-  let text = `irask 1\nnodes ${nodes}\n`;
-  for (const picked of picks) {
-    const clauseAt = place => asked[picked.includes(place) ? picked.indexOf(place) : 2];
-    text += `case\n${places.filter(clauseAt).map(place => `${place}: ${clauseAt(place)}\n`).join('')}`;
-    if (text.length > 2 ** 26 - 4) refuse('a question has at most 64 MiB');
-  }
-  return `${text}end\n`;
-}
+export const ask = (nodes, sentence) => asked([ASK, nodes], [['SENTENCE', sentence]]).text;
 
 // The logs of a ring in version 2, as files.
 export const upgrade = (texts, {names} = {}) => asked([UPGRADE], ring(texts, names));

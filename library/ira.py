@@ -29,7 +29,7 @@ _serve.argtypes = [ctypes.c_void_p, ctypes.c_size_t] * 6
 
 # The numbers of ira.h.
 LOG, LOGS, EXPLAIN_LOG, EXPLAIN, EXPLAIN_QUESTION, EXPLAIN_CERT, SHOW, EVENTS, DRAW, DECIDE, CHECK, PAIRS, UPGRADE, \
-    MEND, RUN, PAGE, JSON, LEADERS, OVERVIEW = range(19)
+    MEND, RUN, PAGE, JSON, LEADERS, OVERVIEW, ASK = range(20)
 YES, NO, REFUSED, OUT_OF_MEMORY, NO_REQUEST, NO_ROOM = range(6)
 
 ANY = 2 ** 64 - 1
@@ -48,7 +48,7 @@ class Reply(NamedTuple):
 
 
 class Refused(ValueError):
-    """What the program refuses with status 2: the line that it says, and the reply with what it prints all the same."""
+    """What the program refuses with status 2: what it says, and the reply with what it prints all the same."""
 
     def __init__(self, line, reply):
         super().__init__(line)
@@ -105,9 +105,10 @@ def serve(values, files=()):
 def _asked(values, files=()):
     status, (out, err, *written) = serve(values, files)
     lines = [json.loads(line) for line in out.splitlines()] if values[0] == JSON else []
-    reply = Reply(status, out.decode(), lines[0] if lines else None, lines[1:], written)
+    reply = Reply(status, out.decode(), lines[0] if lines else None, lines[1:], [] if status == REFUSED else written)
     if status == REFUSED:
-        raise Refused(err.decode().rstrip('\n'), reply)
+        # (what is written then is the page of a sentence)
+        raise Refused(b''.join([err, *written]).decode().rstrip('\n'), reply)
     return reply
 
 
@@ -117,6 +118,15 @@ def _ring(texts, names):
 
 def _named(kind, text):
     return [(f'question.{kind}', text)]
+
+
+def _question(texts, question, sentence, is_due=False):
+    """The file of a question: of this text, or the one that a sentence stands for; none where neither is given."""
+    if not is_due <= (question is not None) + (sentence is not None) <= 1:
+        raise TypeError('a question is given either by its text or by `ask`, a sentence')
+    if sentence is not None:
+        return [('--ask', ask(len(texts), sentence) if 2 <= len(texts) <= 255 else b'')]
+    return [] if question is None else _named('ask', question)
 
 
 def _paged(reply, values, files, said=''):
@@ -147,15 +157,16 @@ def logs(texts, names=None, over=False, leads=None):
     return Reply(status, json.dumps(values, separators=(',', ':')) + '\n', values, [], [])
 
 
-def explain(texts, question=None, certificate=None, case=None, names=None, over=False, leads=None):
-    """The answer for the logs of a ring, and why it is so, with `over` and `leads` as for `logs`; with a question what
-    is found for its cases, and why, of the case of a number or of the first ones; with a certificate too, the answer
-    for all three, and why."""
+def explain(texts, question=None, certificate=None, case=None, names=None, over=False, leads=None, ask=None):
+    """The answer for the logs of a ring, and why it is so, with `over` and `leads` as for `logs`; with a question, or
+    `ask`, a sentence that stands for one, what is found for its cases, and why, of the case of a number or of the first
+    ones; with a certificate too, the answer for all three, and why."""
+    asked = _question(texts, question, ask, certificate is not None)
     files, values = _ring(texts, names), [EXPLAIN]
     if certificate is not None:
-        files, values = _named('ask', question) + _named('cert', certificate) + files, [EXPLAIN_CERT]
-    elif question is not None:
-        files, values = _named('ask', question) + files, [EXPLAIN_QUESTION, *([] if case is None else [case])]
+        files, values = asked + _named('cert', certificate) + files, [EXPLAIN_CERT]
+    elif asked:
+        files, values = asked + files, [EXPLAIN_QUESTION, *([] if case is None else [case])]
     elif over or leads is not None:
         reply = logs(texts, names, over, leads)
         if reply.values['answer'] == 'yes':
@@ -198,31 +209,31 @@ def assert_election(folder, leaders=None, over=True):
         raise AssertionError(f'{folder}: {reply.page}')
 
 
-def _moment(at, question, case):
-    """The values and the files of a moment: where the logs end; when each node has made so many events; or the first
-    that meets a case of a question, of the one of a number or of any."""
-    if question is not None:
-        return [2, *([] if case is None else [case])], _named('ask', question)
-    return ([] if at is None else [1, *at]), []
+def _moment(at, asked, case):
+    """The values of a moment: where the logs end; when each node has made so many events; or the first that meets a
+    case of a question, of the one of a number or of any."""
+    return [2, *([] if case is None else [case])] if asked else [] if at is None else [1, *at]
 
 
-def show(texts, at=None, question=None, case=None, events=False, leads=None, names=None):
+def show(texts, at=None, question=None, case=None, events=False, leads=None, names=None, ask=None):
     """A ring at a moment, with an order of all events where these are wanted. With places in `leads` the status says
     whether these nodes lead when the logs end, and no other, so of an empty list whether nobody does; with 'any',
     whether some node does."""
-    values, asked = _moment(at, question, case)
-    return _asked([JSON, *_led(leads), EVENTS if events else SHOW, *values], asked + _ring(texts, names))
+    asked = _question(texts, question, ask)
+    values = [JSON, *_led(leads), EVENTS if events else SHOW, *_moment(at, asked, case)]
+    return _asked(values, asked + _ring(texts, names))
 
 
-def draw(texts, at=None, question=None, case=None, columns=ALL, page=False, names=None):
+def draw(texts, at=None, question=None, case=None, columns=ALL, page=False, names=None, ask=None):
     """The answer's line, and a picture as the only file, or a page to move in it; without one where none is drawn."""
-    values, asked = _moment(at, question, case)
-    return _asked([PAGE if page else DRAW, *columns, *values], asked + _ring(texts, names))
+    asked = _question(texts, question, ask)
+    return _asked([PAGE if page else DRAW, *columns, *_moment(at, asked, case)], asked + _ring(texts, names))
 
 
-def decide(texts, question, names=None):
-    """What is found for each case of a question; the only file is the certificate, where no case is met."""
-    return _asked([JSON, DECIDE], _named('ask', question) + _ring(texts, names))
+def decide(texts, question=None, names=None, ask=None):
+    """What is found for each case of a question, or of that of a sentence; the only file is the certificate, where no
+    case is met."""
+    return _asked([JSON, DECIDE], _question(texts, question, ask, True) + _ring(texts, names))
 
 
 def check(texts, question, certificate, names=None):
@@ -235,67 +246,10 @@ def pairs(nodes):
     return _asked([PAIRS, nodes]).text.encode()
 
 
-_PARTS_OF = b'any ', b'other ', b'each other ', b'all '
-_DUE = ('a sentence begins with `any CLAUSE`, `all CLAUSE` or `node P CLAUSE`',
-        'after `any CLAUSE` may stand `, other CLAUSE`, `, each other CLAUSE` or `, all CLAUSE`',
-        'after `other CLAUSE` may stand `, each other CLAUSE` or `, all CLAUSE`',
-        'after `each other CLAUSE` may stand `, all CLAUSE`', 'after `all CLAUSE` nothing may stand')
-_GUIDE = '; see `ira guide questions`'
-_NO_EVENTS = [b'irlog 1\nnodes 2\nplace %d\nstart passive\nend 0\n' % place for place in range(2)]
-
-
-def _is_clause(text):
-    question = b'irask 1\nnodes 2\ncase\n0: %s\nend\n' % text
-    return b'\n' not in text and not decide(_NO_EVENTS, question).values['answer'].startswith('no')
-
-
-def _refuse(line):
-    raise Refused(f'ira: {line}', Reply(REFUSED, '', None, [], []))
-
-
 def ask(nodes, sentence):
     """The question whether a sentence on the nodes of a ring of so many ever holds, as bytes."""
-    left = sentence.encode() if isinstance(sentence, str) else sentence
-    if not 2 <= nodes <= 255:
-        _refuse('ring size')
-    if len(left) > 65536:
-        _refuse('a sentence has at most 65,536 bytes')
-    if left.startswith(b'node '):
-        place, _, clause = left[5:].partition(b' ')
-        if not place.isdigit() or place[:1] == b'0' != place or not _is_clause(clause):
-            _refuse('after `node ` a place and a clause are due, as `node 3 leader`' + _GUIDE)
-        if len(place) > 3 or int(place) >= nodes:
-            _refuse('SENTENCE names a node that the ring has not')
-        return b'irask 1\nnodes %d\ncase\n%s: %s\nend\n' % (nodes, place, clause)
-    clauses, due = [None] * 4, 0
-    for part, word in enumerate(_PARTS_OF):
-        if left is None or not left.startswith(word) or (part in (1, 2) and clauses[0] is None):
-            continue
-        clauses[part], comma, left = left[len(word):].partition(b',')
-        if (comma and left[:1] != b' ') or not _is_clause(clauses[part]):
-            _refuse(f'after `{word.decode()}` a clause is due, as `leader` or `(active and round > 1)`{_GUIDE}')
-        left, due = left[1:] if comma else None, part + 1
-    if left is not None:
-        _refuse(_DUE[due] + _GUIDE)
-    *own, every = clauses
-    asked = [clause or every if None in (clause, every) else b'(%s and %s)' % (clause, every) for clause in own]
-    if not all(clause is None or _is_clause(clause) for clause in asked):
-        _refuse('with that of all nodes a clause is nested deeper than 32')
-    places, (first, second) = range(nodes), own[:2]
-    picks = [(None, None)] if first is None else [(i, None) for i in places] if second is None else \
-        [(i, j) for i in places for j in places if i < j or (i != j and first != second)]
-    if len(picks) > 32385:
-        _refuse('a question has at most 32,385 cases')
-    text = bytearray(b'irask 1\nnodes %d\n' % nodes)
-    for pick in picks:
-        text += b'case\n'
-        for place in places:
-            clause = asked[pick.index(place) if place in pick else 2]
-            if clause is not None:
-                text += b'%d: %s\n' % (place, clause)
-        if len(text) > 2 ** 26 - 4:
-            _refuse('a question has at most 64 MiB')
-    return bytes(text + b'end\n')
+    text = sentence.encode() if isinstance(sentence, str) else sentence
+    return _asked([ASK, nodes], [('SENTENCE', text)]).text.encode()
 
 
 def upgrade(texts, names=None):

@@ -57,7 +57,7 @@ function send(message) {
 }
 
 const [LOG, LOGS, EXPLAIN_LOG, EXPLAIN, EXPLAIN_QUESTION, EXPLAIN_CERT, SHOW, EVENTS, DRAW, DECIDE, CHECK, PAIRS,
-  UPGRADE, MEND, RUN, PAGE, AS_JSON, LEADERS, OVERVIEW] = Array(19).keys();
+  UPGRADE, MEND, RUN, PAGE, AS_JSON, LEADERS, OVERVIEW, ASK] = Array(20).keys();
 const ANY = 2n ** 64n - 1n;
 
 // The status of the first of so many commands, and what each prints and writes.
@@ -70,7 +70,8 @@ async function askAll(values, files, count) {
 const ask = async (values, files) => (await askAll(values, files, 1))[0];
 
 // ---- what is given ----
-let rings = new Map, chosen, logs = [], question = null, cert = null;
+let rings = new Map, chosen, logs = [], question = null, cert = null, unasked = null;
+const SENTENCES = {pairs: 'any leader, other leader', leads: 'any leader'};
 
 const kindOf = ({name, text}) => /(^|\/)leaders$/.test(name) ? 'leaders' : [['ask', 'irask '], ['cert', 'ircert '], ['log', 'irlog ']].find(([suffix, begins]) =>
   name.endsWith(`.${suffix}`) || decoder.decode(text.subarray(0, begins.length)) == begins)?.[0];
@@ -117,21 +118,19 @@ let certs = [];
 async function pickQuestion() {
   const kind = $('kind').value, {file} = $('kind').selectedOptions[0];
   cert = file && certs.find(({name}) => name.replace(/\.cert$/, '') == file.name.replace(/\.ask$/, '')) || null;
-  question = null;
-  if (kind == 'given') question = file;
-  if (kind == 'leads') question = {name: 'leads.ask', text: encoder.encode(leads(logs.length))};
-  if (kind == 'pairs' && logs.length > 1) {
-    const {out} = await told(() => ask([PAIRS, logs.length], [])) ?? {};
-    if (out) question = {name: 'two_leaders.ask', text: encoder.encode(out)};
+  [question, unasked] = [kind == 'given' ? file : null, null];
+  const typed = kind == 'hand' ? $('question').value || SENTENCES.leads : SENTENCES[kind];
+  if (typed?.startsWith('irask ')) question = {name: 'question.ask', text: encoder.encode(typed)};
+  else if (typed && logs.length > 1) {
+    const sentence = typed.trim(), files = [{name: 'SENTENCE', text: encoder.encode(sentence)}];
+    const made = await told(() => ask([ASK, logs.length], files));
+    if (made?.out) question = {name: '--ask', text: encoder.encode(made.out), sentence};
+    else if (made) unasked = {sentence, out: '', err: made.err + made.files.map(page => decoder.decode(page)).join('')};
   }
-  if (kind == 'hand') question = {name: 'question.ask',
-    text: encoder.encode($('question').value || leads(logs.length))};
-  $('question').hidden = !question;
-  if (question) $('question').value = decoder.decode(question.text);
+  $('question').hidden = !question && !unasked;
+  if (question || typed) $('question').value = typed ?? decoder.decode(question.text);
   judge();
 }
-const leads = nodes =>
-  `irask 1\nnodes ${nodes}\n${Array.from({length: nodes}, (_, i) => `case\n${i}: leader\n`).join('')}end\n`;
 
 function showGiven() {
   const button = (file, title, sign, change) => {
@@ -159,10 +158,13 @@ async function told(work) {
 }
 const number = (text, none) => /^\d{1,19}$/.test(text.trim()) ? BigInt(text.trim()) : text.trim() ? null : none;
 
+// The question, or its sentence, on a command line.
+const questionNamed = ({name, sentence}) => sentence ? `--ask ${quoted({name: sentence})}` : `--question ${quoted({name})}`;
+
 // The values of the moment, its question, and its words on a command line; nothing where it isn't one.
 function momentAsked() {
   const kind = $('moment').value;
-  if (kind == 'first' && question) return {values: [2], files: [question], words: `--question ${quoted(question)} `};
+  if (kind == 'first' && question) return {values: [2], files: [question], words: `${questionNamed(question)} `};
   if (kind != 'at') return {values: [], files: [], words: ''};
   const cut = $('at').value.split(',').map(text => number(text, null));
   return cut.includes(null) ? null : {values: [1, ...cut], files: [], words: `--at ${cut} `};
@@ -269,6 +271,7 @@ async function judge() {
     const [answer, why] = replies, [drawn, page] = replies.slice(end), {status} = answer;
     const leaders = leadersAsked(), isAsked = leaders?.values.length && !status;
     const led = isAsked && await ask([...leaders.values, SHOW], logs);
+    if (question?.sentence) replies[2] = await ask([DECIDE, 1], [question, ...logs]);
     if (!isNow()) return;
     const unmet = status ? '' : !why.out.endsWith('The election is over.\n') ? ', not over'
       : led.status || leaders?.none ? ', other leaders' : '';
@@ -276,6 +279,7 @@ async function judge() {
     $('json').append(asJson(`logs ${names}`, [LOGS], logs));
     add(answered('Why', `explain ${names}`, why, [EXPLAIN], logs));
     if (question) addQuestion(names, replies.slice(2, end), add);
+    if (unasked) add(piece('The question', `ask --nodes ${logs.length} ${quoted({name: unasked.sentence})}`, unasked));
     if (!moment) return fault('A moment is numbers with commas between them.');
     if (from == null || to == null) return fault('A column is a number.');
     const files = [...moment.files, ...logs], [svg] = drawn.files;
@@ -302,7 +306,7 @@ async function answerEach(add) {
   add(piece('Each folder', `logs --each ${namesOf(each)}`, {out}));
 }
 function addQuestion(names, [decided, explained, checked, certified], add) {
-  const of = `--question ${quoted(question)}`, files = [question, ...logs], [found] = decided.files;
+  const of = questionNamed(question), files = [question, ...logs], [found] = decided.files;
   add(answered('The question', `decide ${of} --out question.cert ${names}`, decided, [DECIDE], files,
     found && tag('p', {}, 'Save: ', save('question.cert', found), ', the certificate that no moment held it')));
   add(answered('The question, explained', `explain ${of} ${names}`, explained, [EXPLAIN_QUESTION], files));

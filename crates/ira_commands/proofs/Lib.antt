@@ -1,6 +1,7 @@
 pub mod OneByOne
 pub mod OneFindings
 pub mod OneMeeting
+pub mod OneReply
 pub mod OneStatus
 pub mod Outputs
 pub mod Overviews

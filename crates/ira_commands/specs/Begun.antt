@@ -1,10 +1,11 @@
 -- What is left of logs that break off, as texts.
-use Rattle.std.specs.Prelude.{◌≡◌, ℕ, List, map, true}
+use Rattle.std.specs.Prelude.{◌≡◌, ◌⊎◌, ℕ, List, map, true}
 use Rattle.ira_event.specs.Log.{Log}
 use Rattle.ira_event.specs.LogText.{log_text}
 use Rattle.ira_event.specs.Logs.{AreLogs}
 use Rattle.ira_event.specs.Sink.{Memory}
 use Rattle.ira_event.specs.declared.log_fault.LogFault.{LogFault}
+use Rattle.ira_event.specs.declared.log_fault.LogFault.TheVariants.{Head}
 use Rattle.ira_mend.specs.Mended.{IsGreatestOf}
 use Rattle.ira_mend.specs.RecordedLogs.{AreLeftTexts, BreaksOff}
 use Rattle.ira_audit.specs.declared.answer.Answer.{Answer}
@@ -13,9 +14,10 @@ use Rattle.ira_audit.specs.declared.reason.Reason.TheVariants as reason
 use Rattle.ira_view_page.specs.declared.named_text.NamedText.{NamedText}
 use Rattle.ira_view.specs.Texts.{AreFiles, texts_of}
 
--- the answer is no, since the text of a log breaks off
+-- the answer is no, since the text of a log breaks off, or begins with no head
 abbrev pub SaysBreaksOff : Answer → Type 0
-SaysBreaksOff answer = (place : ℕ) × (f : LogFault) × BreaksOff f × (answer ≡ No (reason.Log place f))
+SaysBreaksOff answer =
+    (place : ℕ) × (f : LogFault) × (BreaksOff f ⊎ (f ≡ Head)) × (answer ≡ No (reason.Log place f))
 
 -- these are the texts of the greatest consistent beginning of what is left of logs; a node of whose log no head is left is
 -- taken for an initiator

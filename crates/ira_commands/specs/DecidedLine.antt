@@ -1,5 +1,5 @@
 -- The line on what is found for the cases of a question.
-use Rattle.std.specs.Prelude.{◌≡◌, ◌++◌, ⊤, ℕ, List, [], ◌∷◌, Some, codes, decimal, length, slice_get, take}
+use Rattle.std.specs.Prelude.{◌≡◌, ◌==◌, ◌++◌, ⊤, ℕ, List, [], ◌∷◌, Some, codes, decimal, if◌then◌else◌, length, slice_get, take}
 use Rattle.std.specs.List.{flat_map}
 use Rattle.ira_audit.specs.Report.{numbered}
 use Rattle.ira_elim.specs.declared.decided.Decided.{Decided}
@@ -13,7 +13,8 @@ AreAbsent (Present cut ∷ rest) = ⊥
 
 -- the line where so many are
 abbrev pub absent_line : ℕ → List ℕ
-absent_line cases = codes "absent: no moment met any of " ++ decimal cases ++ codes " cases\n"
+absent_line cases = if cases == 1 then codes "absent: no moment met its one case\n"
+    else codes "absent: no moment met any of " ++ decimal cases ++ codes " cases\n"
 
 -- how the line begins where one isn't: with its number, from 0, and the position of each place
 abbrev pub present_text : ℕ → List ℕ → List ℕ

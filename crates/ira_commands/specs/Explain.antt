@@ -1,5 +1,5 @@
 -- What comes of explaining an answer.
-use Rattle.std.specs.Prelude.{◌≡◌, ◌++◌, ℕ, List, None, Option, codes, true}
+use Rattle.std.specs.Prelude.{◌≡◌, ◌⊎◌, ◌++◌, ℕ, List, [], None, Option, codes, true}
 use Rattle.ira_event.specs.Sink.{Memory}
 use Rattle.ira_mend.specs.RecordedLogs.{IsRecordedReason}
 use Rattle.ira_audit.specs.Judged.{IsJudged}
@@ -9,6 +9,7 @@ use Rattle.ira_audit.specs.TextRuns.{AreTextsOfRuns}
 use Rattle.ira_audit.specs.declared.answer.Answer.{Answer}
 use Rattle.ira_audit.specs.declared.answer.Answer.TheVariants.{No, Yes}
 use Rattle.ira_audit.specs.declared.reason.Reason.{Reason}
+use Rattle.ira_audit.specs.declared.reason.Reason.TheVariants as reason
 use Rattle.ira_audit.specs.declared.judged.Judged.{Judged}
 use Rattle.ira_view_election.specs.Election.{Standing}
 use Rattle.ira_view_page.specs.declared.explanation.Explanation.{Explanation}
@@ -41,19 +42,30 @@ pub record ExplainsTexts (A : Type 0) (form : Form) (files : List NamedText) (an
   pub runs : answer ≡ Yes → AreTextsOfRuns (texts_of files)
   pub told : ExplainsLogs A form files answer (printed (answer_status answer) text)
 
--- what stands above what is said of the rest of logs that break off
+-- what stands above what is said of what is left of logs
 abbrev pub begun_heading : List ℕ
 begun_heading = codes "\nWhat is left, as far as it fits together:\n\n"
 
--- this text explains the greatest consistent beginning of what is left of the logs in these files, or says why they aren't
--- what is left of the logs of one ring
-pub data ExplainsBegun (A : Type 0) (files : List NamedText) (text : List ℕ) : Type 0 where
-  begun : (others : List NamedText) (answer : Answer) (more : List ℕ) → AreBegunFiles files others
-      → ExplainsTexts A Words others answer more → text ≡ begun_heading ++ more → ExplainsBegun A files text
-  no_ring : (reason : Reason) → IsRecordedReason true (texts_of files) reason
-      → text ≡ begun_heading ++ report_line (No reason) → ExplainsBegun A files text
+-- the reason is of the text that the answer names
+abbrev pub IsOfSameText : Reason → Answer → Type 0
+IsOfSameText (reason.Log number fault) (No (reason.Log named other)) = number ≡ named
+IsOfSameText r answer = ⊥
 
--- in words more is said of texts that break off
+-- this text says for what reason files aren't what is left of the logs of one ring; nothing where it is of the text that
+-- this answer names
+abbrev pub TellsNoRing : Reason → Answer → List ℕ → Type 0
+TellsNoRing r first text = (¬ (IsOfSameText r first) × (text ≡ begun_heading ++ report_line (No r)))
+    ⊎ (IsOfSameText r first × (text ≡ []))
+
+-- this text explains the greatest consistent beginning of what is left of the logs in these files, which had this answer, or
+-- says why they aren't what is left of the logs of one ring
+pub data ExplainsBegun (A : Type 0) (files : List NamedText) (first : Answer) (text : List ℕ) : Type 0 where
+  begun : (others : List NamedText) (answer : Answer) (more : List ℕ) → AreBegunFiles files others
+      → ExplainsTexts A Words others answer more → text ≡ begun_heading ++ more → ExplainsBegun A files first text
+  no_ring : (r : Reason) → IsRecordedReason true (texts_of files) r → TellsNoRing r first text
+      → ExplainsBegun A files first text
+
+-- in words more is said of texts that break off, or begin with no head
 abbrev pub GoesOn : Form → Answer → Type 0
 GoesOn form answer = (form ≡ Words) × SaysBreaksOff answer
 
@@ -62,7 +74,7 @@ pub data ExplainsAll (A : Type 0) (form : Form) (files : List NamedText) (reply 
   alone : (answer : Answer) (text : List ℕ) → ExplainsTexts A form files answer text → ¬ (GoesOn form answer)
       → reply ≡ printed (answer_status answer) text → ExplainsAll A form files reply
   goes_on : (answer : Answer) (text more : List ℕ) → ExplainsTexts A form files answer text → GoesOn form answer
-      → ExplainsBegun A files more → reply ≡ printed (answer_status answer) (text ++ more) → ExplainsAll A form files reply
+      → ExplainsBegun A files answer more → reply ≡ printed (answer_status answer) (text ++ more) → ExplainsAll A form files reply
 
 -- the answer of logs, of a question and of a certificate, in these files, is explained
 abbrev pub ExplainsCheck : Type 0 → Form → AskedFiles → NamedText → Telling

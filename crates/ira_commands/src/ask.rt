@@ -2,11 +2,13 @@ ghost use Rattle.std.specs.Prelude.{IfOk, MatchResult};
 ghost use Rattle.ira_commands.specs.Ask.{AsksSentence, IsAskedText, RefusesSentence};
 
 use crate::command_fault::CommandFault;
+use crate::files::Files;
 use crate::reply::Reply;
 use ira_ask::{SentenceFault, ask};
 use ira_event::{MemorySink, OutOfMemory, write_bytes};
 use ira_ring::ring_size;
 use ira_view::Status;
+use ira_view_explain_question::explain_sentence;
 use std::alloc::Allocator;
 
 /// The text of the question that a sentence stands for, of a ring of so many nodes; any text where none has so many. Or what
@@ -27,7 +29,11 @@ pub fn asked_text<A: Allocator + Clone>(
         Ok(text) => Ok(Ok(text)),
         Err(fault) => match fault {
             SentenceFault::OutOfMemory => Err(OutOfMemory),
-            _ => Ok(Err(Reply::refused(alloc, CommandFault::NoSentence(fault)))),
+            _ => {
+                let page = explain_sentence(alloc.clone()?, sentence, fault)?;
+                let reply = Reply::refused(alloc, CommandFault::NoSentence(fault));
+                Ok(Err(reply.with_files(Files::Page(page))))
+            }
         },
     }
 }

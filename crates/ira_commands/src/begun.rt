@@ -10,23 +10,14 @@ use ira_mend::RecordedLogs;
 use ira_view_page::NamedText;
 use std::alloc::Allocator;
 
-/// Whether an answer is no since the text of a log breaks off.
+/// Whether an answer is no since the text of a log breaks off, or begins with no head.
 pub(crate) fn breaks_off(answer: &Answer) -> bool
     ensures { IsTrue result ↔ SaysBreaksOff answer.now }
 {
     match answer {
-        Answer::No(
-            Reason::Log {
-                fault: LogFault::Cut,
-                ..
-            },
-        ) => true,
-        Answer::No(
-            Reason::Log {
-                fault: LogFault::TooMany,
-                ..
-            },
-        ) => true,
+        Answer::No(Reason::Log { fault, .. }) => {
+            matches!(fault, LogFault::Cut | LogFault::TooMany | LogFault::Head)
+        }
         _ => false,
     }
 }

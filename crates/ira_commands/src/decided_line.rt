@@ -15,6 +15,10 @@ fn absent_line<A: Allocator>(alloc: A, cases: usize) -> Result<PageText<A>, OutO
     ensures { IfOk result (λ line. line ≡ absent_line cases) }
 {
     let mut page = Page::new(alloc);
+    if cases == 1 {
+        page.words("absent: no moment met its one case\n");
+        return page.finish();
+    }
     page.words("absent: no moment met any of ");
     page.number(cases as u64);
     page.words(" cases\n");

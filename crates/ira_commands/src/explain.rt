@@ -1,15 +1,16 @@
 ghost use Rattle.std.specs.Prelude.{◌≡◌, ◌↔◌, IfOk, IsTrue, codes, option_map};
 ghost use Rattle.ira_audit.specs.Judged.{IsJudged};
-ghost use Rattle.ira_audit.specs.Report.{IsReportable};
+ghost use Rattle.ira_audit.specs.Report.{IsReportable, IsReportableReason};
 ghost use Rattle.ira_view.specs.Texts.{texts_of};
 ghost use Rattle.ira_view_election.specs.Election.{standing_of};
 ghost use Rattle.ira_commands.specs.Explain.{AddsText, ExplainsAll, ExplainsBegun, ExplainsLog, ExplainsTexts, GoesOn};
+ghost use Rattle.ira_commands.specs.Explain.{IsOfSameText, TellsNoRing};
 ghost use Rattle.ira_commands.specs.Judging.{JudgesLog};
 ghost use Rattle.ira_commands.specs.Reply.{ExplainsAs};
 
 use crate::begun::{breaks_off, log_texts, name_texts, take_left};
 use crate::reply::Reply;
-use ira_audit::{Answer, Judged, Refusal, write_report};
+use ira_audit::{Answer, Judged, Reason, Refusal, write_report};
 use ira_event::{MemorySink, OutOfMemory, write_bytes};
 use ira_mend::greatest_beginning;
 use ira_view::{Form, Status, View, explain_text, explain_texts, take_texts, write_view_as};
@@ -17,7 +18,7 @@ use ira_view_election::Election;
 use ira_view_page::NamedText;
 use std::alloc::Allocator;
 
-/// What stands above what is said of the rest of logs that break off.
+/// What stands above what is said of what is left of logs.
 const HEADING: &[u8] = b"\nWhat is left, as far as it fits together:\n\n";
 
 /// An answer, and why it is so, in words or as JSON, with how the election stands where that is known.
@@ -69,26 +70,56 @@ fn write_explained<A: Allocator + Clone>(
     Ok(ring.view.answer)
 }
 
-/// Writes what is said of the greatest consistent beginning of what is left of logs in these files.
-fn write_begun<A: Allocator + Clone>(
-    alloc: A,
-    logs: &[NamedText<'_>],
+/// Whether a reason is of the text that an answer names.
+fn is_of_same_text(reason: Reason, answer: &Answer) -> bool
+    ensures { IsTrue result ↔ IsOfSameText reason answer.now }
+{
+    match (reason, *answer) {
+        (Reason::Log { number, .. }, Answer::No(Reason::Log { number: named, .. })) => {
+            number == named
+        }
+        _ => false,
+    }
+}
+
+/// Writes for what reason files aren't what is left of the logs of one ring, but where it is of the text that the answer
+/// which they had names.
+fn write_no_ring<A: Allocator>(
+    reason: Reason,
+    first: &Answer,
     text: &mut MemorySink<A>,
 ) -> Result<(), OutOfMemory>
-    ensures { IfOk result (λ done. AddsText (ExplainsBegun A logs.now) text.old text.new) }
+    requires { IsReportableReason reason }
+    ensures { IfOk result (λ done. AddsText (TellsNoRing reason first.now) text.old text.new) }
 {
+    if is_of_same_text(reason, first) {
+        return Ok(());
+    }
     let Ok(()) = write_bytes(HEADING, text) else {
         return Err(OutOfMemory);
     };
+    let Ok(()) = write_report(&Answer::No(reason), text) else {
+        return Err(OutOfMemory);
+    };
+    Ok(())
+}
+
+/// Writes what is said of the greatest consistent beginning of what is left of logs in these files, which had this answer.
+fn write_begun<A: Allocator + Clone>(
+    alloc: A,
+    logs: &[NamedText<'_>],
+    first: &Answer,
+    text: &mut MemorySink<A>,
+) -> Result<(), OutOfMemory>
+    ensures { IfOk result (λ done. AddsText (ExplainsBegun A logs.now first.now) text.old text.new) }
+{
     let left = match take_left(alloc.clone()?, logs)?.gather(true) {
         Ok(left) => left,
-        Err(Refusal::No(reason)) => {
-            let Ok(()) = write_report(&Answer::No(reason), text) else {
-                return Err(OutOfMemory);
-            };
-            return Ok(());
-        }
+        Err(Refusal::No(reason)) => return write_no_ring(reason, first, text),
         Err(Refusal::OutOfMemory) => return Err(OutOfMemory),
+    };
+    let Ok(()) = write_bytes(HEADING, text) else {
+        return Err(OutOfMemory);
     };
     let begun = greatest_beginning(alloc.clone()?, &left)?;
     let texts = log_texts(alloc.clone()?, &begun)?;
@@ -98,7 +129,7 @@ fn write_begun<A: Allocator + Clone>(
     Ok(())
 }
 
-/// Whether more is said than the answer and why it is so: in words, of texts that break off.
+/// Whether more is said than the answer and why it is so: in words, of texts that break off or begin with no head.
 fn goes_on(form: Form, answer: &Answer) -> bool
     ensures { IsTrue result ↔ GoesOn form answer.now }
 {
@@ -108,8 +139,8 @@ fn goes_on(form: Form, answer: &Answer) -> bool
     }
 }
 
-/// The answer of the logs of a ring in these files, and why it is so. In words, where the text of a log breaks off, the same of
-/// what is left of the logs, as far as it fits together.
+/// The answer of the logs of a ring in these files, and why it is so. In words, where the text of a log breaks off, even in its
+/// head, the same of what is left of the logs, as far as it fits together.
 pub(crate) fn explain_all<A: Allocator + Clone>(
     alloc: A,
     form: Form,
@@ -122,7 +153,7 @@ pub(crate) fn explain_all<A: Allocator + Clone>(
     let mut text = MemorySink::new(alloc.clone()?);
     let answer = write_explained(alloc.clone()?, form, logs, judged, &mut text)?;
     if goes_on(form, &answer) {
-        write_begun(alloc, logs, &mut text)?;
+        write_begun(alloc, logs, &answer, &mut text)?;
     }
     Ok(Reply::printed(Status::of_answer(&answer), text))
 }

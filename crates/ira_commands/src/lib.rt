@@ -42,7 +42,7 @@ pub use explain::explain_one;
 pub use files::Files;
 pub use given_files::GivenFiles;
 pub use json_lines::JsonLines;
-pub use laws::replies_have_one_status;
+pub use laws::{answers_have_one_reply, replies_have_one_status};
 pub use logs_command::LogsCommand;
 pub use mend::mend_left;
 pub use output::Output;

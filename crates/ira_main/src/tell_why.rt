@@ -7,7 +7,7 @@ use crate::program_fault::ProgramFault;
 use ira_ask::SentenceFault;
 use ira_commands::CommandFault;
 use ira_event::OutOfMemory;
-use ira_main_cli::{Request, read_words};
+use ira_main_cli::sentence_in;
 use ira_main_files::{FileEntry, TextSource};
 use ira_view::Status;
 use ira_view_explain_question::explain_sentence;
@@ -74,10 +74,8 @@ fn of_sentence<A: Allocator + Clone>(
 ) -> Result<Why<A>, OutOfMemory>
     ensures { IfOk result (λ why. IsPrintable (why_text why)) }
 {
-    let Ok(Request::Ask(asked)) = read_words(of_words, words) else {
-        return Ok(Why::Line(b""));
-    };
-    Ok(Why::Page(explain_sentence(alloc.clone()?, asked.sentence.as_bytes(), fault)?))
+    let sentence = sentence_in(of_words, words).unwrap_or("");
+    Ok(Why::Page(explain_sentence(alloc.clone()?, sentence.as_bytes(), fault)?))
 }
 
 /// What is told after the line of an outcome of these words: of a file that wasn't read or written a line, of a text

@@ -827,6 +827,13 @@ fn found_request<'a>(
     }
 }
 
+/// The sentence in these words, if they ask about one.
+pub fn sentence_in<'a>(alloc: Global, words: &'a [&'a str]) -> Option<&'a str> {
+    let matches = command(alloc).ok()?.try_get_matches_from(words).ok()?;
+    let (_, found) = matches.subcommand()?;
+    text(found, "ask").or(text(found, "SENTENCE"))
+}
+
 // What some words ask for.
 fn request_of_words<'a>(alloc: Global, words: &'a [&'a str]) -> Result<Request<'a>, Error>
     ensures made { IfOk result (IsMadeOf (map (λ word. word.now) words.now)) }

@@ -36,7 +36,7 @@ pub use asked_moment::AskedMoment;
 pub use asked_size::AskedSize;
 pub use case_selection::CaseSelection;
 pub use check_request::CheckRequest;
-pub use command_line::read_words;
+pub use command_line::{read_words, sentence_in};
 pub use decide_request::DecideRequest;
 pub use draw_request::DrawRequest;
 pub use each_request::EachRequest;

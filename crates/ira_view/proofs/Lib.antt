@@ -5,4 +5,5 @@ pub mod Moments
 pub mod Pictures
 pub mod Statuses
 pub mod Texts
+pub mod Woken
 pub mod Written

@@ -57,6 +57,7 @@ sum_words runs =
     ++ decimal (count_by (λ run. run.tie) runs) ++ codes " with a tie, "
     ++ decimal (count_by (λ run. run.second_round) runs) ++ codes " with a second round, "
     ++ decimal (count_by (λ run. run.second_term) runs) ++ codes " with a second term, "
+    ++ decimal (count_by (λ run. run.wake_up) runs) ++ codes " with a wake-up, "
     ++ decimal (count_by (λ run. run.dropped) runs) ++ codes " with a dropped message\n"
 
 -- that as JSON, or in words, where it is asked

@@ -206,6 +206,8 @@ fn sum_page<A: Allocator>(alloc: A, runs: &[RunFeatures]) -> Result<PageText<A>,
     page.words(" with a second round, ");
     page.number(runs.iter().filter(|run| run.second_term).count() as u64);
     page.words(" with a second term, ");
+    page.number(runs.iter().filter(|run| run.wake_up).count() as u64);
+    page.words(" with a wake-up, ");
     page.number(runs.iter().filter(|run| run.dropped).count() as u64);
     page.words(" with a dropped message\n");
     page.finish()

@@ -1,6 +1,7 @@
 -- What a hint of the ring says of the logs.
-use Rattle.std.specs.Prelude.{◌≡◌, ◌≢◌, ◌⊎◌, ◌<◌, ◌+◌, ⊤, ℕ, List, ◌∷◌, ◌++◌, Some, length, slice_get}
+use Rattle.std.specs.Prelude.{◌≡◌, ◌≢◌, ◌⊎◌, ◌<◌, ◌+◌, ⊤, ℕ, List, [], ◌∷◌, ◌++◌, Some, length, slice_get}
 use Rattle.ira_event.specs.Log.{Log}
+use Rattle.ira_event.specs.declared.event.Event.{Event}
 use Rattle.ira_event.specs.declared.load.Load.{Load}
 use Rattle.ira_event.specs.declared.load.Load.TheVariants.{Msg as Message, Reset}
 use Rattle.ira_order.specs.Matching.{got, sent}
@@ -12,8 +13,8 @@ use Rattle.ira_view_evidence.specs.RingOrder.{IsRingOrder, Takes}
 use Rattle.ira_view_explain.specs.declared.other_faults.OtherFaults.{OtherFaults}
 use Rattle.ira_view_explain.specs.declared.other_faults.OtherFaults.TheVariants as faults
 use Rattle.ira_view_explain.specs.declared.ring_hint.RingHint.{RingHint}
-use Rattle.ira_view_explain.specs.declared.ring_hint.RingHint.TheVariants.{AnotherRun, Hole, OneRecorder, OtherOrder, SameRecords}
-use Rattle.ira_view_explain.specs.declared.ring_hint.RingHint.TheVariants.{TwoRuns}
+use Rattle.ira_view_explain.specs.declared.ring_hint.RingHint.TheVariants.{AnotherRun, EachTwice, Hole, OneRecorder, OtherOrder}
+use Rattle.ira_view_explain.specs.declared.ring_hint.RingHint.TheVariants.{SameRecords, TwoRuns}
 
 -- the receipts of a link are its sendings, one by one, as far as they go
 abbrev pub Fits : List Log → ℕ → Type 0
@@ -62,6 +63,16 @@ abbrev pub IsUnsent : Load → List Load → List Load → Type 0
 IsUnsent load sent received = (front rest : List Load) × (received ≡ front ++ load ∷ rest)
     × BeginsWith sent (front ++ rest)
 
+-- each event is there twice, one after the other
+abbrev pub AreTwice : List Event → Type 0
+AreTwice [] = ⊤
+AreTwice (event ∷ []) = ⊥
+AreTwice (event ∷ again ∷ more) = (again ≡ event) × AreTwice more
+
+-- and there are more than two
+abbrev pub HasEachTwice : List Event → Type 0
+HasEachTwice events = AreTwice events × (2 < length events)
+
 -- it is so of the logs
 abbrev pub IsSo : {A : Type 0} → List Log → RingHint A → Type 0
 -- in this order all links match
@@ -71,6 +82,7 @@ IsSo logs (TwoRuns first last others_first others_last) =
     (first ≡ next (length logs) others_last) × (others_first ≡ next (length logs) last) × ¬ (Fits logs last)
     × ¬ (Fits logs others_last) × OthersFit logs last others_last × ((i : ℕ) → i < length logs → RunsAt logs i)
 IsSo logs (SameRecords place other) = (place ≢ other) × (log_of logs place ≡ log_of logs other)
+IsSo logs (EachTwice place) = HasEachTwice (log_of logs place)
 -- it differs from both neighbours in nothing else
 IsSo logs (OneRecorder place before after how) = IsOdd logs place before after
     × DifferAlike how (sent (log_of logs before)) (got (log_of logs place))

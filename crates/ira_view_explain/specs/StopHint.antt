@@ -16,10 +16,11 @@ use Rattle.ira_order.specs.Matching.{got, sent}
 use Rattle.ira_order.specs.Ring.{numbered}
 use Rattle.ira_view_evidence.specs.LoadDifference.{IsOtherIn, IsRaised}
 use Rattle.ira_view_evidence.specs.declared.load_difference.LoadField.TheVariants.{Bit}
+use Rattle.ira_view_explain.specs.RingHint.{HasEachTwice}
 use Rattle.ira_view_explain.specs.declared.stopped.Stopped.{Stopped}
 use Rattle.ira_view_explain.specs.declared.stop_hint.StopHint.{StopHint}
 use Rattle.ira_view_explain.specs.declared.stop_hint.StopHint.TheVariants.{BeginsByItself, BitContrary}
-use Rattle.ira_view_explain.specs.declared.stop_hint.StopHint.TheVariants.{BitKept, CalledLater, DrawsAfterReset}
+use Rattle.ira_view_explain.specs.declared.stop_hint.StopHint.TheVariants.{BitKept, CalledLater, DrawsAfterReset, EachTwice}
 use Rattle.ira_view_explain.specs.declared.stop_hint.StopHint.TheVariants.{HasYielded, HopNotRaised, HopRaisedTwice}
 use Rattle.ira_view_explain.specs.declared.stop_hint.StopHint.TheVariants.{IdRange, NeverReceived}
 use Rattle.ira_view_explain.specs.declared.stop_hint.StopHint.TheVariants.{NeverSends, NoReceipts, NotDrawn, OnlyBit}
@@ -106,6 +107,7 @@ IsSo log stopped (CalledLater line) =
     (load : Load) × (stopped.event ≡ Sent load) × IsCalledNext log stopped load
     × (line ≡ line_number (stopped.position + 1))
 IsSo log stopped SentTwice = numbered log.events (stopped.position - 1) ≡ Some stopped.event
+IsSo log stopped EachTwice = HasEachTwice log.events
 IsSo log stopped NoReceipts = got log.events ≡ []
 IsSo log stopped (ResetNotBack nodes) = nodes ≡ log.nodes
 IsSo log stopped (IdRange nodes) = nodes ≡ log.nodes

@@ -14,9 +14,9 @@ ghost use Rattle.ira_view_explain.specs.LogTold.{IsLogTold, IsStoppedTold};
 ghost use Rattle.ira_view_explain.specs.Refused.{IsNoRingTold, IsRefusedTold, IsTold};
 ghost use Rattle.ira_view_explain.specs.TextTold.{IsTextTold};
 
-use crate::end_alone::print_end_alone;
 use crate::heads_finding::HeadsFinding;
 use crate::hint::hints_of;
+use crate::numbered::numbered_page;
 use crate::refused_finding::RefusedFinding;
 use crate::ring_files::RingFiles;
 use crate::stopped_log::StoppedLog;
@@ -201,8 +201,15 @@ fn explain_end<A: Allocator + Clone>(
     ensures state { IfOk result (λ explanation. explanation.state_before ≡ None) }
     ensures evidence { IfOk result (λ explanation. explanation.evidence.items ≡ []) }
 {
+    let mut text = numbered_page(alloc, "The log of place ", u32::from(log.place()));
+    text.numbered(" of ", u32::from(log.nodes().get()));
+    text.words(": ");
+    text.number_of(log.len(), "event");
+    text.words(", each has a step. At its end: ");
+    text.state(&end);
+    text.words(". Nothing is said of the other nodes: give all logs to `ira explain`.");
     let mut page = Page::after_answer(alloc.clone()?);
-    print_end_alone(alloc, log, end, &mut page);
+    page.paragraph_of(&text);
     let (evidence, hints) = (Vec::new(alloc.clone()?), Vec::new(alloc.clone()?));
     Explanation::of_page(alloc, None, page, evidence, hints)
 }

@@ -40,19 +40,6 @@ impl Field {
         }
     }
 
-    /// Its name in a sentence.
-    pub(crate) fn noun(self) -> &'static str
-        ensures { IsPrintable result.now }
-    {
-        match self {
-            Field::Round => "round",
-            Field::Id => "ID",
-            Field::Hop => "hop",
-            Field::Bit => "bit",
-            Field::Count => "count",
-        }
-    }
-
     /// The number that a text begins with, where the field is a number of a record.
     pub(crate) fn number(self, text: &[u8]) -> Option<u32> {
         match self {

@@ -3,7 +3,6 @@
 
 mod carets;
 mod circle_finding;
-mod end_alone;
 mod exchange_table;
 mod explain;
 mod faulty_link;

@@ -15,6 +15,8 @@ pub(crate) enum RingHint<A: Allocator> {
     TwoRuns(u8, u8, u8, u8),
     /// The logs of these places have the same records.
     SameRecords(u8, u8),
+    /// Each record of the log of a place stands twice, one after the other.
+    EachTwice(u8),
     /// What the node of a place recorded differs so from what the one before it sent and the one after it received,
     /// wherever it does.
     OneRecorder(u8, u8, u8, LoadDifference),
@@ -50,6 +52,11 @@ impl<A: Allocator> RingHint<A> {
                 text,
                 "the logs of nodes {} and {} have the same records: perhaps one is a copy of the other.",
                 [*place, *other],
+            ),
+            RingHint::EachTwice(place) => fill(
+                text,
+                "in the log of node {} each record stands twice, one after the other: it writes each twice.",
+                [*place],
             ),
             RingHint::OneRecorder(place, before, after, how) => {
                 fill(

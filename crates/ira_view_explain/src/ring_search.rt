@@ -2,8 +2,8 @@ ghost use Rattle.std.specs.Prelude.{◌≡◌, ◌≢◌, ◌≤◌, ◌<◌, �
 ghost use Rattle.ira_order.specs.Ring.{log_of, next};
 ghost use Rattle.ira_view_evidence.specs.LinkCause.{BeginsWith};
 ghost use Rattle.ira_view_evidence.specs.LoadDifference.{DifferAlike};
-ghost use Rattle.ira_view_explain.specs.RingHint.{AreOtherFaults, IsOdd, IsPassedOn, IsSkipped, IsSo, IsUnreceived, IsUnsent};
-ghost use Rattle.ira_view_explain.specs.RingHint.{RunsAt};
+ghost use Rattle.ira_view_explain.specs.RingHint.{AreOtherFaults, HasEachTwice, IsOdd, IsPassedOn, IsSkipped, IsSo, IsUnreceived};
+ghost use Rattle.ira_view_explain.specs.RingHint.{IsUnsent, RunsAt};
 ghost use Rattle.ira_view_explain.specs.declared.other_faults.OtherFaults.TheVariants as OtherFaults;
 
 use crate::faulty_link::FaultyLink;
@@ -27,6 +27,19 @@ fn has_same_events<A: Allocator>(log: &NodeLog<A>, other: &NodeLog<A>) -> bool
         }
     }
     others.next().is_none()
+}
+
+/// Whether each record of a log stands twice, one after the other, with more than two, the third not as the first.
+pub(crate) fn has_each_twice<A: Allocator>(log: &NodeLog<A>) -> bool
+    ensures { IsTrue result → HasEachTwice log.now.events }
+{
+    let mut events = log.events();
+    while let Some(event) = events.next() {
+        if events.next() != Some(event) {
+            return false;
+        }
+    }
+    log.len() > 2 && log.event(1) != log.event(3)
 }
 
 /// The place of another log with the events of this one.
@@ -194,6 +207,12 @@ impl<'a, 'l, A: Allocator + Clone> FaultyLink<'a, 'l, A> {
         requires { AreOtherFaults self.now.logs.now self.now.link others }
         ensures { IfOk result (λ found. IfSome found (IsSo self.now.logs.now)) }
     {
+        if has_each_twice(self.logs.log(self.reader)) {
+            return Ok(Some(RingHint::EachTwice(self.reader)));
+        }
+        if has_each_twice(self.logs.log(self.link)) {
+            return Ok(Some(RingHint::EachTwice(self.link)));
+        }
         if let Some(order) = find_ring_order(self.alloc, self.logs)? {
             return Ok(Some(RingHint::OtherOrder(order)));
         }

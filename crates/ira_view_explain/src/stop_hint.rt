@@ -36,6 +36,8 @@ pub(crate) enum StopHint {
     NotDrawn { id: u32 },
     /// The sending is the event before it once more.
     SentTwice,
+    /// Each event of the log is there twice, one after the other.
+    EachTwice,
     /// The node before sent this, which calls for the sending, and no receipt of it is recorded.
     NeverReceived { call: Load },
     /// The log has sendings that pass something on, and no receipt.
@@ -91,6 +93,8 @@ impl Hint for StopHint {
                 "a draw of {} may not be recorded, or stands after its sending.",
             StopHint::SentTwice =>
                 "it is the sending before it once more: it was recorded twice, or sent twice.",
+            StopHint::EachTwice =>
+                "each record stands twice, one after the other: it is written twice.",
             StopHint::NeverReceived { call } => {
                 text.words("by its log the node never received ");
                 text.load(call);

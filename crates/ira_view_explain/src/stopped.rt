@@ -14,6 +14,7 @@ ghost use Rattle.ira_view_explain.specs.StopHint.{is_of_reset, line_number, star
 ghost use Rattle.ira_view_explain.specs.declared.stopped.Stopped.{Stopped};
 
 use crate::numbered::fill;
+use crate::ring_search::has_each_twice;
 use crate::stop_hint::StopHint;
 use ira_event::{Event, Load, Msg, NodeLog, RingSize};
 use ira_node::{NodeState, Phase, StepFault};
@@ -214,6 +215,7 @@ impl Stopped {
     {
         let nodes = log.nodes().get();
         match (self.fault, self.event, self.state.phase) {
+            _ if has_each_twice(log) => Some(StopHint::EachTwice),
             (StepFault::NotOwed, Event::Sent(sent), _) => self.sending_hint(log, sent),
             (StepFault::NotChoosing, _, Phase::Yielding) => Some(StopHint::ResetNotBack { nodes }),
             (StepFault::NotChoosing, _, _) if self.position == 1 => Some(StopHint::BeginsByItself),

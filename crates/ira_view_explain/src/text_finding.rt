@@ -241,7 +241,9 @@ impl TextFinding {
                     Some(b'0') if line.starts_with(b"draw ") => Some(TextHint::Words(
                         "IDs count from 1: draw 1 to N.",
                     )),
-                    Some(b'0') => Some(TextHint::FromZero(field)),
+                    Some(b'0') => Some(TextHint::Words(
+                        "rounds, IDs and hops count from 1: add 1 to each, on both ends of the link.",
+                    )),
                     _ => None,
                 };
                 TextFinding::at(number, from, to, LineRemark::Range(field), hint)

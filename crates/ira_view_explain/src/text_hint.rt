@@ -1,4 +1,3 @@
-use crate::field::Field;
 use crate::hint::Hint;
 use ira_view_page::Page;
 use std::alloc::Allocator;
@@ -8,8 +7,6 @@ use std::alloc::Allocator;
 pub(crate) enum TextHint {
     /// One that names nothing of the text.
     Words(&'static str),
-    /// A field of a message is 0.
-    FromZero(Field),
     /// The end line counts so many more than there are: the lines of the head, or all, where they are as many as these.
     CountedMore(usize),
 }
@@ -18,10 +15,6 @@ impl Hint for TextHint {
     fn print<A: Allocator>(&self, text: &mut Page<A>) {
         match *self {
             TextHint::Words(words) => text.show(words.as_bytes()),
-            TextHint::FromZero(field) => {
-                text.words(field.noun());
-                text.words("s count from 1: add 1 to each, on both ends of the link.");
-            }
             TextHint::CountedMore(4 | 5) => {
                 text.words("the head is counted too: count the records alone.");
             }

@@ -2,7 +2,6 @@
 use Rattle.std.proofs.Common.{◌≡◌, ◌∙◌, ℕ, ◌+◌, ◌<◌, ◌≤◌, false, List, [], ◌∷◌, ◌++◌, Vec, ap, get_or, length, map}
 use Rattle.std.proofs.Common.{refl, sym, take}
 use Rattle.std.specs.Prelude.{◌==◌, codes}
-use Rattle.std.specs.List.{enumerate_from}
 use Rattle.std.specs.Prelude.{Some, slice_get}
 use Rattle.std.specs.Option.{option_map}
 use Rattle.std.proofs.lemmas.Option.{same_Some, slice_get-get_or}
@@ -14,11 +13,8 @@ use Rattle.ira_view_json.specs.View.{view}
 use Rattle.ira_view_json.specs.declared.value.Value.{Array, Value}
 use Rattle.ira_pred.specs.Case.{Conjunct}
 use Rattle.ira_pred.specs.Formula.{Formula}
-use Rattle.ira_elim.specs.declared.found.Found.{Found}
-use Rattle.ira_view_page.specs.declared.asked_case.AskedCase.{AskedCase}
 use Rattle.ira_view_page.specs.declared.evidence.Evidence.{Evidence}
 use Rattle.ira_view_json.specs.EvidenceValue.{evidence_value}
-use Rattle.ira_view_json.specs.ExplainedFindings.{explained_case}
 use Rattle.ira_view_json.specs.ExplainedValue.{with_evidence}
 use Rattle.ira_view_json.proofs.Views.{view-Array}
 
@@ -55,13 +51,3 @@ pub some_evidence : {A : Type 0} (evidence : List (Evidence A)) (members : Membe
     → put (codes "evidence") (array (items_of (map evidence_value evidence))) members ≡ with_evidence evidence members
 some_evidence [] ms none = absurd cc
 some_evidence (e ∷ es) ms some = refl
-
--- a first value, and those of cases, of other lists that are the same
-pub lists_are : {A B : Type 0} (first d : Json) (explained asked : List (AskedCase A)) (found given : List (Found B))
-    → first ≡ d → explained ≡ asked → found ≡ given
-    → first ∷ map (explained_case explained) (enumerate_from 0 found)
-    ≡ d ∷ map (explained_case asked) (enumerate_from 0 given)
-lists_are first d explained asked found given one two three =
-    ap (λ x. x ∷ map (explained_case explained) (enumerate_from 0 found)) one
-    ∙ ap (λ x. d ∷ map (explained_case x) (enumerate_from 0 found)) two
-    ∙ ap (λ x. d ∷ map (explained_case asked) (enumerate_from 0 x)) three

@@ -35,4 +35,5 @@ sum_value runs = object
     (member (codes "second_round") (natural (count_by (λ run. run.second_round) runs))
     (member (codes "second_term") (natural (count_by (λ run. run.second_term) runs))
     (member (codes "tie") (natural (count_by (λ run. run.tie) runs))
-    (member (codes "type") (string (codes "sum")) no_members))))))
+    (member (codes "type") (string (codes "sum"))
+    (member (codes "wake_up") (natural (count_by (λ run. run.wake_up) runs)) no_members)))))))

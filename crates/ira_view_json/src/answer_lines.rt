@@ -1,25 +1,19 @@
 ghost use Rattle.std.specs.Prelude.{◌∷◌, IfOk, map, option_map, string_bytes};
 ghost use Rattle.std.specs.List.{enumerate_from};
-ghost use Rattle.ira_view_json.specs.View.{view};
 ghost use Rattle.ira_audit.specs.Findings.{AreReportable};
 ghost use Rattle.ira_audit.specs.Report.{IsReportable};
 ghost use Rattle.ira_view_election.specs.Election.{standing_of};
 ghost use Rattle.ira_view_json.specs.AnswerValue.{answer_value, cases_values};
-ghost use Rattle.ira_view_json.specs.ExplainedFindings.{explained_case, explained_findings};
+ghost use Rattle.ira_view_json.specs.ExplainedFindings.{explained_case, explained_decision, explained_findings};
 ghost use Rattle.ira_view_json.specs.ExplainedValue.{explained_value};
 ghost use Rattle.ira_view_json.specs.Line.{AreLinesOf, IsLineOf};
 
-use crate::answer_values::{
-    answer_value, case_value, cases_value, explained_case, explained_decision,
-};
-use crate::explained::explained_value;
-use crate::line::line_of;
-use crate::value::Value;
+use crate::answer_values::{answered, case_line, decided_for, decision, has_met, has_present};
 use ira_audit::{Answer, DecidedCases, Findings};
 use ira_elim::Found;
 use ira_event::OutOfMemory;
 use ira_view_election::Election;
-use ira_view_page::{AskedCase, Explanation};
+use ira_view_page::Explanation;
 use std::alloc::Allocator;
 
 /// The line of an answer, with the status that goes with it. The answer must not say that memory ran out.
@@ -31,8 +25,7 @@ pub fn answer_line<A: Allocator + Clone>(
     requires { IsReportable answer.now }
     ensures { IfOk result (λ text. IsLineOf (answer_value status answer.now) (string_bytes text)) }
 {
-    let value = answer_value(&alloc, answer, status)?;
-    line_of(alloc, &value)
+    answered(alloc, answer, status).into_line()
 }
 
 /// The line of an answer with its reason, what it rests on and its status, and how the election stands, where that is
@@ -48,36 +41,30 @@ pub fn explained_line<'v, A: Allocator + Clone, B: Allocator>(
     ensures { IfOk result (λ text. IsLineOf (explained_value status answer.now explanation.now
         (option_map (λ election. standing_of election.now) election.entry)) (string_bytes text)) }
 {
-    let value = explained_value(&alloc, answer, status, explanation, election)?;
-    line_of(alloc, &value)
+    let mut object = answered(alloc, answer, status);
+    object.reason_of(answer);
+    object.explanation(explanation);
+    object.election(election);
+    object.into_line()
 }
 
-/// The line of a case, with what it asks where it is one of those that are explained.
-fn case_line<A: Allocator + Clone, B: Allocator, C: Allocator>(
-    alloc: &A,
-    case: u64,
-    found: &Found<C>,
-    explained: &[AskedCase<B>],
-) -> Result<String<A>, OutOfMemory>
-    ensures { IfOk result (λ text. IsLineOf (explained_case explained.now (case, found.now)) (string_bytes text)) }
-{
-    let value = explained_case(alloc, case, found, explained)?;
-    line_of(alloc.clone()?, &value)
-}
-
-/// The line of a value, and those of cases after it.
+/// The lines of what is found for the cases of a question, with what that rests on and the status that goes with it.
 fn explained_cases_lines<A: Allocator + Clone, B: Allocator, C: Allocator>(
     alloc: &A,
-    first: &Value<A>,
     found: &[Found<C>],
-    explained: &[AskedCase<B>],
+    status: u8,
+    explanation: &Explanation<B>,
 ) -> Result<String<A>, OutOfMemory>
-    ensures { IfOk result (λ text. AreLinesOf
-        (view first.now ∷ map (explained_case explained.now) (enumerate_from 0 found.now)) (string_bytes text)) }
+    ensures { IfOk result (λ text. AreLinesOf (explained_decision status found.now explanation.now
+        ∷ map (explained_case explanation.now.cases.items) (enumerate_from 0 found.now)) (string_bytes text)) }
 {
-    let mut text = line_of(alloc.clone()?, first)?;
+    let mut first = decision(alloc.clone()?, has_present(found), status);
+    first.null("reason");
+    first.explanation(explanation);
+    let mut text = first.into_line()?;
     for (case, found) in found.iter().enumerate() {
-        text.push_str(case_line(alloc, case as u64, found, explained)?.as_str())?;
+        let line = case_line(alloc.clone()?, case as u64, found, &explanation.cases)?;
+        text.push_str(line.as_str())?;
     }
     Ok(text)
 }
@@ -93,11 +80,11 @@ pub fn cases_lines<A: Allocator + Clone, B: Allocator>(
         (cases_values decided.now.nodes status decided.now.cases.items) (string_bytes text)) }
 {
     let cases = decided.cases.as_slice();
-    let first = cases_value(&alloc, cases, decided.nodes.get(), status)?;
-    let mut text = line_of(alloc.clone()?, &first)?;
+    let mut first = decision(alloc.clone()?, has_met(cases), status);
+    first.number("nodes", decided.nodes.get() as u64);
+    let mut text = first.into_line()?;
     for (case, decided) in cases.iter().enumerate() {
-        let value = case_value(&alloc, case as u64, decided)?;
-        let line = line_of(alloc.clone()?, &value)?;
+        let line = decided_for(alloc.clone()?, case as u64, decided).into_line()?;
         text.push_str(line.as_str())?;
     }
     Ok(text)
@@ -121,8 +108,7 @@ pub fn explained_findings_lines<A: Allocator + Clone, B: Allocator, C: Allocator
             explained_line(alloc, &Answer::No(*reason), status, explanation, None)
         }
         Findings::Cases { found, .. } => {
-            let decision = explained_decision(&alloc, found, status, explanation)?;
-            explained_cases_lines(&alloc, &decision, found, &explanation.cases)
+            explained_cases_lines(&alloc, found, status, explanation)
         }
     }
 }

@@ -1,11 +1,12 @@
-ghost use Rattle.std.specs.Prelude.{◌≡◌, IfOk, nat_eq, option_map};
+ghost use Rattle.std.specs.Prelude.{◌≡◌, IfOk, nat_eq, option_map, string_bytes};
 ghost use Rattle.std.specs.List.{find, list_any};
 ghost use Rattle.json.specs.Json.{string};
 ghost use Rattle.ira_view_json.specs.View.{view};
 ghost use Rattle.ira_audit.specs.Findings.{is_present};
 ghost use Rattle.ira_audit.specs.Report.{IsReportable};
-ghost use Rattle.ira_view_json.specs.AnswerValue.{absent_members, answer_members, answer_value, answer_words, case_value, decided_members, decision_value, decision_word, found_members, is_met, present_members, worded_members};
-ghost use Rattle.ira_view_json.specs.ExplainedFindings.{ask_value, explained_case, explained_decision, with_asks};
+ghost use Rattle.ira_view_json.specs.AnswerValue.{absent_members, answer_members, answer_words, decided_members, decision_word, found_members, is_met, present_members, worded_members};
+ghost use Rattle.ira_view_json.specs.ExplainedFindings.{ask_value, explained_case, with_asks};
+ghost use Rattle.ira_view_json.specs.Line.{IsLineOf};
 ghost use Rattle.ira_view_json.specs.Object.{Holds, Puts};
 
 use crate::object::Object;
@@ -14,7 +15,7 @@ use crate::value::Value;
 use ira_audit::{Answer, reason_line};
 use ira_elim::{Decided, Found, StepCount};
 use ira_event::{MemorySink, OutOfMemory};
-use ira_view_page::{AskedCase, AskedNode, Explanation};
+use ira_view_page::{AskedCase, AskedNode};
 use std::alloc::Allocator;
 use std::str;
 
@@ -47,18 +48,6 @@ pub(crate) fn answered<A: Allocator + Clone>(alloc: A, answer: &Answer, status: 
     object
 }
 
-/// The value of an answer, with the status that goes with it.
-pub(crate) fn answer_value<A: Allocator + Clone>(
-    alloc: &A,
-    answer: &Answer,
-    status: u8,
-) -> Result<Value<A>, OutOfMemory>
-    requires { IsReportable answer.now }
-    ensures { IfOk result (λ value. view value ≡ answer_value status answer.now) }
-{
-    answered(alloc.clone()?, answer, status).finish()
-}
-
 /// What is found for all cases, in a word.
 fn decision_word(is_present: bool) -> &'static str
     ensures { result.now ≡ decision_word is_present }
@@ -67,14 +56,14 @@ fn decision_word(is_present: bool) -> &'static str
 }
 
 /// Whether some case is present.
-fn has_present<A: Allocator>(found: &[Found<A>]) -> bool
+pub(crate) fn has_present<A: Allocator>(found: &[Found<A>]) -> bool
     ensures { result ≡ list_any is_present found.now }
 {
     found.iter().any(|found| matches!(found, Found::Present(_)))
 }
 
 /// Whether a case is present, of which the steps were counted.
-fn has_met<A: Allocator>(cases: &[Decided<StepCount, A>]) -> bool
+pub(crate) fn has_met<A: Allocator>(cases: &[Decided<StepCount, A>]) -> bool
     ensures { result ≡ list_any is_met cases.now }
 {
     cases
@@ -83,7 +72,7 @@ fn has_met<A: Allocator>(cases: &[Decided<StepCount, A>]) -> bool
 }
 
 /// What is found for all cases, and the status that goes with it.
-fn decided<A: Allocator>(alloc: A, is_present: bool, status: u8) -> Object<A>
+pub(crate) fn decision<A: Allocator>(alloc: A, is_present: bool, status: u8) -> Object<A>
     ensures { Holds (worded_members (decision_word is_present) status) result }
 {
     let mut object = Object::of(alloc, "answer");
@@ -91,36 +80,6 @@ fn decided<A: Allocator>(alloc: A, is_present: bool, status: u8) -> Object<A>
     object.number("status", status as u64);
     object.number("version", 1);
     object
-}
-
-/// What is found for the cases of a question about a ring of so many nodes, and the status that goes with it.
-pub(crate) fn cases_value<A: Allocator + Clone, B: Allocator>(
-    alloc: &A,
-    cases: &[Decided<StepCount, B>],
-    nodes: u8,
-    status: u8,
-) -> Result<Value<A>, OutOfMemory>
-    ensures { IfOk result (λ value.
-        view value ≡ decision_value (decision_word (list_any is_met cases.now)) nodes status) }
-{
-    let mut object = decided(alloc.clone()?, has_met(cases), status);
-    object.number("nodes", nodes as u64);
-    object.finish()
-}
-
-/// What is found for all cases, and what that rests on, with the status that goes with it.
-pub(crate) fn explained_decision<A: Allocator + Clone, B: Allocator, C: Allocator>(
-    alloc: &A,
-    found: &[Found<C>],
-    status: u8,
-    explanation: &Explanation<B>,
-) -> Result<Value<A>, OutOfMemory>
-    ensures { IfOk result (λ value. view value ≡ explained_decision status found.now explanation.now) }
-{
-    let mut object = decided(alloc.clone()?, has_present(found), status);
-    object.null("reason");
-    object.explanation(explanation);
-    object.finish()
 }
 
 /// That a case is absent, by a section of so many steps that spends this node.
@@ -157,17 +116,7 @@ fn found_for<A: Allocator + Clone, B: Allocator>(alloc: A, case: u64, found: &Fo
 }
 
 /// What is found for the case of this number, with its steps counted.
-pub(crate) fn case_value<A: Allocator + Clone, B: Allocator>(
-    alloc: &A,
-    case: u64,
-    decided: &Decided<StepCount, B>,
-) -> Result<Value<A>, OutOfMemory>
-    ensures { IfOk result (λ value. view value ≡ case_value (case, decided.now)) }
-{
-    decided_for(alloc.clone()?, case, decided).finish()
-}
-
-fn decided_for<A: Allocator + Clone, B: Allocator>(
+pub(crate) fn decided_for<A: Allocator + Clone, B: Allocator>(
     alloc: A,
     case: u64,
     decided: &Decided<StepCount, B>,
@@ -210,16 +159,16 @@ impl<A: Allocator + Clone> Object<A> {
     }
 }
 
-/// What is found for the case of this number; and what it asks, where it is one of those that are explained.
-pub(crate) fn explained_case<A: Allocator + Clone, B: Allocator, C: Allocator>(
-    alloc: &A,
+/// The line of what is found for the case of this number; and what it asks, where it is one of those that are explained.
+pub(crate) fn case_line<A: Allocator + Clone, B: Allocator, C: Allocator>(
+    alloc: A,
     case: u64,
     found: &Found<C>,
     explained: &[AskedCase<B>],
-) -> Result<Value<A>, OutOfMemory>
-    ensures { IfOk result (λ value. view value ≡ explained_case explained.now (case, found.now)) }
+) -> Result<String<A>, OutOfMemory>
+    ensures { IfOk result (λ text. IsLineOf (explained_case explained.now (case, found.now)) (string_bytes text)) }
 {
-    let mut object = found_for(alloc.clone()?, case, found);
+    let mut object = found_for(alloc, case, found);
     object.asks(asked_case(explained, case));
-    object.finish()
+    object.into_line()
 }

@@ -1,6 +1,6 @@
 ghost use Rattle.std.specs.Prelude.{◌≡◌, IfOk, OnOk};
 ghost use Rattle.ira_order.specs.Cut.{IsConsistentCut};
-ghost use Rattle.ira_view_json.specs.EventValue.{AreEventValues, event_value, with_sender, with_trail_step};
+ghost use Rattle.ira_view_json.specs.EventValue.{AreEventValues, event_value, with_sender};
 ghost use Rattle.ira_view_json.specs.Line.{TookLines, WroteLines};
 ghost use Rattle.ira_view_json.specs.Object.{Puts};
 ghost use Rattle.ira_view_json.specs.View.{view};
@@ -14,20 +14,6 @@ use ira_view_trail::{ColumnsFault, StateStep, StateTrail};
 use std::alloc::Allocator;
 
 impl<A: Allocator + Clone> Object<A> {
-    /// Puts a step, of this number.
-    fn trail_step(&mut self, number: usize, walked: StateStep)
-        ensures { Puts (with_trail_step number walked) self.old self.new }
-    {
-        let step = walked.step;
-        self.number("step", number as u64);
-        self.number("node", step.place as u64);
-        self.number("event", step.event as u64);
-        self.number("line", line_of(step.event) as u64);
-        self.event(walked.event);
-        self.number("column", step.column as u64);
-        self.flag("in_cut", step.in_cut);
-    }
-
     /// Puts the step that sent what a receipt receives.
     fn sender(&mut self, step: Option<u32>)
         ensures { Puts (with_sender step) self.old self.new }
@@ -47,8 +33,15 @@ fn event_value<A: Allocator + Clone>(
     ensures { IfOk result (λ value. view value ≡ event_value number walked) }
 {
     let mut object = Object::of(alloc.clone()?, "event");
-    object.trail_step(number, walked);
-    object.sender(walked.step.sent_by);
+    let step = walked.step;
+    object.number("step", number as u64);
+    object.number("node", step.place as u64);
+    object.number("event", step.event as u64);
+    object.number("line", line_of(step.event) as u64);
+    object.event(walked.event);
+    object.number("column", step.column as u64);
+    object.flag("in_cut", step.in_cut);
+    object.sender(step.sent_by);
     object.state(walked.after);
     object.finish()
 }

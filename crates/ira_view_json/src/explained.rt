@@ -1,11 +1,7 @@
-ghost use Rattle.std.specs.Prelude.{◌≡◌, IfOk, option_map};
-ghost use Rattle.ira_view_json.specs.View.{view};
 ghost use Rattle.ira_audit.specs.Report.{IsReportable, IsReportableReason};
-ghost use Rattle.ira_view_election.specs.Election.{standing_of};
-ghost use Rattle.ira_view_json.specs.ExplainedValue.{explained_value, hint_value, with_evidence, with_explanation, with_fault, with_hints, with_match_fault, with_numbered, with_reason, with_reason_of, with_receipt, with_ring, with_said, with_section_fault, with_sections, with_state_before, with_step_fault};
+ghost use Rattle.ira_view_json.specs.ExplainedValue.{hint_value, with_evidence, with_explanation, with_fault, with_match_fault, with_numbered, with_reason, with_reason_of, with_receipt, with_ring, with_said, with_section_fault, with_sections, with_state_before, with_step_fault};
 ghost use Rattle.ira_view_json.specs.Object.{Puts};
 
-use crate::answer_values::answered;
 use crate::object::Object;
 use crate::to_value::{ToValue, list_value};
 use crate::value::Value;
@@ -15,7 +11,6 @@ use ira_cert::SectionFault;
 use ira_event::{FaultWords, OutOfMemory};
 use ira_node::{NodeState, StepFault};
 use ira_order::MatchFault;
-use ira_view_election::Election;
 use ira_view_page::{Evidence, Explanation, RingCounts};
 use std::alloc::Allocator;
 
@@ -126,7 +121,7 @@ impl<A: Allocator + Clone> Object<A> {
     }
 
     /// Puts the reason of an answer, which a yes has not.
-    fn reason_of(&mut self, answer: &Answer)
+    pub(crate) fn reason_of(&mut self, answer: &Answer)
         requires { IsReportable answer.now }
         ensures { Puts (with_reason_of answer.now) self.old self.new }
     {
@@ -162,12 +157,6 @@ impl<A: Allocator + Clone> Object<A> {
         self.value("evidence", list_value(self.alloc(), evidence));
     }
 
-    fn hints<B: Allocator>(&mut self, hints: &[String<B>])
-        ensures { Puts (with_hints hints.now) self.old self.new }
-    {
-        self.value("hints", list_value(self.alloc(), hints));
-    }
-
     /// Puts what an answer rests on.
     pub(crate) fn explanation<B: Allocator>(&mut self, explanation: &Explanation<B>)
         ensures { Puts (with_explanation explanation.now) self.old self.new }
@@ -175,7 +164,7 @@ impl<A: Allocator + Clone> Object<A> {
         self.ring(explanation.ring);
         self.state_before(explanation.state_before);
         self.evidence(&explanation.evidence);
-        self.hints(&explanation.hints);
+        self.value("hints", list_value(self.alloc(), &explanation.hints));
     }
 }
 
@@ -185,23 +174,4 @@ impl<B: Allocator> ToValue for String<B> {
     fn to_value<A: Allocator + Clone>(&self, alloc: &A) -> Result<Value<A>, OutOfMemory> {
         Value::copied(alloc, self.as_str())
     }
-}
-
-/// An answer with its reason, what it rests on and its status, and how the election stands, where that is known.
-pub(crate) fn explained_value<'v, A: Allocator + Clone, B: Allocator>(
-    alloc: &A,
-    answer: &Answer,
-    status: u8,
-    explanation: &'v Explanation<B>,
-    election: Option<&'v Election<B>>,
-) -> Result<Value<A>, OutOfMemory>
-    requires { IsReportable answer.now }
-    ensures { IfOk result (λ value. view value ≡ explained_value status answer.now explanation.now
-        (option_map (λ election. standing_of election.now) election.entry)) }
-{
-    let mut object = answered(alloc.clone()?, answer, status);
-    object.reason_of(answer);
-    object.explanation(explanation);
-    object.election(election);
-    object.finish()
 }

@@ -1,45 +1,15 @@
-ghost use Rattle.std.specs.Prelude.{◌≡◌, IfOk, option_map, string_bytes};
-ghost use Rattle.ira_view_json.specs.View.{view};
+ghost use Rattle.std.specs.Prelude.{IfOk, option_map, string_bytes};
 ghost use Rattle.ira_audit.specs.Report.{IsReportable};
-ghost use Rattle.ira_view_json.specs.FolderValue.{folder_answer_value, sum_value, unread_members, unread_value, with_folder};
+ghost use Rattle.ira_view_json.specs.FolderValue.{folder_answer_value, sum_value, unread_value, with_folder};
 ghost use Rattle.ira_view_json.specs.Line.{IsLineOf};
-ghost use Rattle.ira_view_json.specs.Object.{Holds, Puts};
+ghost use Rattle.ira_view_json.specs.Object.{Puts};
 
 use crate::answer_values::answered;
-use crate::line::line_of;
 use crate::object::Object;
 use crate::run_features::RunFeatures;
-use crate::value::Value;
 use ira_audit::Answer;
 use ira_event::OutOfMemory;
 use std::alloc::Allocator;
-
-/// An answer, the status that goes with it, and the folder of the logs.
-fn folder_answer_value<A: Allocator + Clone>(
-    alloc: &A,
-    folder: &str,
-    answer: &Answer,
-    status: u8,
-) -> Result<Value<A>, OutOfMemory>
-    requires { IsReportable answer.now }
-    ensures { IfOk result (λ value. view value ≡ folder_answer_value folder.now status answer.now) }
-{
-    let mut object = answered(alloc.clone()?, answer, status);
-    object.text("dir", folder);
-    object.finish()
-}
-
-/// A file that can't be read, and the status that goes with it.
-fn unread<A: Allocator + Clone>(alloc: A, file: &str, status: u8) -> Object<A>
-    ensures { Holds (unread_members file.now status) result }
-{
-    let mut object = Object::of(alloc, "fault");
-    object.words("fault", "cannot read");
-    object.text("file", file);
-    object.number("status", status as u64);
-    object.number("version", 1);
-    object
-}
 
 impl<A: Allocator + Clone> Object<A> {
     /// Puts the folder, where one is given.
@@ -50,21 +20,6 @@ impl<A: Allocator + Clone> Object<A> {
             self.text("dir", folder);
         }
     }
-}
-
-/// A file that can't be read, with the status that goes with it and its folder.
-fn unread_value<A: Allocator + Clone>(
-    alloc: &A,
-    folder: Option<&str>,
-    file: &str,
-    status: u8,
-) -> Result<Value<A>, OutOfMemory>
-    ensures { IfOk result (λ value.
-        view value ≡ unread_value (option_map (λ folder. folder.now) folder.entry) file.now status) }
-{
-    let mut object = unread(alloc.clone()?, file, status);
-    object.folder(folder);
-    object.finish()
 }
 
 /// The line of the answer of the logs in this folder, with the status that goes with it. The answer must not say that
@@ -78,8 +33,9 @@ pub fn folder_answer_line<A: Allocator + Clone>(
     requires { IsReportable answer.now }
     ensures { IfOk result (λ text. IsLineOf (folder_answer_value folder.now status answer.now) (string_bytes text)) }
 {
-    let value = folder_answer_value(&alloc, folder, answer, status)?;
-    line_of(alloc, &value)
+    let mut object = answered(alloc, answer, status);
+    object.text("dir", folder);
+    object.into_line()
 }
 
 /// The line of a file that can't be read, with the status that goes with it, and its folder where one is given.
@@ -92,8 +48,13 @@ pub fn unread_line<A: Allocator + Clone>(
     ensures { IfOk result (λ text. IsLineOf
         (unread_value (option_map (λ folder. folder.now) folder.entry) file.now status) (string_bytes text)) }
 {
-    let value = unread_value(&alloc, folder, file, status)?;
-    line_of(alloc, &value)
+    let mut object = Object::of(alloc, "fault");
+    object.words("fault", "cannot read");
+    object.text("file", file);
+    object.number("status", status as u64);
+    object.number("version", 1);
+    object.folder(folder);
+    object.into_line()
 }
 
 /// The line on how many of these runs had what.
@@ -103,21 +64,16 @@ pub fn sum_line<A: Allocator + Clone>(
 ) -> Result<String<A>, OutOfMemory>
     ensures { IfOk result (λ text. IsLineOf (sum_value runs.now) (string_bytes text)) }
 {
-    let mut sum = Object::of(alloc.clone()?, "sum");
+    let mut sum = Object::of(alloc, "sum");
     sum.number("runs", runs.len() as u64);
     sum.number("tie", runs.iter().filter(|run| run.tie).count() as u64);
-    sum.number(
-        "second_round",
-        runs.iter().filter(|run| run.second_round).count() as u64,
-    );
-    sum.number(
-        "second_term",
-        runs.iter().filter(|run| run.second_term).count() as u64,
-    );
-    sum.number(
-        "dropped",
-        runs.iter().filter(|run| run.dropped).count() as u64,
-    );
-    let value = sum.finish()?;
-    line_of(alloc, &value)
+    let second_round = runs.iter().filter(|run| run.second_round).count();
+    sum.number("second_round", second_round as u64);
+    let second_term = runs.iter().filter(|run| run.second_term).count();
+    sum.number("second_term", second_term as u64);
+    let wake_up = runs.iter().filter(|run| run.wake_up).count();
+    sum.number("wake_up", wake_up as u64);
+    let dropped = runs.iter().filter(|run| run.dropped).count();
+    sum.number("dropped", dropped as u64);
+    sum.into_line()
 }

@@ -1,11 +1,8 @@
 ghost use Rattle.std.specs.Prelude.{◌≡◌, IfOk, string_bytes};
-ghost use Rattle.ira_view_json.specs.View.{view};
 ghost use Rattle.ira_view_json.specs.Line.{IsLineOf};
 ghost use Rattle.ira_view_json.specs.LogValue.{log_value, start_word};
 
-use crate::line::line_of;
 use crate::object::Object;
-use crate::value::Value;
 use ira_event::{NodeLog, OutOfMemory};
 use std::alloc::Allocator;
 
@@ -20,21 +17,6 @@ pub(crate) fn start_of<A: Allocator>(log: &NodeLog<A>) -> &'static str
     }
 }
 
-/// A log in the file of this name.
-fn log_value<A: Allocator + Clone, B: Allocator>(
-    alloc: &A,
-    log: &NodeLog<B>,
-    file: &str,
-) -> Result<Value<A>, OutOfMemory>
-    ensures { IfOk result (λ value. view value ≡ log_value file.now log.now.place log.now.initiator) }
-{
-    let mut object = Object::of(alloc.clone()?, "log");
-    object.text("file", file);
-    object.number("node", log.place() as u64);
-    object.words("start", start_of(log));
-    object.finish()
-}
-
 /// The line of a log in the file of this name: its node, and how it starts.
 pub fn log_line<A: Allocator + Clone, B: Allocator>(
     alloc: A,
@@ -44,6 +26,9 @@ pub fn log_line<A: Allocator + Clone, B: Allocator>(
     ensures { IfOk result (λ text.
         IsLineOf (log_value file.now log.now.place log.now.initiator) (string_bytes text)) }
 {
-    let value = log_value(&alloc, log, file)?;
-    line_of(alloc, &value)
+    let mut object = Object::of(alloc, "log");
+    object.text("file", file);
+    object.number("node", log.place() as u64);
+    object.words("start", start_of(log));
+    object.into_line()
 }

@@ -1,9 +1,11 @@
-ghost use Rattle.std.specs.Prelude.{◌≡◌, OnOk, codes, string_bytes};
-ghost use Rattle.json.specs.Json.{boolean, no_members, null};
+ghost use Rattle.std.specs.Prelude.{◌≡◌, IfOk, OnOk, codes, string_bytes};
+ghost use Rattle.json.specs.Json.{Members, boolean, no_members, null, object};
+ghost use Rattle.ira_view_json.specs.Line.{IsLineOf};
 ghost use Rattle.ira_view_json.specs.Members.{put as put_value, with_number, with_words};
 ghost use Rattle.ira_view_json.specs.Object.{Gives, Holds, Puts, PutsOf};
 ghost use Rattle.ira_view_json.specs.View.{members_view, view};
 
+use crate::line::line_of;
 use crate::value::Value;
 use ira_event::OutOfMemory;
 use std::alloc::Allocator;
@@ -46,6 +48,17 @@ impl<A: Allocator> Object<A> {
         } else {
             Err(OutOfMemory)
         }
+    }
+
+    /// The line that it is; an error where a growth was refused.
+    pub(crate) fn into_line(self) -> Result<String<A>, OutOfMemory>
+    where
+        A: Clone,
+        ensures { (members : Members) → Holds members self
+            → IfOk result (λ text. IsLineOf (object members) (string_bytes text)) }
+    {
+        let alloc = self.alloc().clone()?;
+        line_of(alloc, &self.finish()?)
     }
 
     pub(crate) fn alloc(&self) -> &A {

@@ -1,25 +1,19 @@
 //! Lines of a page to move in: what it draws from, and what it says besides.
 
-ghost use Rattle.std.specs.Prelude.{◌≡◌, IfOk, map, option_map, string_bytes};
+ghost use Rattle.std.specs.Prelude.{IfOk, option_map, string_bytes};
 ghost use Rattle.ira_order.specs.Matching.{Matches};
 ghost use Rattle.ira_order.specs.Run.{AreLocalRuns};
 ghost use Rattle.ira_view_json.specs.Line.{IsLineOf};
 ghost use Rattle.ira_view_json.specs.PageLine.{IsYesLine, explanation_value};
-ghost use Rattle.ira_view_json.specs.PictureValue.{picture_value};
-ghost use Rattle.ira_view_json.specs.View.{view};
-ghost use Rattle.ira_view_moment.specs.ChosenMoment.{HasItsCase, numbers_of};
+ghost use Rattle.ira_view_moment.specs.ChosenMoment.{numbers_of};
 ghost use Rattle.ira_view_moment.specs.Told.{told_of};
-ghost use Rattle.ira_view_picture.specs.Picture.{drawn_of};
 
 use crate::line::line_of;
 use crate::moment_answer::shown_value;
 use crate::object::Object;
-use crate::picture_values::picture_value;
 use crate::shown_answer::ShownAnswer;
-use crate::value::Value;
 use ira_event::{Logs, OutOfMemory};
 use ira_view_moment::{ChosenMoment, Moment};
-use ira_view_picture::Picture;
 use std::alloc::Allocator;
 
 /// The line of a yes: what all events of good logs come to, and which moment of them is told.
@@ -39,15 +33,6 @@ pub fn yes_line<A: Allocator + Clone>(
     line_of(alloc, &value)
 }
 
-/// What a person reads of an answer.
-fn explanation_value<A: Allocator + Clone>(alloc: &A, page: &str) -> Result<Value<A>, OutOfMemory>
-    ensures { IfOk result (λ value. view value ≡ explanation_value page.now) }
-{
-    let mut object = Object::of(alloc.clone()?, "explanation");
-    object.text("page", page);
-    object.finish()
-}
-
 /// The line of what a person reads of an answer.
 pub fn explanation_line<A: Allocator + Clone>(
     alloc: A,
@@ -55,20 +40,7 @@ pub fn explanation_line<A: Allocator + Clone>(
 ) -> Result<String<A>, OutOfMemory>
     ensures { IfOk result (λ text. IsLineOf (explanation_value page.now) (string_bytes text)) }
 {
-    let value = explanation_value(&alloc, page)?;
-    line_of(alloc, &value)
-}
-
-/// The line of a picture, whose line is at this moment, where it has one.
-pub fn picture_line<A: Allocator + Clone, B: Allocator, Q: Allocator>(
-    alloc: A,
-    picture: &Picture<B>,
-    moment: &ChosenMoment<Q>,
-) -> Result<String<A>, OutOfMemory>
-    requires { HasItsCase moment.now }
-    ensures { IfOk result (λ text. IsLineOf (picture_value picture.now.window picture.now.last picture.now.line
-        (told_of moment.now) (map drawn_of picture.now.lanes.items) picture.now.arrows.items) (string_bytes text)) }
-{
-    let value = picture_value(&alloc, picture, moment)?;
-    line_of(alloc, &value)
+    let mut object = Object::of(alloc, "explanation");
+    object.text("page", page);
+    object.into_line()
 }

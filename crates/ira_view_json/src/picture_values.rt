@@ -1,10 +1,11 @@
-ghost use Rattle.std.specs.Prelude.{◌≡◌, IfOk, map};
+ghost use Rattle.std.specs.Prelude.{◌≡◌, IfOk, map, string_bytes};
 ghost use Rattle.ira_pred.specs.Clause.{formula};
 ghost use Rattle.ira_pred.specs.QuestionText.{clause_text};
 ghost use Rattle.json.specs.Json.{array, string};
 ghost use Rattle.json.specs.Value.{items_of};
+ghost use Rattle.ira_view_json.specs.Line.{IsLineOf};
 ghost use Rattle.ira_view_json.specs.Object.{Puts};
-ghost use Rattle.ira_view_json.specs.PictureValue.{after_value, arrow_value, asked_value, band_value, kind_word, lane_value, mark_value, passage_word, picture_value, span_value, with_after, with_asked, with_column, with_fault, with_parts, with_span, with_window};
+ghost use Rattle.ira_view_json.specs.PictureValue.{after_value, arrow_value, asked_value, band_value, kind_word, lane_value, mark_value, passage_word, picture_value, span_value, with_after, with_asked, with_column, with_fault, with_span};
 ghost use Rattle.ira_view_json.specs.View.{view};
 ghost use Rattle.ira_view_moment.specs.ChosenMoment.{HasItsCase};
 ghost use Rattle.ira_view_moment.specs.Told.{told_of};
@@ -87,15 +88,6 @@ impl<A: Allocator + Clone> Object<A> {
         }
     }
 
-    fn window<B: Allocator>(&mut self, picture: &Picture<B>)
-        ensures { Puts (with_window picture.now.window picture.now.last picture.now.line) self.old self.new }
-    {
-        self.number("first", picture.window.first as u64);
-        self.number("last", picture.window.last as u64);
-        self.number("of", picture.last as u64);
-        self.column("line", picture.line);
-    }
-
     /// Puts what the case asks whose first moment it is.
     fn asked<Q: Allocator>(&mut self, moment: &ChosenMoment<Q>)
         requires { HasItsCase moment.now }
@@ -109,14 +101,6 @@ impl<A: Allocator + Clone> Object<A> {
             } => self.value("asks", asked_list(self.alloc(), &question.cases()[*number])),
             ChosenMoment::AtEnd | ChosenMoment::AtCut(_) | ChosenMoment::Unmet(_) => {}
         }
-    }
-
-    fn parts<B: Allocator>(&mut self, picture: &Picture<B>)
-        ensures { Puts (with_parts (map drawn_of picture.now.lanes.items) picture.now.arrows.items)
-            self.old self.new }
-    {
-        self.value("lanes", list_value(self.alloc(), &picture.lanes));
-        self.value("arrows", list_value(self.alloc(), &picture.arrows));
     }
 }
 
@@ -231,19 +215,23 @@ fn asked_list<A: Allocator + Clone, Q: Allocator>(
     Ok(Value::Array(list))
 }
 
-/// A picture, whose line is at this moment, where it has one.
-pub(crate) fn picture_value<A: Allocator + Clone, B: Allocator, Q: Allocator>(
-    alloc: &A,
+/// The line of a picture, whose line is at this moment, where it has one.
+pub fn picture_line<A: Allocator + Clone, B: Allocator, Q: Allocator>(
+    alloc: A,
     picture: &Picture<B>,
     moment: &ChosenMoment<Q>,
-) -> Result<Value<A>, OutOfMemory>
+) -> Result<String<A>, OutOfMemory>
     requires { HasItsCase moment.now }
-    ensures { IfOk result (λ value. view value ≡ picture_value picture.now.window picture.now.last picture.now.line
-        (told_of moment.now) (map drawn_of picture.now.lanes.items) picture.now.arrows.items) }
+    ensures { IfOk result (λ text. IsLineOf (picture_value picture.now.window picture.now.last picture.now.line
+        (told_of moment.now) (map drawn_of picture.now.lanes.items) picture.now.arrows.items) (string_bytes text)) }
 {
-    let mut object = Object::of(alloc.clone()?, "picture");
-    object.window(picture);
+    let mut object = Object::of(alloc, "picture");
+    object.number("first", picture.window.first as u64);
+    object.number("last", picture.window.last as u64);
+    object.number("of", picture.last as u64);
+    object.column("line", picture.line);
     object.asked(moment);
-    object.parts(picture);
-    object.finish()
+    object.value("lanes", list_value(object.alloc(), &picture.lanes));
+    object.value("arrows", list_value(object.alloc(), &picture.arrows));
+    object.into_line()
 }

@@ -12,7 +12,7 @@ use Rattle.ira_view.specs.declared.form.Form.TheVariants.{Json, Words}
 use Rattle.ira_view_picture.specs.declared.column_range.ColumnRange.{ColumnRange}
 use Rattle.ira_web.specs.Spelling.{case_values, leaders_values, moment_values, run_values}
 use Rattle.ira_web.specs.declared.request.Request.{Request}
-use Rattle.ira_web.specs.declared.request.Request.TheVariants.{AllOf, ExplainLog, Mend, OfLogs, OneLog, Pairs, Run, Upgrade}
+use Rattle.ira_web.specs.declared.request.Request.TheVariants.{AllOf, Ask, ExplainLog, Mend, OfLogs, OneLog, Pairs, Run, Upgrade}
 
 -- the number that says that lines of JSON are wanted, where they are
 abbrev pub json_values : Form → List ℕ
@@ -53,8 +53,8 @@ HasCommandValues (ExplainQuestion form case) values = values ≡ json_values for
 HasCommandValues (ExplainCheck form) values = values ≡ json_values form ++ 5 ∷ []
 HasCommandValues (Show form moment) values =
     (front : List ℕ) × HasFormValues form front × (values ≡ front ++ moment_values moment)
-HasCommandValues (Decide form is_brief certify) values =
-    (is_brief ≡ false) × (certify ≡ true) × (values ≡ json_values form ++ 9 ∷ [])
+HasCommandValues (Decide form true certify) values = (form ≡ Words) × (certify ≡ true) × (values ≡ 9 ∷ 1 ∷ [])
+HasCommandValues (Decide form false certify) values = (certify ≡ true) × (values ≡ json_values form ++ 9 ∷ [])
 HasCommandValues (Check form) values = values ≡ json_values form ++ 10 ∷ []
 
 -- the number of the request, and its values
@@ -65,6 +65,7 @@ HasValues (OfLogs command) values = HasCommandValues command values
 HasValues (AllOf overview) values = (from : ℕ) × (to : ℕ) × AreColumns overview.columns from to
     × (values ≡ 18 ∷ question_value overview.question ∷ from ∷ to ∷ moment_values overview.moment)
 HasValues (Pairs nodes) values = values ≡ 11 ∷ nodes ∷ []
+HasValues (Ask nodes) values = values ≡ 19 ∷ nodes ∷ []
 HasValues Upgrade values = values ≡ 12 ∷ []
 HasValues (Mend false) values = values ≡ 13 ∷ 0 ∷ []
 HasValues (Mend true) values = values ≡ 13 ∷ 1 ∷ []

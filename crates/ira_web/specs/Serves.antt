@@ -6,6 +6,7 @@ use Rattle.ira_view.specs.Status.{status_number}
 use Rattle.ira_view.specs.Texts.{texts_of}
 use Rattle.ira_view.specs.declared.form.Form.TheVariants.{Words}
 use Rattle.ira_commands.specs.Answers.{Answers}
+use Rattle.ira_commands.specs.Ask.{AsksSentence}
 use Rattle.ira_commands.specs.Explain.{ExplainsLog}
 use Rattle.ira_commands.specs.Given.{given_of}
 use Rattle.ira_commands.specs.Judging.{JudgesLog}
@@ -28,7 +29,7 @@ use Rattle.ira_web.specs.Files.{AreFiles}
 use Rattle.ira_web.specs.Request.{HasValues}
 use Rattle.ira_web.specs.Told.{HasNoRoom, IsTold, TellsReplies, ToldReplies}
 use Rattle.ira_web.specs.declared.request.Request.{Request}
-use Rattle.ira_web.specs.declared.request.Request.TheVariants.{AllOf, ExplainLog, Mend, OfLogs, OneLog, Pairs, Run, Upgrade}
+use Rattle.ira_web.specs.declared.request.Request.TheVariants.{AllOf, Ask, ExplainLog, Mend, OfLogs, OneLog, Pairs, Run, Upgrade}
 
 -- the only file is that of a log, of which this is told
 abbrev pub OfOneFile : (NamedText → Telling) → List NamedText → Reply → Type 0
@@ -79,6 +80,8 @@ ServesRequest A (ExplainLog form) files = Only (OfOneFile (ExplainsLog A form) f
 ServesRequest A (OfLogs command) files = Only (AnswersFiles A command files)
 ServesRequest A (AllOf overview) files = AnswersAll A overview files
 ServesRequest A (Pairs nodes) files = Only (λ reply. (files ≡ []) × AsksPairs nodes reply)
+ServesRequest A (Ask nodes) files =
+    Only (λ reply. (sentence : NamedText) × (files ≡ sentence ∷ []) × AsksSentence nodes sentence.text.now reply)
 ServesRequest A Upgrade files = Only (UpgradesTexts (texts_of files))
 ServesRequest A (Mend is_initiator) files = Only (MendsTexts is_initiator (texts_of files))
 ServesRequest A (Run asked) files = Only (λ reply. (files ≡ []) × RunsRing true asked reply)

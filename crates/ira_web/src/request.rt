@@ -47,6 +47,8 @@ const LEADERS: u64 = 17;
 
 const OVERVIEW: u64 = 18;
 
+const ASK: u64 = 19;
+
 // In place of how many nodes are to lead: any node.
 const ANY: u64 = u64::MAX;
 
@@ -120,6 +122,8 @@ pub(crate) enum Request<'v> {
     AllOf(Overview<'v>),
     /// The question whether two nodes of a ring of so many ever lead at once.
     Pairs(u64),
+    /// The question that a sentence stands for, of a ring of so many nodes.
+    Ask(u64),
     /// The logs of a ring in version 2.
     Upgrade,
     /// Of what is left of the logs of a ring the longest beginnings such that all are consistent; whether a node of which
@@ -137,7 +141,13 @@ impl<'v> Request<'v> {
         match values {
             [LOG] => Some(Request::OneLog),
             [DRAW, from, to, moment @ ..] => Request::picture(*from, *to, moment),
+            [DECIDE, 1] => Some(Request::OfLogs(LogsCommand::Decide {
+                form: Form::Words,
+                is_brief: true,
+                certify: true,
+            })),
             [PAIRS, nodes] => Some(Request::Pairs(*nodes)),
+            [ASK, nodes] => Some(Request::Ask(*nodes)),
             [UPGRADE] => Some(Request::Upgrade),
             [MEND, 0] => Some(Request::Mend(false)),
             [MEND, 1] => Some(Request::Mend(true)),

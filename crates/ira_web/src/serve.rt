@@ -3,7 +3,7 @@ ghost use Rattle.ira_web.specs.Serves.{ServesRequest};
 
 use crate::commands::{answer_all, answer_command, judge_log, mend, upgrade};
 use crate::request::Request;
-use ira_commands::{Reply, ask_pairs, explain_one, run_asked};
+use ira_commands::{Reply, ask_pairs, ask_sentence, explain_one, run_asked};
 use ira_event::OutOfMemory;
 use ira_view_page::NamedText;
 use std::alloc::Allocator;
@@ -50,6 +50,12 @@ pub(crate) fn serve<A: Allocator + Clone>(
                 return Ok(None);
             };
             only(alloc.clone()?, ask_pairs(alloc, *nodes)?)
+        }
+        Request::Ask(nodes) => {
+            let [sentence] = files else {
+                return Ok(None);
+            };
+            only(alloc.clone()?, ask_sentence(alloc, *nodes, sentence.text)?)
         }
         Request::Upgrade => only(alloc.clone()?, upgrade(alloc, files)?),
         Request::Mend(is_initiator) => only(alloc.clone()?, mend(alloc, *is_initiator, files)?),

@@ -17,5 +17,4 @@ returns-in-Ok-write_bytes g c =
 pub returns-in-Err : goal.returns-in-Err
 returns-in-Err g c =
     let size : IsRingSize c.args.nodes = search rules in
-    let it = rw c.in-Err.is at c.in_ok-question.ensures in
-    no_question size it.0 it.1 it.2
+    no_question size (rw c.in-Err.is at c.in_ok-question.ensures)

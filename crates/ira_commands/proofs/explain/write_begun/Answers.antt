@@ -4,29 +4,28 @@ use Rattle.ira_event.specs.LogText.{log_text}
 use Rattle.ira_event.specs.Sink.{Memory}
 use Rattle.ira_mend.proofs.RecordedTexts.{left_length}
 use Rattle.ira_audit.specs.Judged.{IsJudged}
-use Rattle.ira_audit.specs.Report.{report_line}
-use Rattle.ira_audit.specs.declared.answer.Answer.TheVariants.{No}
 use Rattle.ira_view_page.specs.declared.named_text.NamedText.{NamedText}
 use Rattle.ira_view.specs.Texts.{AreFiles, texts_of}
+use Rattle.ira_commands.proofs.Served.{if_ok}
 use Rattle.ira_commands.specs.Begun.{bytes_of, names_of}
 use Rattle.ira_commands.specs.Explain.{begun_heading}
 use Rattle.ira_commands.specs.Explain.ExplainsBegun.{begun, no_ring}
 use Rattle.ira_commands.proofs.explain.write_begun.Goals as goal
 
+pub write_no_ring-requires : goal.write_no_ring-requires
+write_no_ring-requires g c =
+    (rw c.in-Err-No.field-0-is at (c.in-Err-No.ensures (texts_of c.args.logs.now) c.in_ok-take_left.ensures)).1
+
 pub returns-in-Err-No : goal.returns-in-Err-No
 returns-in-Err-No g c =
     let why = rw c.in-Err-No.field-0-is at (c.in-Err-No.ensures (texts_of c.args.logs.now) c.in_ok-take_left.ensures) in
-    let line = report_line (No c.in-Err-No.reason) in (
-      begun_heading ++ line,
-      no_ring c.in-Err-No.reason why.0 refl,
-      c.in-Ok-write_report.ensures.took ∙ ap (λ (t : List ℕ). t ++ line) c.in-Ok.ensures.took
-          ∙ append_assoc c.args.text.now.bytes begun_heading line,
-    )
+    if_ok c.write_no_ring.result (λ done wrote. (wrote.0, no_ring c.in-Err-No.reason why.0 wrote.1, wrote.2))
+    c.write_no_ring.ensures
 
 pub name_texts-requires : goal.name_texts-requires
 name_texts-requires g c =
     let texts = texts_of c.args.logs.now in
-    let left = (c.in-Ok-gather.ensures texts c.in_ok-take_left.ensures).0 in
+    let left = (c.in-Ok.ensures texts c.in_ok-take_left.ensures).0 in
     ap length c.deref.ensures.value ∙ sym (length-map c.in_ok-texts.texts.items (λ (m : Memory). m.bytes))
     ∙ ap length c.in_ok-texts.ensures ∙ length-map _ log_text ∙ c.in_ok-begun.ensures.begun.places
     ∙ left_length 0 _ _ texts _ left.each ∙ length-map c.args.logs.now (λ (f : NamedText). f.text.now)
@@ -40,7 +39,7 @@ write_explained-requires g c =
 pub returns : goal.returns
 returns g c =
     let texts = texts_of c.args.logs.now in
-    let left = c.in-Ok-gather.ensures texts c.in_ok-take_left.ensures in
+    let left = c.in-Ok.ensures texts c.in_ok-take_left.ensures in
     let wrote = c.in_ok-write_explained.ensures.text in
     let named = subst (AreFiles (names_of c.args.logs.now) (bytes_of c.deref.result.now)) (sym c.deref-3.ensures.value)
     c.in_ok-named.ensures in (
@@ -57,6 +56,6 @@ returns g c =
         },
         named,
       ) wrote.1 refl,
-      wrote.2 ∙ ap (λ (t : List ℕ). t ++ wrote.0) c.in-Ok.ensures.took
+      wrote.2 ∙ ap (λ (t : List ℕ). t ++ wrote.0) c.in-Ok-write_bytes.ensures.took
           ∙ append_assoc c.args.text.now.bytes begun_heading wrote.0,
     )

@@ -23,13 +23,14 @@ returns g c =
     let nodes = c.in_ok-moment.moment.nodes in
     rw c.if-not-is_asked.false (record {
       moment = c.in_ok-moment.moment;
-      is_end = rw c.logs.ensures.value at c.in_ok-moment.ensures;
+      is_end = rw c.logs-logs.ensures.value at c.in_ok-moment.ensures;
       rounds = c.in_ok-rounds.rounds;
-      drawn = rw c.logs-2.ensures.value at c.in_ok-rounds.ensures;
+      drawn = rw c.logs-logs.ensures.value at c.in_ok-rounds.ensures;
       tie = seen (λ r. nat_lt 1 (length r.greatest_of)) _ tie;
       second_round = seen (λ r. nat_lt 1 r.number) _ later;
       second_term = any_from_yields_List (λ (p : NodeProgress). nat_lt 1 p.state.term) _ _ _ c.any-3.ensures.ran
           (YieldsList-from_slice nodes (search rules)) (λ x b q k. search (rules, tests));
+      wake_up = rw c.logs-logs.ensures.value at c.has_wake_up.ensures;
       dropped = any_from_yields_List (λ (p : NodeProgress). nat_lt 0 p.dropped) _ _ _ c.any-4.ensures.ran
           (YieldsList-from_slice nodes (search rules)) (λ x b q k. search (rules, tests));
     })

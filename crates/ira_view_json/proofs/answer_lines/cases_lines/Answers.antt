@@ -1,10 +1,12 @@
-use Rattle.std.proofs.Common.{◌≡◌, ◌∙◌, ◌∷◌, ◌++◌, ◌+◌, ap, drop, map, rules, string_bytes, subst, sym}
-use Rattle.std.specs.List.{enumerate_from, list_any}
+use Rattle.std.proofs.Common.{◌≡◌, ◌∷◌, ◌++◌, ◌+◌, ap, drop, map, rules, string_bytes, subst, sym}
+use Rattle.std.specs.List.{enumerate_from}
+use Rattle.std.specs.Prelude.{codes}
 use Rattle.std.proofs.lemmas.List.{drop_all}
-use Rattle.ira_view_json.specs.View.{view}
 use Rattle.ira_event.proofs.Rest.{drop-at}
-use Rattle.ira_view_json.specs.AnswerValue.{case_value, cases_values, decision_value, decision_word, is_met}
-use Rattle.ira_view_json.specs.Line.{AreLinesOf, IsLineOf}
+use Rattle.ira_view_json.specs.AnswerValue.{case_value, cases_values}
+use Rattle.ira_view_json.specs.Line.{AreLinesOf}
+use Rattle.ira_view_json.specs.Members.{with_number}
+use Rattle.ira_view_json.proofs.Putting.{held, puts_by}
 use Rattle.ira_view_json.proofs.LineTexts.{Begins, begins_all, begins_more, line_before}
 use Rattle.ira_view_json.proofs.answer_lines.cases_lines.Goals as goal
 
@@ -12,12 +14,9 @@ pub loop-case-init : goal.loop-case-init
 loop-case-init g c rest lines =
     let xs = c.as_slice-cases.result.now in
     let text = string_bytes c.in_ok-text.text in
-    let first : view c.in_ok-first.first
-    ≡ decision_value (decision_word (list_any is_met xs)) c.args.decided.now.nodes c.args.status =
-    c.in_ok-first.ensures
-    ∙ ap (λ n. decision_value (decision_word (list_any is_met xs)) n c.args.status) c.get.ensures.value in
     line_before _ (map case_value (enumerate_from 0 xs)) text rest
-    (subst (λ v. IsLineOf v text) first c.in_ok-text.ensures) lines
+    (c.in_ok-text.ensures _ (held (rw c.has_met.ensures at c.decision-first.ensures)
+    (puts_by (with_number (codes "nodes")) c.get.ensures.value c.number.ensures))) lines
 
 pub loop-case-preserved : goal.loop-case-preserved
 loop-case-preserved g c =
@@ -30,7 +29,7 @@ loop-case-preserved g c =
     let more = map case_value (enumerate_from (i + 1) (drop (i + 1) xs)) in
     let parts : left ≡ case_value (i, x) ∷ more =
     ap (λ ys. map case_value (enumerate_from i ys)) (drop-at xs i x x c.loop-case-test.true c.index-cases-case.is) in
-    let is = subst (λ v. IsLineOf v line) c.in_ok-value.ensures c.in_ok-line.ensures in
+    let is = c.in_ok-line.ensures _ c.decided_for.ensures in
     let added : string_bytes c.push_str.new.self ≡ string_bytes c.loop-case.text ++ line = search rules in
     subst (Begins all more) (sym added)
     (begins_more all left more (case_value (i, x)) (string_bytes c.loop-case.text) line parts is c.loop-case.invariant)

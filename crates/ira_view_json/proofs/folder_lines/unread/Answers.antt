@@ -1,7 +1,0 @@
-use Rattle.ira_view_json.proofs.Putting.{◌&◌, held}
-use Rattle.ira_view_json.proofs.folder_lines.unread.Goals as goal
-
-pub returns : goal.returns
-returns g c =
-    held c.of-object.ensures
-    (c.words.ensures & c.text.ensures & c.number.ensures & c.number-2.ensures)
