@@ -70,14 +70,16 @@ test:
 	@sh build/test.sh
 
 # The merge gate: every proof from nothing, the edits that the prover must refuse, all tests, the programs as
-# two compilers build them, and the checks that take minutes at most.
+# two compilers build them, and the checks that take minutes at most, beside the edits.
 prove:
 	@$(needs_kit)
 	@sh build/release.sh sums
+	rm -rf crates/*/out/rlib
 	rt ci
-	@python3 -B checks/refused.py
-	@sh checks/all.sh crates/ira/out/ira definitions names sentences weight release examples limits pages completions version pictures script json plain hints writes odd_names refusals
-	@sh build/prove.sh web lib && sh checks/all.sh bin/ira page web library
+	@said=$$(mktemp); python3 -B checks/refused.py > $$said 2>&1 & edits=$$!; \
+	sh checks/all.sh crates/ira/out/ira definitions names sentences weight release examples limits pages completions version pictures script json plain hints writes odd_names refusals && \
+	sh build/prove.sh web lib proved && sh checks/all.sh bin/ira page web library; well=$$?; \
+	wait $$edits || well=1; cat $$said; rm $$said; exit $$well
 	@sh build/release.sh prove
 
 install:

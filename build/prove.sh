@@ -1,18 +1,20 @@
 #!/bin/sh
-# sh build/prove.sh [web] [lib]  proves and builds the program, bin/ira, with bin/ira.o, the object file that was linked;
-# with `web` the module for a browser too, and the page that has it, bin/ira.html; with `lib` the same module as a library,
-# bin/libira.a and bin/libira.so. bin/TREE says what they were made of (build/tree.sh).
+# sh build/prove.sh [web] [lib] [proved]  proves and builds the program, bin/ira, with bin/ira.o, the object file that was
+# linked; with `web` the module for a browser too, and the page that has it, bin/ira.html; with `lib` the same module as a
+# library, bin/libira.a and bin/libira.so. bin/TREE says what they were made of (build/tree.sh).
 #
 # The libraries are proved by `rt ci`, in a copy without tests: so what the gate proved of the same files is
-# taken from where the kit keeps it, and what is proved here is there for the gate. The program and the module are proved
-# in the same way: from nothing, over what the libraries state.
+# taken from where the kit keeps it, and what is proved here is there for the gate. With `proved` they are those that
+# `rt ci` left in crates/NAME/out of these files: not every kit keeps them. The program and the module are proved in the
+# same way: from nothing, over what the libraries state.
 set -e
-here=$PWD web='' lib=''
+here=$PWD web='' lib='' proved=''
 for it in "$@"; do
     case $it in
     web) web=web ;;
     lib) lib=lib ;;
-    *) echo "prove.sh: web or lib, and not $it" >&2; exit 2 ;;
+    proved) proved=proved ;;
+    *) echo "prove.sh: web, lib or proved, and not $it" >&2; exit 2 ;;
     esac
 done
 made="bin/ira${web:+, bin/ira.html}${lib:+, bin/libira.a, bin/libira.so}"
@@ -36,10 +38,14 @@ elif [ -x "$here/bin/ira" ] && { [ -z "$web" ] || [ -f "$here/bin/ira.html" ]; }
 fi
 
 mv crates/ira crates/ira_web .
-mv crates HANDLES libraries
-sed '/^test_/d; /^ira:/d; /^ira_web /d' crates.txt > libraries/crates.txt
-(cd libraries && rt ci)
-mv libraries/crates/*/out/rlib/*.rlib rlibs
+if [ -n "$proved" ]; then
+    cp -r "$here"/crates/*/out/rlib/*.rlib rlibs
+else
+    mv crates HANDLES libraries
+    sed '/^test_/d; /^ira:/d; /^ira_web /d' crates.txt > libraries/crates.txt
+    (cd libraries && rt ci)
+    mv libraries/crates/*/out/rlib/*.rlib rlibs
+fi
 
 # Proves and builds the crate that stands in a folder of its name.
 build() {
