@@ -1,12 +1,11 @@
 -- Of which logs findings are, and what is told of them.
-use Rattle.std.proofs.Common.{◌≡◌, ◌∙◌, ℕ, zero, suc, ◌+◌, ◌<◌, ◌≤◌, inl, List, [], ◌∷◌, ◌++◌, Some, ap, arith, length}
-use Rattle.std.proofs.Common.{refl, subst, take}
+use Rattle.std.proofs.Common.{◌≡◌, ◌∙◌, ℕ, ◌+◌, ◌≤◌, List, [], ◌∷◌, ◌++◌, Some, ap, length, refl, subst, take}
 use Rattle.std.specs.Prelude.{slice_get}
 use Rattle.ira_event.specs.declared.event.Event.{Event}
 use Rattle.ira_event.specs.Log.{Log}
 use Rattle.ira_order.specs.declared.event_at.EventAt.{EventAt}
 use Rattle.ira_order.specs.declared.faulty_event.FaultyEvent.{FaultyEvent}
-use Rattle.ira_order.specs.FaultyEvent.{AreFirstFaultyEvents, IsFirstFaultyEvent}
+use Rattle.ira_order.specs.FaultyEvent.{IsFirstFaultyEvent}
 use Rattle.ira_replay.specs.declared.replay_fault.ReplayFault.{ReplayFault}
 use Rattle.ira_replay.specs.LocalRun.{IsFirstFault, IsLocalRun}
 use Rattle.ira_replay.proofs.FirstFaults.{one_stop, run_or_fault}
@@ -15,8 +14,7 @@ use Rattle.ira_view_page.specs.declared.evidence.Evidence.TheVariants.{OtherFaul
 use Rattle.ira_view_page.specs.declared.named_text.NamedText.{NamedText}
 use Rattle.ira_view_page.specs.declared.record_at.RecordAt.{RecordAt}
 use Rattle.ira_view_explain.specs.declared.steps_finding.OtherStop.{OtherStop}
-use Rattle.ira_view_explain.specs.Refused.{AreOtherStops, AreStepsTold, IsOtherTold, IsRecordOf}
-use Rattle.ira_view_page.specs.Parts.{AreParts, more, none}
+use Rattle.ira_view_explain.specs.Refused.{AreStepsTold, IsOtherTold, IsRecordOf}
 use Rattle.ira_view_page.proofs.Parts.{parts_all, parts_more}
 
 -- the fault of a node's first event without a step is its log's first

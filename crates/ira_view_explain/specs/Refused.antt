@@ -1,5 +1,5 @@
 -- What stands against the logs of a ring, and what an explanation tells of it.
-use Rattle.std.specs.Prelude.{◌≡◌, ◌≢◌, ◌↔◌, ◌⊎◌, Bool, IsTrue, List, [], ◌∷◌, ◌++◌, MatchOption, Option, None, Some}
+use Rattle.std.specs.Prelude.{◌≡◌, ◌≢◌, ◌↔◌, ◌⊎◌, IsTrue, List, [], ◌∷◌, ◌++◌, MatchOption, Option, None, Some}
 use Rattle.std.specs.Prelude.{codes, slice_get, string_bytes}
 use Rattle.ira_event.specs.declared.event.Event.{Event}
 use Rattle.ira_event.specs.declared.event.Event.TheVariants.{Got, Sent as EventSent}

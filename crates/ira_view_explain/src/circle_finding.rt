@@ -4,10 +4,11 @@ ghost use Rattle.ira_view_explain.specs.Refused.{AreStuckTold};
 
 use crate::numbered::{fill, numbered_page};
 use crate::ring_files::RingFiles;
+use crate::text_hint::TextHint;
 use ira_event::{Event, OutOfMemory};
 use ira_order::FaultyEvent;
 use ira_view_evidence::{CircleEvidence, StuckAt};
-use ira_view_page::{Emphasis, Evidence, Page, Row, Table, file_of, line_of};
+use ira_view_page::{Emphasis, Evidence, Page, Row, Table, file_of, hints_of, line_of};
 use std::alloc::Allocator;
 
 /// Adds a node's first event without a step, and that it came before what is told of that node, where it did.
@@ -107,12 +108,9 @@ impl<A: Allocator + Clone> CircleFinding<A> {
 
     /// The usual cause: the logs aren't in the order of their nodes.
     pub(crate) fn hints(&self, alloc: &A) -> Result<Vec<String<A>, A>, OutOfMemory> {
-        let mut hints = Vec::new(alloc.clone()?);
-        hints.push(String::from_str(
-            alloc.clone()?,
+        let hint =
             "records that are not in the order of the node: two threads write one log, or records were sorted by \
-                 a clock.",
-        )?)?;
-        Ok(hints)
+                 a clock.";
+        hints_of(alloc, Some(&TextHint::Words(hint)))
     }
 }

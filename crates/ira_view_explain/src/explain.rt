@@ -15,7 +15,6 @@ ghost use Rattle.ira_view_explain.specs.Refused.{IsNoRingTold, IsRefusedTold, Is
 ghost use Rattle.ira_view_explain.specs.TextTold.{IsTextTold};
 
 use crate::heads_finding::HeadsFinding;
-use crate::hint::hints_of;
 use crate::numbered::numbered_page;
 use crate::refused_finding::RefusedFinding;
 use crate::ring_files::RingFiles;
@@ -26,7 +25,7 @@ use ira_event::{HeadFault, LogFault, Logs, NodeLog, OutOfMemory, read_log};
 use ira_node::NodeState;
 use ira_order::EventAt;
 use ira_replay::{ReplayFault, replay};
-use ira_view_page::{Evidence, Explanation, NamedText, Page, RecordAt, RingCounts};
+use ira_view_page::{Evidence, Explanation, NamedText, Page, RecordAt, RingCounts, hints_of};
 use ira_view_show::print_run;
 use std::alloc::Allocator;
 
@@ -89,9 +88,15 @@ fn explain_text<A: Allocator + Clone>(
 {
     let finding = TextFinding::find(file, fault);
     let mut page = Page::after_answer(alloc.clone()?);
-    finding.print(file, &mut page);
+    finding.stop.print(file, "four", &mut page);
+    if let Some(forms) = finding.forms {
+        page.blank();
+        page.paragraph(forms);
+    } else if finding.hint.is_some() {
+        page.blank();
+    }
     let mut evidence = Vec::new(alloc.clone()?);
-    evidence.push(finding.evidence(alloc, file)?)?;
+    evidence.push(finding.stop.evidence(alloc, file)?)?;
     let hints = hints_of(alloc, finding.hint.as_ref())?;
     Explanation::of_page(alloc, None, page, evidence, hints)
 }

@@ -1,10 +1,9 @@
-ghost use Rattle.std.specs.Prelude.{◌≡◌, ◌<◌, ℕ, MatchOption, min};
+ghost use Rattle.std.specs.Prelude.{◌≡◌, ◌<◌, ℕ, List, MatchOption, min};
+ghost use Rattle.ira_view_page.specs.Beside.{due};
 ghost use Rattle.ira_view_explain.specs.HeadLine.{IsFirstStop, IsNumbered, IsWithin, head_number, most_nodes};
 
-use crate::numbered::fill;
 use ira_event::{MAX_NODES, MAX_VERSION, MAX_VERSION_1_NODES, scan_number, skip_word};
-use ira_view_page::{NamedText, Page};
-use std::alloc::Allocator;
+use ira_view_page::{Among, Beside, NamedText, Remark};
 
 /// A line of a log's head.
 #[derive(Clone, Copy)]
@@ -47,15 +46,21 @@ impl HeadLine {
         }
     }
 
-    /// Adds what such a line says.
-    pub(crate) fn print<A: Allocator>(self, text: &mut Page<A>) {
+    /// That such a line is due.
+    pub(crate) fn beside(self) -> Beside
+        ensures { (words : List ℕ) × (result ≡ due words) }
+    {
         match self {
-            HeadLine::Version => text.words("`irlog 1` or `irlog 2`"),
-            HeadLine::Nodes { most } => fill(text, "`nodes N` with N from 2 to {}", [most as u64]),
-            HeadLine::Place { nodes } => {
-                text.numbered("`place I` with I from 0 to ", nodes.saturating_sub(1));
+            HeadLine::Version => Beside::due("`irlog 1` or `irlog 2`"),
+            HeadLine::Nodes { most } => {
+                let words = "`nodes N` with N from 2 to ";
+                Beside::new(Remark::Due, words, Among::Number(most), "")
             }
-            HeadLine::Start => text.words("`start initiator` or `start passive`"),
+            HeadLine::Place { nodes } => {
+                let last = Among::Number(nodes.saturating_sub(1) as usize);
+                Beside::new(Remark::Due, "`place I` with I from 0 to ", last, "")
+            }
+            HeadLine::Start => Beside::due("`start initiator` or `start passive`"),
         }
     }
 

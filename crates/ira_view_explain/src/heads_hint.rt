@@ -1,7 +1,6 @@
-use crate::hint::Hint;
 use crate::numbered::fill;
 use crate::place_list::add_places;
-use ira_view_page::Page;
+use ira_view_page::{Hint, Page};
 use std::alloc::Allocator;
 
 /// A usual cause why logs aren't those of one ring.

@@ -1,6 +1,7 @@
 use crate::field::Field;
 use crate::line_form::fields_of;
 use ira_event::{MAX_NUMBER, skip_word};
+use ira_view_page::{Among, Beside, Remark};
 
 /// What is due at a place of a line.
 #[derive(Clone, Copy, PartialEq, Eq)]
@@ -15,6 +16,22 @@ pub(crate) enum DueInLine {
     SpaceAnd(Field),
     /// The line's end.
     End,
+}
+
+impl DueInLine {
+    /// That it is due in a log of this version.
+    pub(crate) fn beside(self, version: u8) -> Beside {
+        match self {
+            DueInLine::Word if version == 1 => Beside::due("`draw`, `send`, `recv` or `end`"),
+            DueInLine::Word => Beside::due("`draw`, `send`, `recv`, `yield` or `end`"),
+            DueInLine::Field(field) => Beside::due(field.due(version)),
+            DueInLine::Space => Beside::due("one space"),
+            DueInLine::SpaceAnd(field) => {
+                Beside::new(Remark::Due, "one space and ", Among::Nothing, field.name())
+            }
+            DueInLine::End => Beside::due("the end of the line"),
+        }
+    }
 }
 
 /// What a line shows that no log has after its head. Bytes count from 0.

@@ -4,14 +4,13 @@ ghost use Rattle.ira_order.specs.FaultyEvent.{AreFirstFaultyEvents, IsFirstFault
 ghost use Rattle.ira_view_explain.specs.Refused.{AreOtherStops, AreSteps, AreStepsTold, IsOtherStop};
 ghost use Rattle.ira_view_page.specs.Parts.{AreParts};
 
-use crate::hint::hints_of;
 use crate::ring_files::RingFiles;
 use crate::stop_hint::StopHint;
 use crate::stopped_log::StoppedLog;
 use ira_event::{Event, NodeLog, OutOfMemory};
 use ira_order::{DirectDependencies, FaultyEvent, HappenedBefore};
 use ira_view_evidence::{Origin, origins};
-use ira_view_page::{Emphasis, Evidence, Page, event_at, file_of, log_at};
+use ira_view_page::{Emphasis, Evidence, Page, event_at, file_of, hints_of, log_at};
 use std::alloc::Allocator;
 
 /// At most so many events of other nodes are shown on a page.

@@ -1,7 +1,6 @@
-use crate::hint::Hint;
 use crate::numbered::fill;
 use ira_event::Load;
-use ira_view_page::Page;
+use ira_view_page::{Hint, Page};
 use std::alloc::Allocator;
 
 /// A usual cause why an event has no step.

@@ -1,7 +1,6 @@
 ghost use Rattle.std.specs.Prelude.{◌≡◌, ◌↔◌, ◌+◌, ℕ, IfSome, IsTrue, List, MatchOption, ◌∷◌, [], ◌++◌, Some, length};
 ghost use Rattle.std.specs.Prelude.{slice_get};
 ghost use Rattle.std.specs.List.{list_any, position};
-ghost use Rattle.ira_event.specs.Log.{Log};
 ghost use Rattle.ira_event.specs.declared.event.Event.TheVariants as Event;
 ghost use Rattle.ira_node.specs.NodeStep.{NodeStep};
 ghost use Rattle.ira_node.specs.declared.node_state.NodeState.{NodeState};

@@ -1,38 +1,24 @@
-ghost use Rattle.std.specs.Prelude.{◌≤◌, IfOk, IfSome};
+ghost use Rattle.std.specs.Prelude.{◌≡◌, ◌≤◌, IfSome};
 ghost use Rattle.ira_event.specs.Limits.{MAX_RECORDS};
 ghost use Rattle.ira_event.specs.LogTextFault.{LogTextFault, OpeningFault};
 ghost use Rattle.ira_event.specs.declared.log_fault.LogFault.{LogFault};
 ghost use Rattle.ira_view_explain.specs.TextHint.{IsSo};
-ghost use Rattle.ira_view_explain.specs.TextTold.{IsAt, IsAtLine, IsCutStop, IsFaultAfter, IsHeadStop, IsLineTold};
-ghost use Rattle.ira_view_explain.specs.TextTold.{IsStopTold, IsTextStop, IsWholeLine};
+ghost use Rattle.ira_view_explain.specs.TextTold.{IsAtLine, IsFaultAfter, IsHeadStop, IsTextStop};
 ghost use Rattle.ira_view_page.specs.Printable.{IsPrintable};
 
 use crate::head_line::{HeadLine, number_of};
-use crate::line_remark::LineRemark;
 use crate::line_slip::slip_of_line;
 use crate::line_stop::LineStop;
 use crate::text_hint::TextHint;
-use ira_event::{LogFault, MAX_NODES, MAX_RECORDS, MAX_VERSION_1_NODES, OutOfMemory, open_log};
-use ira_view_page::{
-    Evidence, NamedText, Page, PointedLine, Remark, Slip, print_short_head, print_too_long,
-    whole_text,
-};
-use std::alloc::Allocator;
-
-/// What a text shows that is no log's.
-#[derive(Clone, Copy)]
-pub(crate) enum TextStop {
-    TooLong,
-    /// It ends in its head: so many whole lines, and a piece of one after these, if there is one.
-    ShortHead(usize, Option<PointedLine>),
-    /// This line has what the remark says.
-    Line(PointedLine, LineRemark),
-}
+use ira_event::{LogFault, MAX_NODES, MAX_RECORDS, MAX_VERSION_1_NODES, open_log};
+use ira_view_page::{Among, Beside, NamedText, Remark, Slip, TextStop};
 
 /// Why a text is no log's.
-#[derive(Clone, Copy)]
+#[derive(Drop)]
 pub(crate) struct TextFinding {
     pub(crate) stop: TextStop,
+    /// What lines there are, where one is none of these.
+    pub(crate) forms: Option<&'static str>,
     pub(crate) hint: Option<TextHint>,
 }
 
@@ -118,66 +104,47 @@ fn file_hint(line: &[u8]) -> Option<&'static str> {
 }
 
 impl TextFinding {
+    /// That a text shows it there, with a usual cause.
+    fn new(stop: TextStop, hint: Option<TextHint>) -> TextFinding
+        ensures { result.stop ≡ stop }
+    {
+        TextFinding {
+            stop,
+            forms: None,
+            hint,
+        }
+    }
+
     /// Of a text with this fault.
     pub(crate) fn find(file: &NamedText<'_>, fault: LogFault) -> TextFinding
         requires { LogTextFault file.now.text.now fault }
         ensures { IsTextStop file.now.text.now fault result.stop }
     {
         match fault {
-            LogFault::TooLong => TextFinding {
-                stop: TextStop::TooLong,
-                hint: Some(TextHint::Words("such a file is seldom a log: look at the names.")),
-            },
+            LogFault::TooLong => {
+                let hint = "such a file is seldom a log: look at the names.";
+                TextFinding::new(TextStop::TooLong, Some(TextHint::Words(hint)))
+            }
             LogFault::Head => TextFinding::of_head(file),
             LogFault::Line(number) | LogFault::Range(number) => {
                 TextFinding::of_line(file, number as usize)
             }
             LogFault::TooMany => {
-                let hint = Some(TextHint::Words(
+                let hint = TextHint::Words(
                     "a log has at most 100,000 records. With all logs of the ring `ira mend --out DIR` keeps as many \
                      of each, as far as they fit together.",
-                ));
-                TextFinding::whole_line(file, MAX_RECORDS + 5, LineRemark::TooMany, hint)
+                );
+                let beside = Beside::note("record 100,001");
+                TextFinding::new(
+                    TextStop::whole_line(file, MAX_RECORDS + 5, beside),
+                    Some(hint),
+                )
             }
             LogFault::Cut => TextFinding::of_cut(file),
             LogFault::Count => TextFinding::of_count(file),
             LogFault::Trailing => TextFinding::of_trailing(file),
             LogFault::OutOfMemory => unreachable!(),
         }
-    }
-
-    /// A line of this number, with these bytes.
-    fn at(
-        number: usize,
-        from: usize,
-        to: usize,
-        remark: LineRemark,
-        hint: Option<TextHint>,
-    ) -> TextFinding
-        ensures { IsAt number from to remark result.stop }
-    {
-        let line = PointedLine {
-            number,
-            from,
-            to,
-            remark: remark.kind(),
-        };
-        TextFinding {
-            stop: TextStop::Line(line, remark),
-            hint,
-        }
-    }
-
-    /// All of a line of this number.
-    fn whole_line(
-        file: &NamedText<'_>,
-        number: usize,
-        remark: LineRemark,
-        hint: Option<TextHint>,
-    ) -> TextFinding
-        ensures { IsWholeLine file.now.text.now number remark result.stop }
-    {
-        TextFinding::at(number, 0, file.line(number).len(), remark, hint)
     }
 
     fn of_head(file: &NamedText<'_>) -> TextFinding
@@ -189,40 +156,21 @@ impl TextFinding {
         let line = file.line(number);
         let stop = due.stop(line);
         if due.number() <= whole {
-            return TextFinding::at(
-                number,
-                stop,
-                stop,
-                LineRemark::Head(due),
-                head_hint(due, line).map(TextHint::Words),
-            );
+            let hint = head_hint(due, line).map(TextHint::Words);
+            return TextFinding::new(TextStop::at(number, stop, stop, due.beside()), hint);
         }
-        let end = line.len();
-        TextFinding {
-            stop: TextStop::ShortHead(
-                whole,
-                if end == 0 {
-                    None
-                } else {
-                    Some(PointedLine {
-                        number,
-                        from: end,
-                        to: end,
-                        remark: Remark::Due,
-                    })
-                },
-            ),
-            hint: if stop == end {
-                Some(TextHint::Words(
-                    "a node that was stopped before it had written its head. With all files of the ring \
-                     `ira mend --out DIR` gives it a log without events.",
-                ))
-            } else if number == 1 {
-                file_hint(line).map(TextHint::Words)
-            } else {
-                None
-            },
-        }
+        let hint = if stop == line.len() {
+            Some(
+                "a node that was stopped before it had written its head. With all files of the ring \
+                 `ira mend --out DIR` gives it a log without events.",
+            )
+        } else if number == 1 {
+            file_hint(line)
+        } else {
+            None
+        };
+        let stop = TextStop::ShortHead(whole, file.piece());
+        TextFinding::new(stop, hint.map(TextHint::Words))
     }
 
     fn of_line(file: &NamedText<'_>, number: usize) -> TextFinding
@@ -233,43 +181,53 @@ impl TextFinding {
         match LineStop::find(line, version) {
             LineStop::Due(byte, due) => {
                 let slip = slip_of_line(line, byte, due, version);
-                let hint = slip.map(|slip| TextHint::Words(slip.hint()));
-                TextFinding::at(number, byte, byte, LineRemark::Line { due, version }, hint)
+                TextFinding {
+                    stop: TextStop::at(number, byte, byte, due.beside(version)),
+                    forms: Some(line_forms(version)),
+                    hint: slip.map(|slip| TextHint::Words(slip.hint())),
+                }
             }
             LineStop::Range(field, from, to) => {
                 let hint = match line.get(from) {
-                    Some(b'0') if line.starts_with(b"draw ") => Some(TextHint::Words(
+                    Some(b'0') if line.starts_with(b"draw ") => Some(
                         "IDs count from 1: draw 1 to N.",
-                    )),
-                    Some(b'0') => Some(TextHint::Words(
+                    ),
+                    Some(b'0') => Some(
                         "rounds, IDs and hops count from 1: add 1 to each, on both ends of the link.",
-                    )),
+                    ),
                     _ => None,
                 };
-                TextFinding::at(number, from, to, LineRemark::Range(field), hint)
+                let words = " is 1 to 1,000,000";
+                let beside = Beside::new(Remark::Note, field.name(), Among::Nothing, words);
+                TextFinding::new(
+                    TextStop::at(number, from, to, beside),
+                    hint.map(TextHint::Words),
+                )
             }
         }
     }
 
     fn of_cut(file: &NamedText<'_>) -> TextFinding
-        ensures { IsCutStop file.now.text.now result.stop }
+        ensures { IsTextStop file.now.text.now LogFault.Cut result.stop }
     {
         let whole = file.whole_lines();
         let records = whole.saturating_sub(4);
-        let next = whole.saturating_add(1);
-        let piece = file.line(next);
-        let is_end = number_of(piece, b"end ").is_some_and(|count| count as usize == records);
-        let hint = Some(TextHint::Words(if is_end {
+        let is_end = number_of(file.line(whole + 1), b"end ").is_some_and(|count| count as usize
+            == records);
+        let hint = TextHint::Words(if is_end {
             "only the line feed is missing."
         } else {
             "a crash, or a file that was not closed. With all logs of the ring `ira mend --out DIR` keeps what stands \
              in each up to its last whole line, as far as it fits together."
-        }));
-        if piece.is_empty() {
-            TextFinding::whole_line(file, whole, LineRemark::Last { records }, hint)
-        } else {
-            TextFinding::at(next, piece.len(), piece.len(), LineRemark::LineFeed, hint)
-        }
+        });
+        let after = "` is due after it";
+        let last = Beside::new(
+            Remark::Note,
+            "the last line; `end ",
+            Among::Number(records),
+            after,
+        );
+        TextFinding::new(TextStop::of_cut(file, last), Some(hint))
     }
 
     fn of_count(file: &NamedText<'_>) -> TextFinding
@@ -279,8 +237,9 @@ impl TextFinding {
         let records = count_records(file);
         let number = records + 5;
         let line = file.line(number);
-        let hint = count_hint(line, records);
-        TextFinding::at(number, 4, line.len(), LineRemark::End { records }, hint)
+        let beside = Beside::new(Remark::Note, "the log has ", Among::Records(records), "");
+        let stop = TextStop::at(number, 4, line.len(), beside);
+        TextFinding::new(stop, count_hint(line, records))
     }
 
     fn of_trailing(file: &NamedText<'_>) -> TextFinding
@@ -288,84 +247,16 @@ impl TextFinding {
         ensures { IsTextStop file.now.text.now LogFault.Trailing result.stop }
     {
         let end = count_records(file) + 5;
-        let number = end + 1;
-        let line = file.line(number);
-        let hint = if line.starts_with(b"irlog") {
-            Some(TextHint::Words(
+        let rest = file.from_line(end + 1);
+        let hint = if rest.starts_with(b"irlog") {
+            Some(
                 "a second log follows: the file was opened to append to. Use a new file for each run.",
-            ))
-        } else if file.from_line(number) == b"\n".as_slice() {
-            Some(TextHint::Words("an empty line."))
+            )
+        } else if rest == b"\n".as_slice() {
+            Some("an empty line.")
         } else {
             None
         };
-        TextFinding::whole_line(file, number, LineRemark::AfterEnd { end }, hint)
+        TextFinding::new(TextStop::after_end(file, end), hint.map(TextHint::Words))
     }
-
-    /// Adds what shows it in this file.
-    pub(crate) fn print<A: Allocator>(&self, file: &NamedText<'_>, page: &mut Page<A>) {
-        match self.stop {
-            TextStop::TooLong => print_too_long(file, page),
-            TextStop::ShortHead(whole, piece) => {
-                print_short_head(file, whole, "four", page);
-                if let Some(piece) = piece {
-                    print_pointed(file, &piece, LineRemark::LineFeed, page);
-                }
-            }
-            TextStop::Line(line, remark) => {
-                print_pointed(file, &line, remark, page);
-                if let LineRemark::Line { version, .. } = remark {
-                    page.blank();
-                    page.paragraph(line_forms(version));
-                    return;
-                }
-            }
-        }
-        if self.hint.is_some() {
-            page.blank();
-        }
-    }
-
-    /// What it rests on: the line, or the text as a whole.
-    pub(crate) fn evidence<A: Allocator + Clone>(
-        &self,
-        alloc: &A,
-        file: &NamedText<'_>,
-    ) -> Result<Evidence<A>, OutOfMemory>
-        ensures { IfOk result (IsStopTold file.now self.now.stop) }
-    {
-        match self.stop {
-            TextStop::Line(line, remark) => pointed_told(alloc, file, &line, remark),
-            TextStop::ShortHead(_, Some(piece)) => {
-                pointed_told(alloc, file, &piece, LineRemark::LineFeed)
-            }
-            TextStop::ShortHead(_, None) | TextStop::TooLong => whole_text(alloc, file),
-        }
-    }
-}
-
-/// Adds a line of a file, with this beside its carets.
-fn print_pointed<A: Allocator>(
-    file: &NamedText<'_>,
-    line: &PointedLine,
-    remark: LineRemark,
-    page: &mut Page<A>,
-) {
-    line.print(file, page);
-    remark.print(page);
-    line.print_end(page);
-}
-
-/// The same as evidence.
-fn pointed_told<A: Allocator + Clone>(
-    alloc: &A,
-    file: &NamedText<'_>,
-    line: &PointedLine,
-    remark: LineRemark,
-) -> Result<Evidence<A>, OutOfMemory>
-    ensures { IfOk result (IsLineTold file.now line.now) }
-{
-    let mut words = Page::new(alloc.clone()?);
-    remark.print(&mut words);
-    Ok(Evidence::Line(line.quoted(alloc, file, words)?))
 }

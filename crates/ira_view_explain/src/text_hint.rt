@@ -1,5 +1,4 @@
-use crate::hint::Hint;
-use ira_view_page::Page;
+use ira_view_page::{Hint, Page};
 use std::alloc::Allocator;
 
 /// A usual cause why a text is no log's.

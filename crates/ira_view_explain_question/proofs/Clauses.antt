@@ -1,7 +1,6 @@
 -- Clauses of a case in the lines of a question's text, one more at a time.
 use Rattle.std.proofs.Common.{◌≡◌, ◌∙◌, ◌<◌, ℕ, ◌+◌, List, [], ◌∷◌, ◌++◌, Option, Some, append_assoc, append-nil, ap}
-use Rattle.std.proofs.Common.{arith}
-use Rattle.std.proofs.Common.{◌≤◌, false, length, nat_le, refl, subst}
+use Rattle.std.proofs.Common.{arith, ◌≤◌, false, length, nat_le, refl, subst}
 use Rattle.std.proofs.lemmas.Bool.Decides.{nat_tests}
 use Rattle.std.specs.Prelude.{codes}
 use Rattle.std.specs.List.{flat_map}

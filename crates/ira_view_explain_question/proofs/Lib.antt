@@ -4,6 +4,5 @@ mod Clauses
 mod Explained
 mod Numbers
 mod Sections
-mod Stops
 mod TextLines
 mod Told

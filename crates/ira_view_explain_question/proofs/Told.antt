@@ -8,10 +8,9 @@ use Rattle.ira_elim.specs.declared.found.Found.TheVariants as found
 use Rattle.ira_view_evidence.specs.Absence.{ShowsAbsence}
 use Rattle.ira_view_evidence.specs.declared.absence.Absence.{Absence}
 use Rattle.ira_view_explain_question.specs.declared.case_finding.CaseFinding.TheVariants as finding
-use Rattle.ira_view_explain_question.specs.CaseFinding.{IsCaseFinding}
+use Rattle.ira_view_explain_question.specs.CaseFinding.{IsCaseFinding, more_eliminations_text}
 use Rattle.std.proofs.lemmas.List.{take_all}
 use Rattle.ira_view_evidence.specs.declared.elimination.Elimination.{Elimination}
-use Rattle.ira_view_explain_question.specs.CaseFinding.{more_eliminations_text}
 use Rattle.ira_view_show.proofs.Lines.{take_shown}
 
 -- the first eliminations, and how many there are besides

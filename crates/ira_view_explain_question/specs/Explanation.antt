@@ -21,10 +21,10 @@ use Rattle.ira_view_page.specs.declared.quoted_line.QuotedLine.{QuotedLine}
 use Rattle.ira_view_page.specs.Lines.{IsLine}
 use Rattle.ira_view_page.specs.Counts.{counts}
 use Rattle.ira_view_page.specs.Parts.{AreParts}
+use Rattle.ira_view_page.specs.TextStop.{IsStopTold, TellsStop}
+use Rattle.ira_view_page.specs.declared.text_stop.TextStop.{TextStop}
 use Rattle.ira_view_explain_question.specs.declared.asked_files.AskedFiles.{AskedFiles}
-use Rattle.ira_view_explain_question.specs.declared.asked_finding.AskedStop.{AskedStop}
 use Rattle.ira_view_explain_question.specs.declared.section_finding.SectionFinding.{SectionFinding}
-use Rattle.ira_view_explain_question.specs.AskedFinding.{IsStopTold, TellsStop}
 use Rattle.ira_view_explain_question.specs.AskedLines.{line_text}
 use Rattle.ira_view_explain_question.specs.CertificateFinding.{IsCertificateStop}
 use Rattle.ira_view_explain_question.specs.ChosenCases.{chosen_cases, rest_text}
@@ -54,14 +54,14 @@ AreFindingsExplained files asked (Cases nodes found) case explanation =
 AreFindingsExplained files asked (Refused reason) case explanation = ⊥
 
 -- a text is explained that is no question's or no certificate's
-pub record IsStopExplained {A : Type 0} (file : NamedText) (stop : AskedStop) (explanation : Explanation A)
+pub record IsStopExplained {A : Type 0} (file : NamedText) (stop : TextStop) (explanation : Explanation A)
     : Type 0 where
   pub state_before : explanation.state_before ≡ None
   pub one : Evidence A
   pub evidence : explanation.evidence.items ≡ one ∷ []
   pub one_is : IsStopTold file stop one
   pub lines : List ℕ
-  pub tells : TellsStop file stop lines
+  pub tells : TellsStop file (codes "two") stop lines
   pub more : List ℕ
   pub page : explanation.page ≡ codes "\n" ++ lines ++ more
 
@@ -82,12 +82,12 @@ pub record IsSizeExplained {A : Type 0} (file : NamedText) (explanation : Explan
 -- it is explained why a file with this fault has no question
 abbrev pub IsNoQuestionExplained : {A : Type 0} → NamedText → AskFault → Explanation A → Type 0
 IsNoQuestionExplained file fault explanation =
-    (stop : AskedStop) × IsQuestionStop file.text.now fault stop × IsStopExplained file stop explanation
+    (stop : TextStop) × IsQuestionStop file.text.now fault stop × IsStopExplained file stop explanation
 
 -- it is explained why a file has no certificate for the ring of a question
 abbrev pub IsNoCertificateExplained : {A : Type 0} → NamedText → Reason → Explanation A → Type 0
 IsNoCertificateExplained file (Certificate fault) explanation =
-    (stop : AskedStop) × IsCertificateStop file.text.now fault stop × IsStopExplained file stop explanation
+    (stop : TextStop) × IsCertificateStop file.text.now fault stop × IsStopExplained file stop explanation
 IsNoCertificateExplained file reason explanation = IsSizeExplained file explanation
 
 -- it is explained why the section of a case isn't sound

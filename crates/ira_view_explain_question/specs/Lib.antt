@@ -1,6 +1,5 @@
 pub mod AskedFinding
 pub mod AskedLines
-pub mod AskedRemark
 pub mod CaseFinding
 pub mod CertificateFinding
 pub mod ChosenCases

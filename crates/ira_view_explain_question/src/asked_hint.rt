@@ -1,6 +1,4 @@
-ghost use Rattle.ira_view_page.specs.Page.{AddedSome};
-
-use ira_view_page::{Page, Slip};
+use ira_view_page::{Hint, Page, Slip};
 use std::alloc::Allocator;
 use std::str;
 
@@ -28,12 +26,9 @@ pub(crate) enum AskedHint<'a> {
     Places { nodes: u32 },
 }
 
-impl AskedHint<'_> {
-    /// Adds its sentence.
-    pub(crate) fn print<P: Allocator>(self, page: &mut Page<P>)
-        ensures { AddedSome page.old page.new }
-    {
-        match self {
+impl Hint for AskedHint<'_> {
+    fn print<A: Allocator>(&self, page: &mut Page<A>) {
+        match *self {
             AskedHint::Slip(slip) => page.words(slip.hint()),
             AskedHint::Brackets { place, clause } => print_brackets(page, place, clause),
             AskedHint::Chain => page.words(
@@ -68,9 +63,7 @@ impl AskedHint<'_> {
 }
 
 /// Adds how a clause of several words after a place is spelled, with this one where it is a text.
-fn print_brackets<P: Allocator>(page: &mut Page<P>, place: &[u8], clause: &[u8])
-    ensures { AddedSome page.old page.new }
-{
+fn print_brackets<A: Allocator>(page: &mut Page<A>, place: &[u8], clause: &[u8]) {
     if str::from_utf8(clause).is_err() {
         return page.words("`not`, `and` and `or` stand in brackets.");
     }

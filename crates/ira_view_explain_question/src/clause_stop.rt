@@ -1,9 +1,12 @@
 ghost use Rattle.std.specs.Prelude.{◌≡◌};
 ghost use Rattle.ira_view_page.specs.Printable.{IsPrintable};
-ghost use Rattle.ira_view_explain_question.specs.AskedRemark.{due_text};
+ghost use Rattle.ira_view_explain_question.specs.QuestionFinding.{due_text};
 
 use ira_event::{MAX_NUMBER, scan_number, skip_word};
 use ira_pred::MAX_DEPTH;
+
+/// What is said of a bracket that may not be open.
+pub(crate) const DEEP: &str = "the 33rd bracket that is open";
 
 /// What is due at a place of a clause.
 #[derive(Clone, Copy, Debug, PartialEq, Eq)]

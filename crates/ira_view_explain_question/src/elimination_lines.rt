@@ -1,4 +1,4 @@
-ghost use Rattle.std.specs.Prelude.{◌≡◌, ◌+◌, ◌<◌, length, slice_get};
+ghost use Rattle.std.specs.Prelude.{◌≡◌, ◌+◌, ◌<◌, slice_get};
 ghost use Rattle.ira_order.specs.Before.{Before};
 ghost use Rattle.ira_order.specs.Ring.{log_of, numbered};
 ghost use Rattle.ira_view_page.specs.Page.{Added};

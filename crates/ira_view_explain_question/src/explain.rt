@@ -25,7 +25,7 @@ use ira_cert::{Section, SectionFault};
 use ira_elim::Found;
 use ira_event::{Logs, OutOfMemory};
 use ira_pred::AskFault;
-use ira_view_page::{Emphasis, Evidence, Explanation, NamedText, Page, RingCounts};
+use ira_view_page::{Emphasis, Evidence, Explanation, NamedText, Page, RingCounts, hints_of};
 use ira_view_show::print_run;
 use std::alloc::Allocator;
 
@@ -191,10 +191,19 @@ fn explain_text<A: Allocator + Clone>(
     ensures told { IfOk result (IsStopExplained file.now finding.entry.stop) }
 {
     let mut evidence = Vec::new(alloc.clone()?);
-    evidence.push(finding.evidence(alloc, file)?)?;
-    let hints = finding.hints(alloc)?;
+    evidence.push(finding.stop.evidence(alloc, file)?)?;
+    let hints = hints_of(alloc, finding.hint.as_ref())?;
     let mut page = Page::after_answer(alloc.clone()?);
-    finding.print(file, &mut page);
+    finding.stop.print(file, "two", &mut page);
+    if finding.is_section_line {
+        page.line(
+            Emphasis::Plain,
+            "`drop NODE POS by OTHER OTHERPOS` or `spent NODE`",
+        );
+    }
+    if finding.hint.is_some() {
+        page.blank();
+    }
     Explanation::of_page(alloc, Some(RingCounts::of(logs)), page, evidence, hints)
 }
 

@@ -6,7 +6,6 @@ mod asked_files;
 mod asked_finding;
 mod asked_hint;
 mod asked_lines;
-mod asked_remark;
 mod asked_ring;
 mod case_finding;
 mod certificate_finding;

@@ -4,14 +4,13 @@ ghost use Rattle.ira_pred.specs.declared.ask_fault.AskFault.{AskFault};
 ghost use Rattle.ira_view_explain_question.specs.QuestionFinding.{IsCasesStop, IsClauseStop, IsDepthStop, IsLineStop};
 ghost use Rattle.ira_view_explain_question.specs.QuestionFinding.{IsPlaceStop, IsQuestionStop};
 
-use crate::asked_finding::{AskedFinding, AskedStop, nth_line};
+use crate::asked_finding::{AskedFinding, nth_line};
 use crate::asked_hint::AskedHint;
 use crate::asked_lines::{HEAD_LINES, scan_place};
-use crate::asked_remark::AskedRemark;
-use crate::clause_stop::{clause_stop, is_chain};
+use crate::clause_stop::{DEEP, clause_stop, is_chain};
 use ira_event::{scan_number, skip_word};
 use ira_pred::{AskFault, MAX_CASES, MAX_DEPTH};
-use ira_view_page::{NamedText, Slip};
+use ira_view_page::{Beside, NamedText, Slip, TextStop};
 
 /// The words that a clause without brackets begins with.
 static WORDS: [&str; 10] = [
@@ -155,13 +154,14 @@ impl<'a> AskedFinding<'a> {
         ensures { IsQuestionStop file.now.text.now fault result.stop }
     {
         match fault {
-            AskFault::TooLong => AskedFinding::too_long(),
-            AskFault::Head => { AskedFinding::of_head(file, b"irask 1", AskedRemark::QuestionHead) }
+            AskFault::TooLong => return AskedFinding::new(TextStop::TooLong),
+            AskFault::Head => AskedFinding::of_head(file, b"irask 1", Beside::due("`irask 1`")),
             AskFault::Line(line) => AskedFinding::of_line(file, line as usize),
             AskFault::Place(line) => AskedFinding::of_place(file, line as usize),
             AskFault::Depth(line) => AskedFinding::of_depth(file, line as usize),
             AskFault::Empty(line) => {
-                AskedFinding::whole_line(file, line as usize, AskedRemark::NoClause)
+                let words = "the case in front of this line has no clause";
+                AskedFinding::whole_line(file, line as usize, Beside::note(words))
             }
             AskFault::Cases => AskedFinding::of_cases(file),
             AskFault::Cut => AskedFinding::of_cut(file),
@@ -175,11 +175,14 @@ impl<'a> AskedFinding<'a> {
     {
         let line = file.line(number);
         if number <= FIRST_CASE {
-            return AskedFinding::whole_line(file, number, AskedRemark::FirstCase).with_slip(line);
+            return AskedFinding::whole_line(file, number, Beside::due("`case`")).with_slip(line);
         }
         match scan_place(line) {
             Some((_, clause)) => AskedFinding::of_clause(number, line, clause),
-            None => AskedFinding::whole_line(file, number, AskedRemark::CaseLine).with_slip(line),
+            None => {
+                let beside = Beside::due("`case`, `end` or `PLACE: CLAUSE`");
+                AskedFinding::whole_line(file, number, beside).with_slip(line)
+            }
         }
     }
 
@@ -189,23 +192,25 @@ impl<'a> AskedFinding<'a> {
     {
         let stop = clause_stop(clause);
         let byte = line.len().saturating_sub(stop.rest.len());
-        AskedFinding::at(number, byte, byte, AskedRemark::InClause(stop.due)).hinted(clause_hint(
-            line, clause, stop.rest,
-        ))
+        let hint = clause_hint(line, clause, stop.rest);
+        let beside = Beside::due(stop.due.words());
+        AskedFinding::new(TextStop::at(number, byte, byte, beside)).hinted(hint)
     }
 
     fn of_depth(file: &NamedText<'a>, number: usize) -> AskedFinding<'a>
         ensures { IsDepthStop file.now.text.now number result.stop }
     {
         let byte = deepest(file.line(number));
-        AskedFinding::at(number, byte, byte, AskedRemark::Depth)
+        AskedFinding::new(TextStop::at(number, byte, byte, Beside::note(DEEP)))
     }
 
     fn of_place(file: &NamedText<'a>, number: usize) -> AskedFinding<'a>
         ensures { IsPlaceStop file.now.text.now number result.stop }
     {
         let digits = digits_in_front(file.line(number));
-        AskedFinding::at(number, 0, digits, AskedRemark::Place).hinted(place_hint(file, number))
+        let beside = Beside::note("places are below N, and rise within a case");
+        let stop = TextStop::at(number, 0, digits, beside);
+        AskedFinding::new(stop).hinted(place_hint(file, number))
     }
 
     /// Of a text without a case, or with one more than a question may have.
@@ -213,10 +218,12 @@ impl<'a> AskedFinding<'a> {
         ensures { IsCasesStop file.now.text.now result.stop }
     {
         if file.line(FIRST_CASE) == b"end".as_slice() {
-            return AskedFinding::whole_line(file, FIRST_CASE, AskedRemark::NoCase);
+            let words = "a `case` is due here: a question has 1 to 32,385";
+            return AskedFinding::whole_line(file, FIRST_CASE, Beside::note(words));
         }
+        let words = "case 32,386: a question has at most 32,385";
         let number = nth_line(file, b"case", MAX_CASES + 1);
-        AskedFinding::whole_line(file, number, AskedRemark::ManyCases)
+        AskedFinding::whole_line(file, number, Beside::note(words))
     }
 }
 

@@ -1,4 +1,4 @@
-ghost use Rattle.std.specs.Prelude.{◌≡◌, ◌≤◌, ◌++◌, IfOk, List, OnOk, String, length, string_bytes};
+ghost use Rattle.std.specs.Prelude.{◌≡◌, ◌≤◌, ◌++◌, IfOk, OnOk, String, length, string_bytes};
 ghost use Rattle.ira_audit.specs.CheckAnswer.{IsFirstUnsound};
 ghost use Rattle.ira_view_page.specs.Page.{Added};
 ghost use Rattle.ira_view_explain_question.specs.SectionFinding.{IsSectionFinding, IsSectionTold, front_told};

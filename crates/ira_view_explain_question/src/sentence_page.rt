@@ -1,10 +1,8 @@
-use crate::asked_finding::AskedFinding;
-use crate::asked_remark::AskedRemark;
-use crate::clause_stop::{DueInClause, clause_stop};
+use crate::clause_stop::{DEEP, DueInClause, clause_stop};
 use crate::question_finding::clause_hint;
 use ira_ask::{SentenceFault, SentencePart};
 use ira_event::{OutOfMemory, scan_number, skip_word};
-use ira_view_page::{NamedText, Page, PageText};
+use ira_view_page::{Beside, Hint, NamedText, Page, PageText, TextStop};
 use std::alloc::Allocator;
 
 /// The text up to its first comma, and what is left.
@@ -63,22 +61,21 @@ pub fn explain_sentence<A: Allocator>(
         let end = sentence.len().saturating_sub(more.len());
         let stop = clause_stop(clause);
         let byte = end.saturating_sub(stop.rest.len());
-        let remark = match (stop.due, fault) {
-            (DueInClause::Clause, _) if stop.rest.starts_with(b"(") => AskedRemark::Depth,
-            (DueInClause::End, SentenceFault::NoClause(_)) => AskedRemark::PartEnd,
-            (due, _) => AskedRemark::InClause(due),
+        let beside = match (stop.due, fault) {
+            (DueInClause::Clause, _) if stop.rest.starts_with(b"(") => Beside::note(DEEP),
+            (DueInClause::End, SentenceFault::NoClause(_)) => Beside::due("`, ` or the end"),
+            (due, _) => Beside::due(due.words()),
         };
-        let finding = AskedFinding::at(1, byte, byte, remark).hinted(clause_hint(
-            &sentence[..end],
-            clause,
-            stop.rest,
-        ));
         let file = NamedText {
             name: "SENTENCE",
             text: sentence,
         };
-        finding.print(&file, &mut page);
-        finding.print_hint(&mut page);
+        TextStop::at(1, byte, byte, beside).print(&file, "", &mut page);
+        if let Some(hint) = clause_hint(&sentence[..end], clause, stop.rest) {
+            page.words("\n  hint: ");
+            hint.print(&mut page);
+            page.end();
+        }
     }
     page.finish()
 }

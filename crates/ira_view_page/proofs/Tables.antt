@@ -1,7 +1,6 @@
 -- Columns of a table, and cells from one on.
 use Rattle.std.proofs.Common.{◌≡◌, ℕ, zero, suc, ◌+◌, ◌-◌, ◌<◌, false, true, List, [], ◌∷◌, ◌++◌, refl, sym, ap, ◌∙◌}
-use Rattle.std.proofs.Common.{arith, max}
-use Rattle.std.proofs.Common.{Option, add-one, drop, get_or, length, slice_get, subst, take}
+use Rattle.std.proofs.Common.{arith, max, Option, add-one, drop, get_or, length, slice_get, subst, take}
 use Rattle.std.specs.List.{list_all}
 use Rattle.std.proofs.lemmas.List.{take_more}
 use Rattle.ira_event.proofs.Rest.{slice-from}

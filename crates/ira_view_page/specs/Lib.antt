@@ -1,3 +1,4 @@
+pub mod Beside
 pub mod Counts
 pub mod Lines
 pub mod Numbers
@@ -10,5 +11,5 @@ pub mod Quoted
 pub mod Slip
 pub mod Summary
 pub mod Table
-pub mod ToldText
+pub mod TextStop
 pub mod Words

@@ -2,6 +2,7 @@
 #![tactic(auto)]
 
 mod asked_case;
+mod beside;
 mod clause_words;
 mod evidence;
 mod explanation;
@@ -9,6 +10,7 @@ mod fill;
 mod first_line;
 mod front;
 mod head_row;
+mod hint;
 mod named_text;
 mod numbers;
 mod page;
@@ -25,16 +27,18 @@ mod side;
 mod slip;
 mod summary;
 mod table;
-mod told_text;
+mod text_stop;
 mod width;
 mod words;
 
 pub use asked_case::{AskedCase, AskedNode};
+pub use beside::{Among, Beside};
 pub use evidence::Evidence;
 pub use explanation::Explanation;
 pub use first_line::split_line;
 pub use front::Front;
 pub use head_row::HeadRow;
+pub use hint::{Hint, hints_of};
 pub use named_text::NamedText;
 pub use page::{Emphasis, Page};
 pub use page_text::PageText;
@@ -49,5 +53,5 @@ pub use show_fault::ShowFault;
 pub use slip::Slip;
 pub use summary::{Leads, RingTotals};
 pub use table::{Row, Table};
-pub use told_text::{print_short_head, print_too_long, whole_text};
+pub use text_stop::TextStop;
 pub use width::shown_width;

@@ -1,9 +1,12 @@
 ghost use Rattle.std.specs.Prelude.{◌≡◌, ◌≤◌, IfOk, None};
 ghost use Rattle.ira_view_page.specs.Lines.{IsFromLine, IsLine, whole_lines};
 ghost use Rattle.ira_view_page.specs.PointedLine.{IsQuoted};
+ghost use Rattle.ira_view_page.specs.TextStop.{IsPiece};
 
+use crate::beside::Beside;
 use crate::first_line::split_line;
 use crate::page::Page;
+use crate::pointed_line::PointedLine;
 use crate::quoted_line::QuotedLine;
 use ira_event::OutOfMemory;
 use std::alloc::Allocator;
@@ -48,6 +51,24 @@ impl<'a> NamedText<'a> {
         }
         rest
     }
+
+    /// What follows the last whole line, of which the line feed is due, if anything does.
+    pub fn piece(&self) -> Option<PointedLine>
+        ensures { IsPiece self.now.text.now result }
+    {
+        let number = self.whole_lines() + 1;
+        let end = self.line(number).len();
+        if end == 0 {
+            return None;
+        }
+        Some(PointedLine {
+            number,
+            from: end,
+            to: end,
+            beside: Beside::due("a line feed"),
+        })
+    }
+
     /// A line, counted from 1, as it is quoted, without carets.
     pub fn quoted_line<A: Allocator + Clone>(
         &self,

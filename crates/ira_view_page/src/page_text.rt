@@ -1,4 +1,4 @@
-ghost use Rattle.std.specs.Prelude.{◌≡◌, ◌==◌, [], length, string_bytes};
+ghost use Rattle.std.specs.Prelude.{◌≡◌, ◌==◌, length, string_bytes};
 ghost use Rattle.ira_event.specs.Sink.{Wrote};
 ghost use Rattle.ira_view_page.specs.Printable.{IsPrintable};
 

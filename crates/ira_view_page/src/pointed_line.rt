@@ -1,17 +1,17 @@
-ghost use Rattle.std.specs.Prelude.{◌≡◌, ℕ, IfOk, List, Some};
-ghost use Rattle.ira_view_page.specs.PointedLine.{IsPointed, IsPointedFront, pointed_end};
+ghost use Rattle.std.specs.Prelude.{ℕ, IfOk, List};
+ghost use Rattle.ira_view_page.specs.PointedLine.{IsPointed, IsPointedText};
 ghost use Rattle.ira_view_page.specs.Page.{Added};
 
+use crate::beside::Beside;
 use crate::named_text::NamedText;
 use crate::page::{Emphasis, Page};
 use crate::quote::quoted_column;
 use crate::quoted_line::{Carets, QuotedLine};
-use crate::remark::Remark;
 use ira_event::OutOfMemory;
 use std::alloc::Allocator;
 
 /// A line of a text, and carets below some of its bytes, one at least.
-#[derive(Clone, Copy)]
+#[derive(Drop)]
 pub struct PointedLine {
     /// Counted from 1.
     pub number: usize,
@@ -19,14 +19,14 @@ pub struct PointedLine {
     pub from: usize,
     /// The byte after the carets.
     pub to: usize,
-    /// Of what kind the words beside the carets are.
-    pub remark: Remark,
+    /// What stands beside the carets.
+    pub beside: Beside,
 }
 
 impl PointedLine {
-    /// Adds the line of this file, and the carets below it; the words beside them are due then, and `print_end`.
-    pub fn print<A: Allocator>(&self, file: &NamedText<'_>, page: &mut Page<A>)
-        ensures { (front : List ℕ) × IsPointedFront file.now self.now front × Added page.old front page.new }
+    /// Adds the line of this file, and the carets below it with what stands beside them.
+    pub(crate) fn print<A: Allocator>(&self, file: &NamedText<'_>, page: &mut Page<A>)
+        ensures { (text : List ℕ) × IsPointedText file.now self.now text × Added page.old text page.new }
     {
         let line = file.line(self.number);
         let start = page.len();
@@ -45,32 +45,24 @@ impl PointedLine {
         page.spaces(first);
         page.carets(quoted_column(line, self.to).saturating_sub(first));
         page.words(" ");
+        self.beside.print(page);
+        self.beside.print_end(page);
     }
 
-    /// Adds what follows the words beside the carets.
-    pub fn print_end<A: Allocator>(&self, page: &mut Page<A>)
-        ensures { Added page.old (pointed_end self.now.remark) page.new }
-    {
-        match self.remark {
-            Remark::Due => page.words(" is due here\n"),
-            Remark::Note => page.end(),
-        }
-    }
-
-    /// The line of this file with the carets, and these words beside them.
-    pub fn quoted<A: Allocator + Clone>(
+    /// The line of this file with the carets, and the words beside them.
+    pub(crate) fn quoted<A: Allocator + Clone>(
         &self,
         alloc: &A,
         file: &NamedText<'_>,
-        words: Page<A>,
     ) -> Result<QuotedLine<A>, OutOfMemory>
-        ensures { IfOk result (λ line. (text : List ℕ) × (words ≡ Some text)
-            × IsPointed file.now self.now text line) }
+        ensures { IfOk result (IsPointed file.now self.now) }
     {
+        let mut words = Page::new(alloc.clone()?);
+        self.beside.print(&mut words);
         let mut line = file.quoted_line(alloc, self.number)?;
         line.carets = Some(Carets {
             byte: self.from.saturating_add(1),
-            remark: self.remark,
+            remark: self.beside.remark,
             words: words.finish()?.into_string(),
         });
         Ok(line)

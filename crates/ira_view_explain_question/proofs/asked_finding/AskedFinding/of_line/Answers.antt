@@ -24,7 +24,7 @@ returns-in-None c =
         here,
         inl (
           λ place clause placed. (let e = sym c.in-None.ensures ∙ place_scanned line clause place placed in absurd cc),
-          rw c.with_slip-in-None.ensures c.whole_line-in-None.ensures,
+          rw c.with_slip-in-None.ensures (rw c.due-beside.ensures at c.whole_line-in-None.ensures),
         ),
       ),
     )

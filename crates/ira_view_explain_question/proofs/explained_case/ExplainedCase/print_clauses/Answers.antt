@@ -1,8 +1,7 @@
 use Rattle.std.proofs.Common.{◌≡◌, ◌<◌, ◌++◌, ◌∷◌, [], arith, length, min, refl, sym}
 use Rattle.ira_view_page.proofs.Adding.{◌&◌, added_as, nothing_added}
 use Rattle.ira_view_explain_question.specs.AskedLines.{listed_text, more_clauses_text}
-use Rattle.ira_view_explain_question.proofs.Clauses.{all_clauses, clauses_more, listed_first, listed_next}
-use Rattle.ira_view_explain_question.proofs.Clauses.{more_clauses}
+use Rattle.ira_view_explain_question.proofs.Clauses.{all_clauses, clauses_more, listed_first, listed_next, more_clauses}
 use Rattle.ira_view_explain_question.proofs.explained_case.ExplainedCase.print_clauses.Goals as goal
 use Rattle.ira_view_explain_question.proofs.explained_case.ExplainedCase.print_clauses.Goals.{then-n-gt0, else-n-gt0}
 

@@ -46,5 +46,5 @@ returns g c =
       record { bytes = line; bytes_are = c.line-line.ensures; is = refl },
       head & placed & c.end.ensures & added_when margin c.spaces.ensures & c.words-2.ensures
           & (added_as (ap spaces first) c.spaces-2.ensures & added_as (ap carets_text count) c.carets.ensures)
-          & c.words-3.ensures,
+          & c.words-3.ensures & c.print.ensures & c.print_end.ensures,
     )

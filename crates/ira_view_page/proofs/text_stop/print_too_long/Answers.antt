@@ -1,5 +1,5 @@
 use Rattle.ira_view_page.proofs.Adding.{◌&◌}
-use Rattle.ira_view_page.proofs.told_text.print_too_long.Goals as goal
+use Rattle.ira_view_page.proofs.text_stop.print_too_long.Goals as goal
 
 pub returns : goal.returns
 returns g c = (

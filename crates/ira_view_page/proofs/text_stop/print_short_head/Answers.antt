@@ -1,7 +1,7 @@
 use Rattle.std.proofs.Common.{◌≡◌, ap, rules}
 use Rattle.ira_view_page.proofs.Adding.{◌&◌, added_as}
 use Rattle.ira_view_page.specs.Printable.{shown}
-use Rattle.ira_view_page.proofs.told_text.print_short_head.Goals as goal
+use Rattle.ira_view_page.proofs.text_stop.print_short_head.Goals as goal
 
 pub returns : goal.returns
 returns g c =

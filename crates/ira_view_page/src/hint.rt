@@ -1,15 +1,15 @@
+use crate::page::Page;
 use ira_event::OutOfMemory;
-use ira_view_page::Page;
 use std::alloc::Allocator;
 
 /// A usual cause.
-pub(crate) trait Hint {
+pub trait Hint {
     /// Adds its sentence.
     fn print<A: Allocator>(&self, text: &mut Page<A>);
 }
 
 /// The sentence of a hint, where there is one.
-pub(crate) fn hints_of<A: Allocator + Clone, H: Hint>(
+pub fn hints_of<A: Allocator + Clone, H: Hint>(
     alloc: &A,
     hint: Option<&H>,
 ) -> Result<Vec<String<A>, A>, OutOfMemory> {
