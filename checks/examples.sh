@@ -164,13 +164,13 @@ for talk in from_run_to_check.txt explain.txt explain_ring.txt explain_question.
     rm -r "$folder"
 done
 
-# The logs of each folder are drawn with the same line and status, where they are those of one ring.
+# The logs of each folder are drawn with the same line and status, where they are those of one ring, or what is left of them.
 folder=$(mktemp -d)
 while IFS=$tab read -r name line status; do
     [ -d "$name" ] || continue
     found=$("$ira" draw --out "$folder/drawn.svg" $(logs_of "$name") < /dev/null)
     found_status=$?
-    case $line in
+    case ${line#*: cut} in
     'no: log '* | 'no: heads: '*) [ ! -e "$folder/drawn.svg" ] || found="a picture" ;;
     *) [ "$(head -c 5 "$folder/drawn.svg")" = "<svg " ] || found="no picture" ;;
     esac

@@ -330,6 +330,22 @@ class Check:
         self.refused(drawn, (2, 5), ['Rule 3: what a node owes', 'Begin elsewhere', 'send 1 4 4 clean', 'not owed', 'draw 9', 'draw range',
                                      'send 1 4 3 clean is due', 'send 1 9 2 clean is due'])
 
+        self.left()
+
+    def left(self):
+        """Logs that are cut: the page is of what `mend` keeps of them, and says so."""
+        names, mended = logs_in(os.path.join(HERE, '..', 'examples', 'killed_ring')), tempfile.mkdtemp(dir=os.path.dirname(self.page))
+        subprocess.run([self.program, 'mend', '--out', mended, *names], check=True, stdout=subprocess.DEVNULL)
+        ring = Ring(logs_in(mended))
+        answer, _ = self.draw(names)
+        self.browser.open(self.page)
+        seen = self.look()
+        said = f'{counts(ring, (0, ring.last()))}. What is left, as far as it fits together: all of it is pale'
+        assert seen['heading'] == answer == 'no: log 1: cut' and seen['why'].startswith(answer + said), seen
+        assert seen['described'].split('\n') == [f'{answer}. {said}. Each event stands right of all that happened before it.',
+                                                 *described(ring)]
+        assert not (faults := self.browser.faults()), faults
+
     def all_asked(self):
         question = os.path.join(HERE, '..', 'examples', 'two_node_election', 'active_beside_passive.ask')
         self.asked(EXAMPLES['two_node_election'], question, [2, 3], 'case 0 is met here: node 0 active, node 1 passive')

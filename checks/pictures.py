@@ -6,6 +6,7 @@ the logs, which are computed here anew.
 """
 import os
 import re
+import shutil
 import subprocess
 import sys
 import tempfile
@@ -255,9 +256,9 @@ def words(state):
     return shown + (', owes ' + ' '.join(state.owed) if state.owed else '')
 
 
-def check(text, ring, cut=None, first=None, last=None, which=None, case=None):
+def check(text, ring, cut=None, first=None, last=None, which=None, case=None, told=None):
     """Holds a picture against a ring's logs, at a cut, or at one that is the first of a case: its number, and what it asks
-    of nodes. Gives how many marks it has."""
+    of nodes; or against what is left of logs, which have this answer. Gives how many marks it has."""
     drawn, n = Drawn(text, ring.n), ring.n
     end = ring.last()
     a = min(first or 0, end)
@@ -322,7 +323,7 @@ def check(text, ring, cut=None, first=None, last=None, which=None, case=None):
     assert not stubs and not strays and not inner and others == partial
     # What is ringed.
     ringed = {(int(c.get('cy')), int(c.get('cx'))) for c in drawn.root.iter(S + 'circle') if c.get('class') == 'b r'}
-    answer, named = ring.answer()
+    answer, named = (told, {}) if told else ring.answer()
     assert ringed == {(drawn.rows[i], drawn.marks[i, p]) for i, p in named if (i, p) in drawn.marks}
     # Bands are the phases, and debts the debts, from event to event. Leading that begins where the first ring is, or right
     # of it, isn't drawn as other leading is.
@@ -364,7 +365,14 @@ def check(text, ring, cut=None, first=None, last=None, which=None, case=None):
         assert above == [asked if len(asked) <= 100 else asked[:98] + '..'], (above, asked)
     else:
         assert not lines and not rings and not above
-    check_words(drawn, ring, (a, z), whole, arrows, answer, {at: why for at, why in named.items() if at in drawn.marks}, bool(named))
+    # All that is left of logs is pale.
+    if not cut:
+        pale = [tuple(int(r.get(name)) for name in ('x', 'y', 'width', 'height')) for r in drawn.root.findall(f'.//{S}rect[@class="bg f"]')]
+        width = int(drawn.root.get('width'))
+        assert len(pale) == bool(told) and all(x <= min(place.values(), default=x) and x + w == width for x, _, w, _ in pale)
+        assert all(y < min(drawn.rows) - 12 and y + h > max(drawn.rows) + 12 for _, y, _, h in pale)
+    check_words(drawn, ring, (a, z), whole, arrows, answer, {at: why for at, why in named.items() if at in drawn.marks},
+                bool(named), told)
     return len(drawn.marks)
 
 
@@ -404,7 +412,7 @@ def last_words(ring, i):
     return 'no step' if len(ring.states[i]) <= len(ring.events[i]) else '' if shown == 'passive' else shown
 
 
-def check_words(drawn, ring, window, whole, arrows, answer, ringed, is_refused):
+def check_words(drawn, ring, window, whole, arrows, answer, ringed, is_refused, told):
     """Holds the words of a picture: its heading, what it says of itself, labels of lanes and arrows, remarks, the legend."""
     n, end = ring.n, ring.last()
     texts = {}
@@ -414,10 +422,11 @@ def check_words(drawn, ring, window, whole, arrows, answer, ringed, is_refused):
     texts = {name: {at: words[0] for at, words in places.items()} for name, places in texts.items()}
     # The heading is the answer, or who leads.
     heading = answer or headline(ring)
-    assert texts['t bt' if is_refused else 't'] == {(16, 28): heading} and drawn.root.find(S + 'title').text == heading
+    assert texts['t bt' if is_refused or told else 't'] == {(16, 28): heading} and drawn.root.find(S + 'title').text == heading
     # What is shown, and how it's read; and a line on each node for those who don't see it.
     said = counts(ring, window)
-    said += ('. Each event stands right of all that happened before it; this is no clock.' if not is_refused else
+    said += ('. What is left, as far as it fits together: all of it is pale.' if told else
+             '. Each event stands right of all that happened before it; this is no clock.' if not is_refused else
              '. What the answer speaks of stands at other columns.' if not ringed else
              '. Thick broken arrows join what is not the same message; the ringed receipt is the first such.' if 'link' in answer else
              '. Each ringed receipt waits for a sending that comes after the ringed receipt of its sender.' if 'circle' in answer else
@@ -472,7 +481,8 @@ def check_words(drawn, ring, window, whole, arrows, answer, ringed, is_refused):
         shown = ': '.join([f'node {i}'] * is_wide + [shown] * bool(shown))
         assert [text for (_, y), text in ends.items() if y - 4 == drawn.rows[i]] == [shown] * bool(shown), (i, shown, ends)
     # The legend has each kind of line and mark that the picture has, with a sample, and no other.
-    active = 'active, as term/round:ID' if any(s.term > 1 for states in ring.states for s in states) else 'active, as round:ID'
+    has_terms = any(s.term > 1 or s.phase == 'yielding' for states in ring.states for s in states)
+    active = 'active, as term/round:ID' if has_terms else 'active, as round:ID'
     legend = {'event': 'j', 'draw': 'j d', 'choosing': 'c', active: 'a', 'passive': 'p', 'leader': 'w', 'leader by its own log alone': 'dl',
               'yielding': 'v', 'owes a message': 'o', 'message': 'm', 'dirty': 'm y', 'reset': 'm x', 'dropped': 'm', 'not received': 'm',
               'the lap that elected the leader': 'z', 'no state': 'u', 'node 0 once more': 'p'}
@@ -553,6 +563,8 @@ def main():
     program, pictures = sys.argv[1], 0
     with tempfile.TemporaryDirectory() as temp:
         out, question = os.path.join(temp, 'picture.svg'), os.path.join(temp, 'question')
+        cut_folder, mended = os.path.join(temp, 'cut'), os.path.join(temp, 'mended')
+        os.mkdir(mended)
 
         def look(names, cut=None, first=None, last=None, which=None, cases=None):
             options = ['--at', ','.join(map(str, cut))] if cut and not cases else []
@@ -601,6 +613,28 @@ def main():
                     if states[-1].phase == 'leader':
                         p = next(p for p, s in enumerate(states) if s.phase == 'leader')
                         look(names, cut=ring.past(i, p), which=1, cases=[never, [(i, 'leader')]])
+                        drawn += 1
+            # Of logs that are cut, or end within a head, the picture is of what `mend` keeps of them.
+            for place in range(0, ring.n, 1 + ring.n // 3) if good and ring.n < 20 else ():
+                with open(names[place]) as log:
+                    kept = log.read()
+                for many in (len(kept) - 3, len(kept) // 2, *((20, 0) if place else ())):
+                    shutil.rmtree(cut_folder, ignore_errors=True)
+                    shutil.copytree(folder, cut_folder)
+                    with open(os.path.join(cut_folder, f'{place}.log'), 'w') as log:
+                        log.write(kept[:many])
+                    for name in logs_in(mended):
+                        os.remove(name)
+                    subprocess.run([program, 'mend', '--out', mended, '--dir', cut_folder], check=True, stdout=subprocess.DEVNULL)
+                    rest = Ring(logs_in(mended))
+                    for options in ([], ['--from', '2', '--to', '5'])[:2 - any(e[0] == 'yield' for es in rest.events for e in es)]:
+                        ran = subprocess.run([program, 'draw', *options, '--out', out, '--dir', cut_folder], check=False,
+                                             stdout=subprocess.PIPE, text=True)
+                        assert ran.returncode == 1 and ran.stdout in (f'no: log {place}: cut\n', f'no: log {place}: head\n')
+                        with open(out) as f:
+                            text = f.read()
+                        os.remove(out)
+                        check(text, rest, None, *map(int, options[1::2]), told=ran.stdout[:-1])
                         drawn += 1
             if ring.n in (3, 4) and folder.startswith(temp):
                 def again():

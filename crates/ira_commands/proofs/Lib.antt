@@ -1,3 +1,4 @@
+pub mod LeftLogs
 pub mod OneByOne
 pub mod OneFindings
 pub mod OneMeeting

@@ -1,5 +1,5 @@
 -- What a sink takes of what is made as it is printed.
-use Rattle.std.proofs.Common.{◌≡◌, ℕ, List, [], ◌++◌, Result, Err, Ok, OnOk, append_assoc, inl, inr, refl}
+use Rattle.std.proofs.Common.{◌≡◌, ◌∙◌, ℕ, List, [], ◌++◌, Result, Err, Ok, OnOk, ap, append_assoc, inl, inr, refl}
 use Rattle.std.specs.Prelude.{⊤}
 use Rattle.ira_audit.specs.Report.{report_line}
 use Rattle.ira_audit.specs.declared.answer.Answer.TheVariants.{Yes}
@@ -13,9 +13,12 @@ use Rattle.ira_view_page.proofs.Printables.{printable_append}
 use Rattle.ira_view_show.specs.Showed.{Showed}
 use Rattle.ira_view.specs.ShownRing.{AreEventsOf, ShownRing}
 use Rattle.ira_view.specs.Status.{status_number}
+use Rattle.ira_view.specs.declared.status.Status.{Status}
 use Rattle.ira_commands.specs.JsonLines.{JsonLines}
 use Rattle.ira_commands.specs.Output.{AreLinesAfter, IsBegun, WroteOutput}
 use Rattle.ira_commands.specs.Output.Printed.{all_events, json_lines}
+use Rattle.ira_commands.specs.Reply.{Prints, Reply, printed}
+use Rattle.ira_commands.specs.Show.{ComesAfter}
 
 -- the line of a yes and the lines on who leads, which are printed first
 abbrev pub front : List ℕ → List ℕ
@@ -56,3 +59,9 @@ json_written lines n (Err Write) s t number wrote = (wrote.0, rw number at wrote
 json_written lines n (Err OutOfMemory) s t number (inl none) = inl none
 json_written lines n (Err OutOfMemory) s t number (inr took) = inr (took.0, rw number at took.1, took.2)
 json_written lines n (Err WrongColumns) s t number took = inr (took.0, rw number at took.1, took.2)
+
+-- what comes after no text is printed
+pub printed_alone : (IsText : List ℕ → Type 0) (before : List ℕ) (status : Status) (reply : Reply) → before ≡ []
+    → Prints (ComesAfter before IsText) status reply → Prints IsText status reply
+printed_alone IsText before status reply none h =
+    (h.1.0, h.1.1, h.2 ∙ ap (printed status) (h.1.2 ∙ ap (λ b. b ++ h.1.0) none))

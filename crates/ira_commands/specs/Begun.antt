@@ -19,15 +19,17 @@ abbrev pub SaysBreaksOff : Answer → Type 0
 SaysBreaksOff answer =
     (place : ℕ) × (f : LogFault) × (BreaksOff f ⊎ (f ≡ Head)) × (answer ≡ No (reason.Log place f))
 
--- these are the texts of the greatest consistent beginning of what is left of logs; a node of whose log no head is left is
+-- these are the greatest consistent beginning of the logs of which the texts are left; a node of whose log no head is left is
 -- taken for an initiator
-pub record AreBegunTexts (texts begun : List (List ℕ)) : Type 0 where
+pub record AreBegunLogs (texts : List (List ℕ)) (begun : List Log) : Type 0 where
   pub logs : List Log
   pub left : AreLeftTexts true texts logs
   pub are : AreLogs logs
-  pub beginnings : List Log
-  pub greatest : IsGreatestOf logs beginnings
-  pub begun_are : begun ≡ map log_text beginnings
+  pub greatest : IsGreatestOf logs begun
+
+-- the same as texts
+abbrev pub AreBegunTexts : List (List ℕ) → List (List ℕ) → Type 0
+AreBegunTexts texts begun = (logs : List Log) × AreBegunLogs texts logs × (begun ≡ map log_text logs)
 
 -- the names of files
 abbrev pub names_of : List NamedText → List (List ℕ)

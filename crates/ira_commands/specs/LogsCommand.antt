@@ -1,6 +1,6 @@
 -- What is asked of the logs of a ring.
 use Rattle.std.specs.Prelude.{Bool, false, true}
-use Rattle.ira_commands.specs.RingForm.{wants_page}
+use Rattle.ira_commands.specs.RingForm.{needs_files}
 use Rattle.ira_commands.specs.declared.logs_command.LogsCommand.{LogsCommand}
 use Rattle.ira_commands.specs.declared.logs_command.LogsCommand.TheVariants.{Answer, Check, Decide, Explain, ExplainCheck}
 use Rattle.ira_commands.specs.declared.logs_command.LogsCommand.TheVariants.{Expect, ExplainExpected, ExplainQuestion, Show}
@@ -15,4 +15,4 @@ needs_texts (Decide form is_brief certify) = false
 needs_texts (ExplainQuestion form case) = true
 needs_texts (Check form) = false
 needs_texts (ExplainCheck form) = true
-needs_texts (Show form moment) = wants_page form
+needs_texts (Show form moment) = needs_files form moment

@@ -1,6 +1,8 @@
 -- What comes of showing or drawing a ring at a moment.
-use Rattle.std.specs.Prelude.{◌≡◌, ℕ, Bool, true, false, List, Result, Ok, Err, None, ⊤}
+use Rattle.std.specs.Prelude.{◌≡◌, ℕ, Bool, true, false, List, [], ◌++◌, Result, Ok, Err, None, map, ⊤}
 use Rattle.ira_event.specs.Log.{Log}
+use Rattle.ira_event.specs.LogText.{log_text}
+use Rattle.ira_mend.specs.RecordedLogs.{IsRecordedReason}
 use Rattle.ira_audit.specs.GoodLogs.{AreGoodLogs}
 use Rattle.ira_audit.specs.LogTexts.{AreLogTexts}
 use Rattle.ira_audit.specs.Refusal.{IsLogsReason, IsRingReason}
@@ -8,16 +10,18 @@ use Rattle.ira_audit.specs.RefusedLogs.{AreRefused, RefusedLogs}
 use Rattle.ira_audit.specs.Report.{IsReportableReason, report_line}
 use Rattle.ira_audit.specs.declared.answer.Answer.{Answer}
 use Rattle.ira_audit.specs.declared.answer.Answer.TheVariants as answer
+use Rattle.ira_audit.specs.RingAnswer.{IsRingAnswer}
 use Rattle.ira_audit.specs.declared.judged.Judged.{Judged}
+use Rattle.ira_audit.specs.declared.judged.Judged.TheVariants.{Good, NoRing, Refused}
 use Rattle.ira_audit.specs.declared.reason.Reason.{Reason}
 use Rattle.ira_view_moment.specs.Told.{at_end}
-use Rattle.ira_view_draw.specs.Drawing.{IsRefusedDrawing}
+use Rattle.ira_view_draw.specs.Drawing.{IsLogsDrawing}
 use Rattle.ira_view_page.specs.Printable.{IsPrintable}
 use Rattle.ira_view_page.specs.declared.named_text.NamedText.{NamedText}
 use Rattle.ira_view_picture.specs.DrawFault.{HasTooManyEvents}
 use Rattle.ira_view_picture.specs.declared.draw_fault.DrawFault.{DrawFault}
 use Rattle.ira_view_picture.specs.declared.draw_fault.DrawFault.TheVariants as draw
-use Rattle.ira_view.specs.Html.{IsHtmlOf, IsJudgedTold, IsPictureTold, IsRefusalTold, IsRingHtml}
+use Rattle.ira_view.specs.Html.{IsHtmlOf, IsPictureTold, IsRefusalTold, IsRingHtml}
 use Rattle.ira_view.specs.ShownRing.{HasTooManyAt, IsPageOf, IsPictureOf, ShownRing}
 use Rattle.ira_view.specs.Status.{IsLeadsStatus, answer_status}
 use Rattle.ira_view.specs.Texts.{AreFiles}
@@ -26,11 +30,14 @@ use Rattle.ira_view.specs.declared.form.Form.TheVariants.{Json, Words}
 use Rattle.ira_view.specs.declared.ring_fault.RingFault.{RingFault}
 use Rattle.ira_view.specs.declared.ring_fault.RingFault.TheVariants as fault
 use Rattle.ira_view.specs.declared.status.Status.{Status}
+use Rattle.ira_view.specs.declared.status.Status.TheVariants.{No}
+use Rattle.ira_commands.specs.Begun.{AreBegunLogs, SaysBreaksOff}
+use Rattle.ira_commands.specs.Explain.{begun_heading}
 use Rattle.ira_commands.specs.Output.{AreLinesAfter}
 use Rattle.ira_commands.specs.Output.Printed.{all_events, json_lines}
 use Rattle.ira_commands.specs.Reply.{Prints, Reply, ReportsAs, printed, printing, refused, with_files}
 use Rattle.ira_commands.specs.Reply.MadeFiles.{one_text}
-use Rattle.ira_commands.specs.RingForm.{answer_form, leaders_of}
+use Rattle.ira_commands.specs.RingForm.{answer_form, leaders_of, shows_left}
 use Rattle.ira_commands.specs.RingLeaders.{AreDifferencesOf, AreNoPlaces, named_places}
 use Rattle.ira_commands.specs.RingMoment.{IsAskedRing, IsNoAskedRing}
 use Rattle.ira_commands.specs.declared.command_fault.CommandFault.TheVariants.{NoCase, NoMoment, NoPlace, TooManyEvents, WrongColumns}
@@ -39,6 +46,7 @@ use Rattle.ira_commands.specs.declared.ring_form.RingForm.{RingForm}
 use Rattle.ira_commands.specs.declared.ring_form.RingForm.TheVariants.{Html, Lines, Picture}
 use Rattle.ira_commands.specs.declared.ring_leaders.RingLeaders.{RingLeaders}
 use Rattle.ira_commands.specs.declared.ring_moment.RingMoment.{RingMoment}
+use Rattle.ira_commands.specs.declared.ring_moment.RingMoment.TheVariants.{AtEnd}
 
 -- such a picture, which is printable, is a file, and the line of the answer is printed; or so many events are too many for a
 -- picture, or the columns that were found aren't right, and that is refused
@@ -74,22 +82,54 @@ TellsRing (Picture columns) ring reply =
 TellsRing (Html columns) ring reply =
     Draws answer.Yes (IsRingHtml ring columns.from columns.to) (HasTooManyAt ring columns.from columns.to) reply
 
--- the lines of JSON that a page tells of refused logs, in files of these names and with these texts
-abbrev pub IsRefusalToldOf : Type 0 → List (List ℕ) → List (List ℕ) → RefusedLogs → List ℕ → Type 0
-IsRefusalToldOf A names texts refused told =
-    (files : List NamedText) × AreFiles names texts files × IsRefusalTold A files refused told
+-- the lines of JSON that a page of these logs tells where texts are those of no run for this reason, in files of these names
+abbrev pub IsRefusalToldOf : {A : Type 0} → List (List ℕ) → List (List ℕ) → Judged A → Reason → List Log → List ℕ → Type 0
+IsRefusalToldOf names texts judged r logs told =
+    (files : List NamedText) × AreFiles names texts files × IsRefusalTold files judged r logs told
 
--- logs that are those of no run, in files of these names and with these texts, are told in a form: there is a picture of
--- them, or a page, and else their answer alone
-abbrev pub TellsRefused : Type 0 → RingForm → List (List ℕ) → List (List ℕ) → RefusedLogs → Reply → Type 0
-TellsRefused A (Lines lines) names texts logs = ReportsAs lines.form (answer.No logs.reason)
-TellsRefused A (Picture columns) names texts logs =
-    Draws (answer.No logs.reason) (IsRefusedDrawing logs.logs columns.from columns.to)
-    (HasTooManyEvents logs.logs None columns.from columns.to)
-TellsRefused A (Html columns) names texts logs =
-    Draws (answer.No logs.reason)
-    (IsHtmlOf (IsPictureTold logs.logs at_end None columns.from columns.to) (IsRefusalToldOf A names texts logs))
-    (HasTooManyEvents logs.logs None columns.from columns.to)
+-- these logs, against which this reason stands, are told in a form: there is a picture of them, or a page, and else the answer
+-- alone
+abbrev pub TellsRefused : {A : Type 0} → RingForm → List (List ℕ) → List (List ℕ) → Judged A → Reason → List Log → Reply
+    → Type 0
+TellsRefused (Lines lines) names texts judged r logs = ReportsAs lines.form (answer.No r)
+TellsRefused (Picture columns) names texts judged r logs = Draws (answer.No r) (IsLogsDrawing logs columns.from columns.to)
+    (HasTooManyEvents logs None columns.from columns.to)
+TellsRefused (Html columns) names texts judged r logs = Draws (answer.No r)
+    (IsHtmlOf (IsPictureTold logs at_end None columns.from columns.to) (IsRefusalToldOf names texts judged r logs))
+    (HasTooManyEvents logs None columns.from columns.to)
+
+-- this text shows logs of these texts at their end: the line of their answer, and after a yes their ring, whoever leads
+pub data ShowsTexts (texts : List (List ℕ)) (text : List ℕ) : Type 0 where
+  yes : (logs : List Log) (ring : ShownRing) → AreGoodLogs texts logs → IsAskedRing logs AtEnd [] ring
+      → AreLinesAfter [] (IsPageOf ring) text → ShowsTexts texts text
+  no : (r : Reason) → IsRingAnswer texts (answer.No r) → text ≡ report_line (answer.No r) → ShowsTexts texts text
+
+-- such a text comes after this one
+abbrev pub ComesAfter : List ℕ → (List ℕ → Type 0) → List ℕ → Type 0
+ComesAfter before IsText text = (more : List ℕ) × IsText more × (text ≡ before ++ more)
+
+-- this text is the line of a no, and shows below it these logs, which are what is left
+abbrev pub IsLeftText : Reason → List Log → List ℕ → Type 0
+IsLeftText r logs = ComesAfter (report_line (answer.No r) ++ begun_heading) (ShowsTexts (map log_text logs))
+
+-- what is left of logs, these ones, is told in a form: in words, or there is a picture or a page of them
+abbrev pub TellsLeft : Type 0 → RingForm → List (List ℕ) → List (List ℕ) → Reason → List Log → Reply → Type 0
+TellsLeft A (Lines lines) names texts r logs = Prints (IsLeftText r logs) No
+TellsLeft A (Picture columns) names texts r logs = TellsRefused {A = A} (Picture columns) names texts (NoRing r) r logs
+TellsLeft A (Html columns) names texts r logs = TellsRefused {A = A} (Html columns) names texts (NoRing r) r logs
+
+-- what is left of logs is shown, since the reason why they are no ring's is that a text breaks off
+abbrev pub ShowsLeft : RingForm → RingMoment → Reason → Type 0
+ShowsLeft form moment r = (shows_left form moment ≡ true) × SaysBreaksOff (answer.No r)
+
+-- what comes of texts that are no ring's for this reason, in files of these names: where what is left is shown, their greatest
+-- consistent beginning is, unless there is a reason why they aren't what is left of one ring; else there is the answer alone
+pub data ShowsNoRing (A : Type 0) (form : RingForm) (moment : RingMoment) (names texts : List (List ℕ)) (r : Reason)
+    (reply : Reply) : Type 0 where
+  left : (logs : List Log) → ShowsLeft form moment r → AreBegunLogs texts logs → TellsLeft A form names texts r logs reply
+      → ShowsNoRing A form moment names texts r reply
+  alone : (ShowsLeft form moment r → (why : Reason) × IsRecordedReason true texts why)
+      → ReportsAs (answer_form form) (answer.No r) reply → ShowsNoRing A form moment names texts r reply
 
 -- why there is no such moment: the reason against the question is the answer; numbers that are no consistent cut, and that
 -- of a case that isn't there, are refused
@@ -116,18 +156,18 @@ pub data ShowsLogs (A : Type 0) (form : RingForm) (moment : RingMoment) (questio
   good : (logs : List Log) → AreGoodLogs texts logs → ShowsGood form moment question logs reply
       → ShowsLogs A form moment question names texts reply
   no_run : (logs : RefusedLogs) → AreLogTexts texts logs.logs → AreRefused logs
-      → IsLogsReason texts logs.reason → TellsRefused A form names texts logs reply
+      → IsLogsReason texts logs.reason → TellsRefused {A = A} form names texts (Refused logs) logs.reason logs.logs reply
       → ShowsLogs A form moment question names texts reply
-  no_ring : (r : Reason) → IsRingReason texts r → ReportsAs (answer_form form) (answer.No r) reply
+  no_ring : (r : Reason) → IsRingReason texts r → ShowsNoRing A form moment names texts r reply
       → ShowsLogs A form moment question names texts reply
 
 -- ---- Helpers, no definitions.
 
--- what a page tells of logs that were judged, in files of these names and with these texts, where one is asked for
-abbrev pub IsToldOf : {A : Type 0} → RingForm → List (List ℕ) → List (List ℕ) → Judged A → List ℕ → Type 0
-IsToldOf (Html columns) names texts judged told =
-    (files : List NamedText) × AreFiles names texts files × IsJudgedTold files judged told
-IsToldOf form names texts judged told = ⊤
+-- texts that were judged aren't those of good logs
+abbrev pub IsNotGood : {A : Type 0} → Judged A → Type 0
+IsNotGood (Good logs) = ⊥
+IsNotGood (Refused logs) = ⊤
+IsNotGood (NoRing r) = ⊤
 
 -- the reason, if it is one, doesn't say that memory ran out
 abbrev pub IsReportableFault : RingFault → Type 0

@@ -15,7 +15,7 @@ use crate::given_files::GivenFiles;
 use crate::logs::answer_logs;
 use crate::logs_command::LogsCommand;
 use crate::reply::Reply;
-use crate::show::{show_ring, told_in_page};
+use crate::show::show_ring;
 use ira_audit::Judged;
 use ira_event::OutOfMemory;
 use ira_view::AskedFiles;
@@ -70,16 +70,7 @@ pub fn answer<A: Allocator + Clone>(
             explain_certificate(alloc, form, asked, &certificate, &judged)
         }
         LogsCommand::Show(form, moment) => {
-            let told = told_in_page(alloc.clone()?, form, logs, &judged)?;
-            show_ring(
-                alloc,
-                form,
-                &moment,
-                question.text,
-                names,
-                told.as_bytes(),
-                judged,
-            )
+            show_ring(alloc, form, &moment, question.text, names, logs, judged)
         }
     }
 }

@@ -1,14 +1,19 @@
-ghost use Rattle.std.specs.Prelude.{◌≡◌, ◌↔◌, IfOk, IsTrue, length, map};
+ghost use Rattle.std.specs.Prelude.{◌≡◌, ◌↔◌, IfOk, IsTrue, length, map, true};
 ghost use Rattle.ira_event.specs.LogText.{log_text};
-ghost use Rattle.ira_mend.specs.RecordedLogs.{HasRecorded};
+ghost use Rattle.ira_audit.specs.Refusal.{MatchRefusal};
+ghost use Rattle.ira_audit.specs.Report.{IsReportableReason};
+ghost use Rattle.ira_mend.specs.RecordedLogs.{HasRecorded, IsRecordedReason};
 ghost use Rattle.ira_view.specs.Texts.{AreFiles, texts_of};
-ghost use Rattle.ira_commands.specs.Begun.{SaysBreaksOff, bytes_of, names_of};
+ghost use Rattle.ira_commands.specs.Begun.{AreBegunLogs, SaysBreaksOff, bytes_of, names_of};
 
-use ira_audit::{Answer, Reason};
+use ira_audit::{Answer, Reason, Refusal};
 use ira_event::{LogFault, Logs, MemorySink, OutOfMemory, write_log};
-use ira_mend::RecordedLogs;
+use ira_mend::{RecordedLogs, greatest_beginning};
 use ira_view_page::NamedText;
 use std::alloc::Allocator;
+
+/// What stands above what is said of what is left of logs.
+pub(crate) const HEADING: &[u8] = b"\nWhat is left, as far as it fits together:\n\n";
 
 /// Whether an answer is no since the text of a log breaks off, or begins with no head.
 pub(crate) fn breaks_off(answer: &Answer) -> bool
@@ -34,6 +39,21 @@ pub fn take_left<A: Allocator + Clone>(
         recorded.take(file.text)?;
     }
     Ok(recorded)
+}
+
+/// The greatest consistent beginning of what is left of the logs in these files.
+pub(crate) fn begin_left<A: Allocator + Clone>(
+    alloc: A,
+    files: &[NamedText<'_>],
+) -> Result<Logs<A>, Refusal>
+    ensures { MatchRefusal result (AreBegunLogs (texts_of files.now))
+        (λ r. IsRecordedReason true (texts_of files.now) r × IsReportableReason r) }
+{
+    let left = match take_left(alloc.clone()?, files)?.gather(true) {
+        Ok(left) => left,
+        Err(refusal) => return Err(refusal),
+    };
+    Ok(greatest_beginning(alloc, &left)?)
 }
 
 /// The texts of the logs of a ring.

@@ -8,18 +8,14 @@ ghost use Rattle.ira_commands.specs.Explain.{IsOfSameText, TellsNoRing};
 ghost use Rattle.ira_commands.specs.Judging.{JudgesLog};
 ghost use Rattle.ira_commands.specs.Reply.{ExplainsAs};
 
-use crate::begun::{breaks_off, log_texts, name_texts, take_left};
+use crate::begun::{HEADING, begin_left, breaks_off, log_texts, name_texts};
 use crate::reply::Reply;
 use ira_audit::{Answer, Judged, Reason, Refusal, write_report};
 use ira_event::{MemorySink, OutOfMemory, write_bytes};
-use ira_mend::greatest_beginning;
 use ira_view::{Form, Status, View, explain_text, explain_texts, take_texts, write_view_as};
 use ira_view_election::Election;
 use ira_view_page::NamedText;
 use std::alloc::Allocator;
-
-/// What stands above what is said of what is left of logs.
-const HEADING: &[u8] = b"\nWhat is left, as far as it fits together:\n\n";
 
 /// An answer, and why it is so, in words or as JSON, with how the election stands where that is known.
 pub(crate) fn tell_view<'v, A: Allocator + Clone>(
@@ -113,15 +109,14 @@ fn write_begun<A: Allocator + Clone>(
 ) -> Result<(), OutOfMemory>
     ensures { IfOk result (λ done. AddsText (ExplainsBegun A logs.now first.now) text.old text.new) }
 {
-    let left = match take_left(alloc.clone()?, logs)?.gather(true) {
-        Ok(left) => left,
+    let begun = match begin_left(alloc.clone()?, logs) {
+        Ok(begun) => begun,
         Err(Refusal::No(reason)) => return write_no_ring(reason, first, text),
         Err(Refusal::OutOfMemory) => return Err(OutOfMemory),
     };
     let Ok(()) = write_bytes(HEADING, text) else {
         return Err(OutOfMemory);
     };
-    let begun = greatest_beginning(alloc.clone()?, &left)?;
     let texts = log_texts(alloc.clone()?, &begun)?;
     let named = name_texts(alloc.clone()?, logs, &texts)?;
     let judged = take_texts(alloc.clone()?, &named)?.judge()?;

@@ -59,13 +59,12 @@ impl LogsCommand<'_> {
             LogsCommand::Explain { .. }
             | LogsCommand::ExplainExpected { .. }
             | LogsCommand::ExplainQuestion { .. }
-            | LogsCommand::ExplainCheck { .. }
-            | LogsCommand::Show(RingForm::Html(_), _) => true,
+            | LogsCommand::ExplainCheck { .. } => true,
             LogsCommand::Answer { .. }
             | LogsCommand::Expect { .. }
             | LogsCommand::Decide { .. }
-            | LogsCommand::Check { .. }
-            | LogsCommand::Show(RingForm::Lines(_) | RingForm::Picture(_), _) => false,
+            | LogsCommand::Check { .. } => false,
+            LogsCommand::Show(form, moment) => form.needs_files(&moment),
         }
     }
 }

@@ -147,7 +147,7 @@ pub fn answer_overview<A: Allocator + Clone>(
     let text = files.question.text;
     add_both(
         &mut replies,
-        show_overview(alloc, columns, &moment, text, judged)?,
+        show_overview(alloc, columns, &moment, text, files.logs, judged)?,
     )?;
     Ok(replies)
 }

@@ -1,7 +1,8 @@
 ghost use Rattle.std.specs.Prelude.{◌≡◌};
-ghost use Rattle.ira_commands.specs.RingForm.{answer_form, leaders_of};
+ghost use Rattle.ira_commands.specs.RingForm.{answer_form, leaders_of, needs_files, shows_left};
 
 use crate::ring_leaders::RingLeaders;
+use crate::ring_moment::RingMoment;
 use ira_view::Form;
 use ira_view_picture::ColumnRange;
 
@@ -31,6 +32,33 @@ impl<'v> RingForm<'v> {
         match *self {
             RingForm::Lines(lines) => lines.form,
             RingForm::Picture(_) | RingForm::Html(_) => Form::Words,
+        }
+    }
+
+    /// Whether what is left of logs is shown in it where their texts break off: as pictures, as pages, and in words without
+    /// all events, at their end.
+    pub(crate) fn shows_left(&self, moment: &RingMoment<'_>) -> bool
+        ensures { result ≡ shows_left self.now moment.now }
+    {
+        match *moment {
+            RingMoment::AtEnd => match *self {
+                RingForm::Lines(lines) => match lines.form {
+                    Form::Words => !lines.has_events,
+                    Form::Json => false,
+                },
+                RingForm::Picture(_) | RingForm::Html(_) => true,
+            },
+            RingMoment::AtCut(_) | RingMoment::OfQuestion(_) => false,
+        }
+    }
+
+    /// Whether it tells of logs with their texts and the names of their files: in a page, and where it shows what is left of them.
+    pub(crate) fn needs_files(&self, moment: &RingMoment<'_>) -> bool
+        ensures { result ≡ needs_files self.now moment.now }
+    {
+        match *self {
+            RingForm::Html(_) => true,
+            RingForm::Lines(_) | RingForm::Picture(_) => self.shows_left(moment),
         }
     }
 

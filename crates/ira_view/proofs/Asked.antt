@@ -1,14 +1,9 @@
 -- What is found for a question that is asked of the ring of logs.
-use Rattle.std.proofs.Common.{◌≡◌, ℕ, List, Err, IfOk, Ok, Option, Result, Some, subst}
+use Rattle.std.proofs.Common.{◌≡◌, ℕ, List, Err, IfOk, Ok, Option, Result, Some}
 use Rattle.ira_cert_text.specs.Certificate.{Certificate}
-use Rattle.ira_audit.proofs.NeverMet.{no_case}
 use Rattle.ira_audit.specs.AskedQuestion.{AreFoundOf, AskedQuestion}
-use Rattle.ira_audit.specs.CheckAnswer.{IsCheckAnswer}
 use Rattle.ira_audit.specs.Findings.{AreFindings, AreReportable}
-use Rattle.ira_audit.specs.Never.{NoCaseIsMet}
 use Rattle.ira_audit.specs.QuestionFitsLogs.{QuestionFitsLogs}
-use Rattle.ira_audit.specs.declared.answer.Answer.{Answer}
-use Rattle.ira_audit.specs.declared.answer.Answer.TheVariants.{Yes}
 use Rattle.ira_audit.specs.declared.findings.Findings.{Findings}
 use Rattle.ira_audit.specs.declared.findings.Findings.TheVariants.{Refused, Cases}
 use Rattle.ira_audit.specs.declared.judged.Judged.{Judged}

@@ -1,11 +1,11 @@
 -- Pages to move in a picture of a ring.
-use Rattle.std.specs.Prelude.{◌≡◌, ℕ, List, [], ◌++◌, None, Option, map}
+use Rattle.std.specs.Prelude.{◌≡◌, ℕ, List, ◌++◌, None, Option, map}
 use Rattle.std.specs.List.{zip}
 use Rattle.ira_event.specs.Log.{Log}
-use Rattle.ira_audit.specs.RefusedLogs.{RefusedLogs}
 use Rattle.ira_audit.specs.declared.answer.Answer.TheVariants.{No}
 use Rattle.ira_audit.specs.declared.judged.Judged.{Judged}
 use Rattle.ira_audit.specs.declared.judged.Judged.TheVariants.{Good, NoRing, Refused}
+use Rattle.ira_audit.specs.declared.reason.Reason.{Reason}
 use Rattle.ira_view_moment.specs.Told.{Told}
 use Rattle.ira_view_page.specs.declared.explanation.Explanation.{Explanation}
 use Rattle.ira_view_page.specs.declared.named_text.NamedText.{NamedText}
@@ -58,18 +58,18 @@ IsRingHtml ring from to text =
     (names : List (List ℕ))
     × IsHtmlOf (IsPictureTold ring.logs ring.told ring.cut from to) (IsRingTold names ring) text
 
--- the lines of JSON that a page tells of refused logs in files: that of the answer with its reason and what it rests
--- on, that of what a person reads of it, and those on the logs
-abbrev pub IsRefusalTold : Type 0 → List NamedText → RefusedLogs → List ℕ → Type 0
-IsRefusalTold A files refused told =
-    (explanation : Explanation A) × (line : List ℕ) × (page : List ℕ) × (others : List ℕ)
-    × IsExplanation {A = A} files (Refused refused) explanation None
-    × IsViewText Json (No refused.reason) explanation None line
-    × IsLineOf (explanation_value explanation.page) page
-    × AreLogLines (zip (map (λ file. file.name.now) files) refused.logs) others × (told ≡ line ++ page ++ others)
+-- texts that were judged are those of no run, for this reason
+abbrev pub HasReason : {A : Type 0} → Judged A → Reason → Type 0
+HasReason (Good logs) r = ⊥
+HasReason (Refused refused) r = r ≡ refused.reason
+HasReason (NoRing reason) r = r ≡ reason
 
--- the same of logs that were judged, where they are refused; nothing of others
-abbrev pub IsJudgedTold : {A : Type 0} → List NamedText → Judged A → List ℕ → Type 0
-IsJudgedTold files (Good logs) told = told ≡ []
-IsJudgedTold {A} files (Refused refused) told = IsRefusalTold A files refused told
-IsJudgedTold files (NoRing reason) told = told ≡ []
+-- the lines of JSON that a page of such texts in files tells: that of the answer with its reason and what it rests on, that
+-- of what a person reads of it, and those on the logs that are drawn
+abbrev pub IsRefusalTold : {A : Type 0} → List NamedText → Judged A → Reason → List Log → List ℕ → Type 0
+IsRefusalTold {A} files judged r logs told =
+    (explanation : Explanation A) × (line : List ℕ) × (page : List ℕ) × (others : List ℕ)
+    × IsExplanation files judged explanation None
+    × IsViewText Json (No r) explanation None line
+    × IsLineOf (explanation_value explanation.page) page
+    × AreLogLines (zip (map (λ file. file.name.now) files) logs) others × (told ≡ line ++ page ++ others)

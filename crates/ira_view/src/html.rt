@@ -5,7 +5,7 @@ ghost use Rattle.ira_view_moment.specs.Told.{at_end};
 ghost use Rattle.ira_view_page.specs.Printable.{IsPrintable};
 ghost use Rattle.ira_view_picture.specs.DrawFault.{HasTooManyEvents};
 ghost use Rattle.ira_view_picture.specs.declared.draw_fault.DrawFault.TheVariants.{TooManyEvents};
-ghost use Rattle.ira_view.specs.Html.{AreLogLines, IsHtmlOf, IsJudgedTold, IsPictureTold, IsRingHtml};
+ghost use Rattle.ira_view.specs.Html.{AreLogLines, HasReason, IsHtmlOf, IsPictureTold, IsRefusalTold, IsRingHtml};
 ghost use Rattle.ira_view.specs.ShownRing.{HasTooManyAt};
 ghost use Rattle.ira_view.specs.Texts.{texts_of};
 
@@ -13,7 +13,7 @@ use crate::explain::explain_texts;
 use crate::has_name::HasName;
 use crate::shown_ring::ShownRing;
 use crate::view_writer::view_line;
-use ira_audit::{Answer, Judged, RefusedLogs};
+use ira_audit::{Answer, Judged, Reason};
 use ira_event::{Logs, OutOfMemory};
 use ira_view_html::html_page;
 use ira_view_json::{explanation_line, log_line, picture_line};
@@ -61,44 +61,44 @@ fn add_logs<A: Allocator + Clone, N: HasName>(
     Ok(())
 }
 
-/// What a page to move in tells of refused logs of a ring, in these files, as lines of JSON: why they are refused, what a
-/// person reads of that, and a line for each of them. Nothing of others.
+/// What a page to move in tells where texts in these files are those of no run for this reason, as lines of JSON: why that is
+/// so, what a person reads of it, and a line for each of the logs that it draws.
 pub fn refused_lines<A: Allocator + Clone>(
     alloc: A,
     files: &[NamedText<'_>],
     judged: &Judged<A>,
+    reason: Reason,
+    logs: &Logs<A>,
 ) -> Result<String<A>, OutOfMemory>
-    requires { IsJudged (texts_of files.now) judged.now }
-    ensures { IfOk result (λ told. IsJudgedTold files.now judged.now (string_bytes told)) }
+    requires judged { IsJudged (texts_of files.now) judged.now }
+    requires reason { HasReason judged.now reason }
+    requires places { length files.now ≡ length logs.now }
+    ensures { IfOk result (λ told. IsRefusalTold files.now judged.now reason logs.now (string_bytes told)) }
 {
-    let Judged::Refused(refused) = judged else {
-        return Ok(String::new(alloc));
-    };
     let ring = explain_texts(alloc.clone()?, files, judged)?;
     let explanation = &ring.view.explanation;
-    let answer = Answer::No(refused.reason());
-    let mut told = view_line(alloc.clone()?, &answer, explanation, None)?;
+    let mut told = view_line(alloc.clone()?, &Answer::No(reason), explanation, None)?;
     let page = explanation_line(alloc.clone()?, explanation.page.as_str())?;
     told.push_str(page.as_str())?;
-    add_logs(alloc, &mut told, refused.logs(), files)?;
+    add_logs(alloc, &mut told, logs, files)?;
     Ok(told)
 }
 
-/// A page to move in refused logs at these columns, of which this is told.
+/// A page to move in these logs at these columns, of which this is told.
 pub fn refused_html<A: Allocator + Clone>(
     alloc: A,
-    refused: &RefusedLogs<A>,
+    logs: &Logs<A>,
     told: &[u8],
     columns: ColumnRange,
 ) -> Result<PageText<A>, DrawFault>
-    ensures html { IfOk result (IsHtmlOf (IsPictureTold refused.now.logs at_end None columns.from columns.to)
+    ensures html { IfOk result (IsHtmlOf (IsPictureTold logs.now at_end None columns.from columns.to)
         (λ lines. lines ≡ told.now)) }
     ensures printable { IfOk result IsPrintable }
     ensures events { (events : ℕ) → result ≡ Err (TooManyEvents events)
-        → HasTooManyEvents refused.now.logs None columns.from columns.to events }
+        → HasTooManyEvents logs.now None columns.from columns.to events }
 {
     let ColumnRange { from, to } = columns;
-    let picture = Picture::of(alloc.clone()?, refused.logs(), None, from, to)?;
+    let picture = Picture::of(alloc.clone()?, logs, None, from, to)?;
     let mut lines = Vec::new(alloc.clone()?);
     lines.extend_from_slice(told)?;
     let at_end = ChosenMoment::<A>::AtEnd;

@@ -9,7 +9,7 @@ use Rattle.ira_view_picture.specs.declared.arrow.Arrow.{Arrow}
 use Rattle.ira_view_picture.specs.declared.window.Window.{Window}
 use Rattle.ira_view_picture.specs.Picture.{Drawn, IsShown}
 use Rattle.ira_view_picture.specs.Window.{asked_window}
-use Rattle.ira_view_draw.specs.Drawing.{IsDrawing, IsRefusedDrawing}
+use Rattle.ira_view_draw.specs.Drawing.{IsDrawing, IsLogsDrawing}
 use Rattle.ira_view_draw.specs.Marks.{marks_text}
 use Rattle.ira_view_draw.specs.MomentLine.{asked_of, cut_with_line, line_of_moment, words_of_moment}
 use Rattle.ira_view_moment.specs.Told.{told_of}
@@ -57,13 +57,13 @@ drawing_of logs moment from to found window last line lanes arrows nodes below m
           ∙ ap (λ (x : List ℕ). below ++ marks_text (length logs) w lanes ++ x) lines);
     }
 
--- the same of logs of no run
-pub refused_drawing_of : (logs : List Log) (from to : Option ℕ) (window : Window) (last : ℕ) (line : Option ℕ)
+-- the same of no moment
+pub logs_drawing_of : (logs : List Log) (from to : Option ℕ) (window : Window) (last : ℕ) (line : Option ℕ)
     (lanes : List Drawn) (arrows : List Arrow) (nodes : ℕ) (below middle before more text : List ℕ)
     → IsShown logs None window last line lanes arrows → window ≡ asked_window from to last → nodes ≡ length logs
     → IsPrintable text → text ≡ before ++ codes "</svg>\n" → before ≡ middle ++ more
-    → middle ≡ below ++ marks_text nodes window lanes → IsRefusedDrawing logs from to text
-refused_drawing_of logs from to window last line lanes arrows nodes below middle before more text shown is n printable
+    → middle ≡ below ++ marks_text nodes window lanes → IsLogsDrawing logs from to text
+logs_drawing_of logs from to window last line lanes arrows nodes below middle before more text shown is n printable
     ends over marked =
     let marks : marks_text nodes window lanes ≡ marks_text (length logs) (asked_window from to last) lanes =
     ap (λ (k : ℕ). marks_text k window lanes) n ∙ ap (λ (x : Window). marks_text (length logs) x lanes) is in

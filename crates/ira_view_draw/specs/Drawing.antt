@@ -25,9 +25,9 @@ pub record IsDrawing (logs : List Log) (cut : Option (List ℕ)) (told : Told) (
       (asked_of told)
       ++ codes "</svg>\n"
 
--- the text is a picture of the logs of no run at the columns that are asked for: above what is below them, and is
+-- the text is a picture of logs, and of no moment, at the columns that are asked for: above what is below them, and is
 -- printable, it has the marks of the events at these columns
-pub record IsRefusedDrawing (logs : List Log) (from to : Option ℕ) (text : List ℕ) : Type 0 where
+pub record IsLogsDrawing (logs : List Log) (from to : Option ℕ) (text : List ℕ) : Type 0 where
   pub last : ℕ
   pub lanes : List Drawn
   pub arrows : List Arrow

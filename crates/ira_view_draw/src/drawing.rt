@@ -3,7 +3,7 @@ ghost use Rattle.ira_view_moment.specs.ChosenMoment.{IsMomentOf, cut_of};
 ghost use Rattle.ira_view_page.specs.Printable.{IsPrintable};
 ghost use Rattle.ira_view_picture.specs.DrawFault.{HasTooManyEvents, IsDrawFault};
 ghost use Rattle.ira_view_page.specs.Page.{AddedSome};
-ghost use Rattle.ira_view_draw.specs.Drawing.{IsDrawing, IsRefusedDrawing};
+ghost use Rattle.ira_view_draw.specs.Drawing.{IsDrawing, IsLogsDrawing};
 ghost use Rattle.ira_view_draw.specs.Grid.{IsAcross, IsDown};
 ghost use Rattle.ira_view_draw.specs.MomentLine.{cut_with_line};
 ghost use Rattle.ira_view_moment.specs.Told.{told_of};
@@ -18,9 +18,9 @@ use crate::labels::write_labels;
 use crate::lanes::write_lanes;
 use crate::legend::{legend_foot, write_legend};
 use crate::marks::write_marks;
-use crate::moment_line::{moment_words, write_line_of_moment};
+use crate::moment_line::{moment_words, write_line_of_moment, write_pale};
 use crate::svg::Svg;
-use ira_audit::RefusedLogs;
+use ira_audit::{Reason, RefusedLogs};
 use ira_event::{Logs, OutOfMemory};
 use ira_order::EventAt;
 use ira_view_moment::ChosenMoment;
@@ -93,7 +93,7 @@ fn write_highlight<A: Allocator>(out: &mut Svg<A>, grid: &Grid, highlight: &High
     out.page.words("</text>\n");
 }
 
-/// What the answer speaks of.
+/// What the answer speaks of; where that is no event, all is pale.
 fn write_highlights<A: Allocator>(
     out: &mut Svg<A>,
     picture: &Picture<A>,
@@ -102,6 +102,10 @@ fn write_highlights<A: Allocator>(
 )
     ensures { AddedSome out.old.page out.new.page }
 {
+    if events.is_empty() {
+        write_pale(out, grid, grid.window.first);
+        return;
+    }
     for event in events {
         if let Some(column) = column_of(picture, event.at) {
             write_highlight(out, grid, event, column);
@@ -182,24 +186,29 @@ pub fn draw<A: Allocator + Clone>(
     Ok(finish(out)?)
 }
 
-/// The same of the logs of no run: what the reason against them speaks of is marked.
+/// The same of logs against which this reason stands: where they are those of no run what it speaks of is marked, else they
+/// are what is left, and all is pale.
 pub fn draw_refused<A: Allocator + Clone>(
     alloc: A,
-    refused: &RefusedLogs<A>,
+    logs: &Logs<A>,
+    reason: Reason,
+    refused: Option<&RefusedLogs<A>>,
     columns: ColumnRange,
 ) -> Result<PageText<A>, DrawFault>
-    ensures drawing { IfOk result (IsRefusedDrawing refused.now.logs columns.from columns.to) }
+    ensures drawing { IfOk result (IsLogsDrawing logs.now columns.from columns.to) }
     ensures fault { IfErr result IsDrawFault }
     ensures events { (events : ℕ) → result ≡ Err (DrawFault.TooManyEvents events)
-        → HasTooManyEvents refused.now.logs None columns.from columns.to events }
+        → HasTooManyEvents logs.now None columns.from columns.to events }
 {
     let ColumnRange { from, to } = columns;
-    let logs = refused.logs();
     let picture = Picture::of(alloc.clone()?, logs, None, from, to)?;
-    let events = highlights(alloc.clone()?, refused)?;
-    let words = reason_words(alloc.clone()?, refused.reason())?;
+    let events = match refused {
+        Some(refused) => highlights(alloc.clone()?, refused)?,
+        None => Vec::new(alloc.clone()?),
+    };
+    let words = reason_words(alloc.clone()?, reason)?;
     let told = ToldReason {
-        reason: refused.reason(),
+        reason,
         words: words.bytes(),
         column: first_column(&picture, &events),
     };

@@ -87,6 +87,7 @@ fn write_sentence<A: Allocator>(page: &mut Page<A>, told: Option<ToldReason<'_>>
         return;
     };
     page.words(match told.reason {
+        Reason::Log { .. } => ". What is left, as far as it fits together: all of it is pale.",
         _ if told.column.is_none() => ". What the answer speaks of stands at other columns.",
         Reason::Match(_) => {
             ". Thick broken arrows join what is not the same message; the ringed receipt is the first such."

@@ -104,7 +104,7 @@ fn write_words<A: Allocator>(out: &mut Svg<A>, words: &[u8])
 }
 
 /// Makes all pale that is right of a column which is drawn.
-fn write_pale<A: Allocator>(out: &mut Svg<A>, grid: &Grid, column: u32)
+pub(crate) fn write_pale<A: Allocator>(out: &mut Svg<A>, grid: &Grid, column: u32)
     ensures { Added out.old.page (pale_text grid.now.nodes grid.now.window column) out.new.page }
 {
     if grid.contains(column) {

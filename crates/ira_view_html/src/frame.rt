@@ -7,7 +7,7 @@ pub(crate) const HEAD: &str = r#"<!doctype html>
 <meta charset="utf-8">
 <meta name="viewport" content="width=device-width">
 <meta http-equiv="Content-Security-Policy"
-content="default-src 'none'; style-src 'unsafe-inline'; script-src 'sha256-f4spQqnU2X5Igid2sdxRLmPA9KQTbEmMQxRTQDiNo5M='">
+content="default-src 'none'; style-src 'unsafe-inline'; script-src 'sha256-vtpNONwWbBb0R7msINumUsypc1vy/KlU9kZcJ+P8nNo='">
 <title>ira</title>
 <style>
 :root{color-scheme:light dark;--back:#fff;--ink:#1f2328;--mute:#57606a;--line:#d0d7de;

@@ -85,6 +85,7 @@ function wayOf(event) {
 
 // What the answer speaks of, and why.
 const {evidence = [], fault, link, receipt} = answer, named = evidence.filter(o => o.event);
+const isLeftOver = answer.reason == 'log';
 const eventOf = o => o && eventAt(o.node, o.event);
 const roleOf = o => o.fault || (o.role == 'event' ? fault : o.role);
 const rings = named.flatMap(o => {
@@ -338,6 +339,7 @@ function drawScene() {
     ctx.fill();
   }
   if (isNear) drawWords(isSeen);
+  if (isLeftOver) ctx.globalAlpha = .55, clear(), ctx.globalAlpha = 1;
   for (const {e, words} of rings) {
     const [x, y, isLeft] = [X(e.p), Y(laneY[e.node]), words == 'waits'];
     pen(colours.bad, 2);
@@ -550,7 +552,8 @@ const leaders = nodes.flatMap(({end}, i) => end.phase == 'leader' ? `node ${i} l
 const title = isYes ? leaders.join('; ') || 'nobody leads yet' : answer.answer;
 const all = picture.lanes.reduce((sum, lane) => sum + lane.events, 0);
 const counts = `${counted(size, 'node')}, ${counted(all, 'event')}`
-  + (isPart ? `, columns ${firstColumn} to ${picture.last} of ${picture.of}` : '');
+  + (isPart ? `, columns ${firstColumn} to ${picture.last} of ${picture.of}` : '')
+  + (isLeftOver ? '. What is left, as far as it fits together: all of it is pale' : '');
 const prose = page => page.split('\n\n').filter(part => !/\S {2,}\S/.test(part)).flatMap(part =>
   part.trim().split(/\n {2}(?=[A-Z]|hint:)/)).map(words => words.replace(/\s+/g, ' ')).filter(Boolean);
 function showAnswer() {
@@ -565,7 +568,7 @@ function showAnswer() {
   const earlier = named.filter(o => o.happened_before).flatMap(o => eventOf(o) || []);
   const begin = earlier.find(e => (past = reach([e], 'from'), !earlier.some(o => o != e && isBefore(o)))) || main;
   $('heading').className = 'bad';
-  fill('why', heading(title), isPart && paragraph(counts), prose(explanation.page).map(paragraph),
+  fill('why', heading(title), (isPart || isLeftOver) && paragraph(counts), prose(explanation.page).map(paragraph),
     tag('ul', {}, named.map(o => tag('li', {}, eventOf(o) ? go(eventOf(o)) : nameOf({node: o.node, at: o.event}),
       `: ${o.record} ${o.file}:${o.line} ${roleOf(o)}`))),
     receipt ? bothSides(main) : [...new Set([begin, main])].map(lastStates));

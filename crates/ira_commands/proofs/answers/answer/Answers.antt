@@ -1,4 +1,4 @@
-use Rattle.std.proofs.Common.{refl, sym}
+use Rattle.std.proofs.Common.{refl}
 use Rattle.ira_commands.proofs.Served.{if_ok}
 use Rattle.ira_commands.proofs.answers.answer.Goals as goal
 
@@ -43,10 +43,9 @@ returns-in-ExplainCheck g c = λ names texts judged are. rw c.in-ExplainCheck.is
     (λ reply told. (_, _, (are (rw c.in-ExplainCheck.is refl), (refl, refl)), (refl, refl), told))
     c.explain_certificate.ensures)
 
-pub told_in_page-requires : goal.told_in_page-requires
-told_in_page-requires g c = λ page. c.requires.kept (rw c.in-Show.is page)
+pub show_ring-requires-clause-files : goal.show_ring-requires-clause-files
+show_ring-requires-clause-files g c = λ needs. c.requires.kept (rw c.in-Show.is needs)
 
-pub returns-in_ok-told-in-Show : goal.returns-in_ok-told-in-Show
-returns-in_ok-told-in-Show g c = λ names texts judged are.
-    let told = c.in_ok-told-in-Show.ensures names texts (λ page. are (rw c.in-Show.is page)) in
-    rw c.in-Show.is (c.show_ring.ensures names texts judged (rw (sym c.as_bytes.ensures.value) at told))
+pub returns-in-Show : goal.returns-in-Show
+returns-in-Show g c = λ names texts judged are.
+    rw c.in-Show.is (c.show_ring.ensures names texts judged (λ needs. are (rw c.in-Show.is needs)))

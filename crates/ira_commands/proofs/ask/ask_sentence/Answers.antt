@@ -1,7 +1,7 @@
-use Rattle.std.proofs.Common.{◌≡◌, ◌∙◌, ◌++◌, List, ℕ, ap, rules}
+use Rattle.std.proofs.Common.{◌∙◌, ◌++◌, List, ℕ, ap, rules}
 use Rattle.ira_event.specs.RingSize.{IsRingSize}
 use Rattle.ira_event.specs.Sink.{Memory}
-use Rattle.ira_commands.specs.Ask.AsksSentence.{asked, no_question, no_ring}
+use Rattle.ira_commands.specs.Ask.AsksSentence.{asked, no_question}
 use Rattle.ira_commands.specs.Reply.{printed}
 use Rattle.ira_view.specs.declared.status.Status.TheVariants.{Yes}
 use Rattle.ira_commands.proofs.ask.ask_sentence.Goals as goal

@@ -1,4 +1,4 @@
-use Rattle.std.proofs.Common.{◌≡◌, ◌∙◌, ap, inl, inr, rules, subst}
+use Rattle.std.proofs.Common.{◌∙◌, ap, inl, inr, rules, subst}
 use Rattle.ira_ask.specs.SentenceAnswer.{IsAsked, IsSentenceFault}
 use Rattle.ira_commands.specs.Reply.{Reply, with_files}
 use Rattle.ira_commands.specs.Reply.MadeFiles.{one_text}

@@ -1,11 +1,11 @@
-use Rattle.std.proofs.Common.{◌≡◌, ◌∙◌, ◌++◌, ℕ, List, [], ◌∷◌, Some, ap, arith, length, refl, subst, sym, take}
+use Rattle.std.proofs.Common.{◌≡◌, ◌∙◌, ◌++◌, ℕ, List, [], ◌∷◌, Some, ap, arith, length, refl, subst, take}
 use Rattle.std.proofs.lemmas.List.{take_all}
 use Rattle.std.proofs.lemmas.Option.{slice_get_read}
 use Rattle.ira_audit.proofs.LogTexts.{next_taken}
 use Rattle.ira_elim.specs.declared.decided.Decided.{Decided}
 use Rattle.ira_elim.specs.declared.decided.Decided.TheVariants.{Absent, Present}
 use Rattle.ira_commands.proofs.Served.{if_ok}
-use Rattle.ira_commands.specs.DecidedLine.{AreAbsent, IsDecidedLine}
+use Rattle.ira_commands.specs.DecidedLine.{AreAbsent}
 use Rattle.ira_commands.specs.DecidedLine.IsDecidedLine.{absent, present}
 use Rattle.ira_commands.proofs.decided_line.decided_line.Goals as goal
 

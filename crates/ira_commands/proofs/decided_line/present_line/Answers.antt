@@ -1,4 +1,4 @@
-use Rattle.std.proofs.Common.{◌≡◌, [], subst, sym}
+use Rattle.std.proofs.Common.{[], subst, sym}
 use Rattle.ira_view_page.proofs.Adding.{◌&◌, finished, nothing_added}
 use Rattle.ira_view_page.specs.Page.{AddedSome}
 use Rattle.ira_commands.proofs.Served.{if_ok}

@@ -1,4 +1,4 @@
-use Rattle.std.proofs.Common.{◌≡◌, ◌∙◌, ◌++◌, List, ℕ, ap, append_assoc, false, true}
+use Rattle.std.proofs.Common.{◌≡◌, ◌∙◌, ◌++◌, List, ℕ, ap, false, true}
 use Rattle.ira_event.specs.Sink.{Memory}
 use Rattle.ira_view.specs.declared.status.Status.{Status}
 use Rattle.ira_commands.specs.Explain.ExplainsAll.{alone, goes_on}

@@ -1,7 +1,6 @@
-use Rattle.std.proofs.Common.{◌≡◌, ◌∙◌, ◌++◌, List, Option, ap, subst, ℕ}
+use Rattle.std.proofs.Common.{◌∙◌, ◌++◌, List, ap, subst, ℕ}
 use Rattle.std.specs.Option.{option_map}
 use Rattle.ira_audit.specs.declared.judged.Judged.{Judged}
-use Rattle.ira_audit.specs.declared.judged.Judged.TheVariants.{Good}
 use Rattle.ira_view_election.specs.Election.{standing_of}
 use Rattle.ira_view.specs.Explained.{IsExplanation}
 use Rattle.ira_view_page.proofs.Adding.{◌&◌, added_as, finished}

@@ -1,4 +1,4 @@
-use Rattle.std.proofs.Common.{◌≡◌, ◌∙◌, ◌++◌, ◌∷◌, [], List, ap, map, refl, subst, sym}
+use Rattle.std.proofs.Common.{◌∙◌, ◌++◌, ◌∷◌, [], List, ap, map, refl, subst, sym}
 use Rattle.ira_view.specs.Texts.{texts_of}
 use Rattle.ira_view.specs.declared.form.Form.TheVariants.{Words}
 use Rattle.ira_commands.proofs.Overviews.{answers_both, lists_both}
@@ -7,16 +7,14 @@ use Rattle.ira_commands.specs.Reply.{Reply}
 use Rattle.ira_commands.specs.declared.logs_command.LogsCommand.TheVariants.{Answer, Explain}
 use Rattle.ira_commands.proofs.overview.answer_overview.Goals as goal
 
-pub show_overview-requires : goal.show_overview-requires
-show_overview-requires g c = (texts_of c.args.files.logs.now, c.requires)
-
 pub returns : goal.returns
 returns g c =
     let files = c.args.files in let texts = texts_of files.logs.now in let overview = c.args.overview in
     let given = given_in files c.args.certificate.now in
     let logs = c.in_ok-answer.answer ∷ c.in_ok-explained.explained ∷ [] in
     let asked = c.in_ok-add_question.ensures in
-    let shown = c.in_ok-show_overview.ensures (map (λ file. file.name.now) files.logs.now) texts c.requires in
+    let shown = c.in_ok-show_overview.ensures (map (λ file. file.name.now) files.logs.now) texts
+    (record { names_are = refl; texts_are = refl }) in
     let ring = c.in_ok-show_overview.field-0.0 ∷ c.in_ok-show_overview.field-0.1 ∷ [] in
     let begun = c.in_ok-add_both.ensures ∙ ap (λ (rs : List Reply). rs ++ logs) c.new-replies.ensures.items in
     let all = lists_both logs _ _ asked.replies ring (asked.added ∙ ap (λ (rs : List Reply). rs ++ asked.replies) begun)

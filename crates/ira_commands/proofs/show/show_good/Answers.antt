@@ -1,6 +1,5 @@
-use Rattle.std.proofs.Common.{◌∙◌, ap, length, subst, sym}
+use Rattle.std.proofs.Common.{◌∙◌, ap, length, subst, sym, List}
 use Rattle.ira_event.specs.Log.{Log}
-use Rattle.std.proofs.Common.{List}
 use Rattle.ira_commands.proofs.Served.{if_ok}
 use Rattle.ira_commands.proofs.Shown.{fault_reportable, ring_logs}
 use Rattle.ira_commands.specs.RingForm.{leaders_of}

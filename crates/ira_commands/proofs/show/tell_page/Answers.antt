@@ -1,5 +1,4 @@
-use Rattle.std.proofs.Common.{◌∙◌, ◌++◌, List, ap, ℕ}
-use Rattle.ira_event.specs.Sink.{Memory}
+use Rattle.std.proofs.Common.{◌∙◌, ◌++◌, List, ap, append_assoc, ℕ}
 use Rattle.ira_view.specs.ShownRing.{IsPageOf}
 use Rattle.ira_commands.proofs.Outputs.{front, lines_after}
 use Rattle.ira_commands.specs.Reply.{printed}
@@ -9,11 +8,16 @@ pub returns : goal.returns
 returns g c =
     let d = c.args.differences.now in
     let page = c.in_ok-page.page in
-    let begin = c.in-Ok.ensures.took ∙ ap (λ (m : Memory). m.bytes ++ front c.bytes.result.now) c.new-text.ensures
-    ∙ ap front c.bytes.ensures.text in
-    let text = c.in-Ok-write.ensures.text.took ∙ ap (λ (b : List ℕ). b ++ page) begin in (
+    let before = c.args.text.bytes in
+    let begin = c.in-Ok.ensures.took ∙ ap (λ (b : List ℕ). before ++ front b) c.bytes.ensures.text in
+    let text = c.in-Ok-write.ensures.text.took ∙ ap (λ (b : List ℕ). b ++ page) begin
+    ∙ append_assoc before (front d) page in (
       _,
-      lines_after d (IsPageOf c.args.ring.now) page c.bytes.ensures.printable c.in_ok-page.ensures
-          c.in-Ok-write.ensures.printable,
-      c.printed.ensures ∙ ap (λ (text : List ℕ). printed c.args.status text) text,
+      (
+        front d ++ page,
+        lines_after d (IsPageOf c.args.ring.now) page c.bytes.ensures.printable c.in_ok-page.ensures
+            c.in-Ok-write.ensures.printable,
+        text,
+      ),
+      c.printed.ensures,
     )

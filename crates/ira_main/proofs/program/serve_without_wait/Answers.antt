@@ -1,8 +1,7 @@
 use Rattle.std.proofs.Common.{◌≡◌, ◌∙◌, Err, List, [], ◌∷◌, Ok, Result, ℕ, ap, inl, inr, map, refl, subst, sym}
 use Rattle.ira_main_cli.specs.Request.{IsMadeOf, IsVersionLine}
 use Rattle.ira_main.specs.Serve.CommandOutcome.{asked, decided, drawn, each, guided, judged, mended, pairs, recorded, refused, shown}
-use Rattle.ira_main.specs.Serve.CommandOutcome.{upgraded}
-use Rattle.ira_main.specs.Serve.CommandOutcome.{explained as explained_of_logs}
+use Rattle.ira_main.specs.Serve.CommandOutcome.{upgraded, explained as explained_of_logs}
 use Rattle.ira_main.specs.Serve.Serves.{explained, with_words, without_words}
 use Rattle.ira_main.proofs.Delivering.{told, told_and_kept, told_and_recorded}
 use Rattle.ira_main.proofs.program.serve_without_wait.Goals as goal

@@ -1,9 +1,6 @@
-use Rattle.std.proofs.Common.{◌≡◌, Err, Result, refl, subst}
+use Rattle.std.proofs.Common.{Err, refl, subst}
 use Rattle.ira_audit.proofs.RefusedTexts.{sections_judged}
 use Rattle.ira_audit.specs.CheckAnswer.{yes}
-use Rattle.ira_audit.specs.Refusal.{MatchRefusal}
-use Rattle.ira_audit.specs.declared.reason.Reason.{Reason}
-use Rattle.ira_audit.specs.declared.refusal.Refusal.{Refusal}
 use Rattle.ira_audit.specs.declared.refusal.Refusal.TheVariants.{No}
 use Rattle.ira_cert_text.specs.Certificate.{Certificate}
 use Rattle.ira_view_explain_question.specs.Explanation.{IsUnsoundExplained}

@@ -16,9 +16,9 @@ returns-clause-html g c =
     ∙ ap (λ (more : List ℕ). told ++ more) c.as_bytes.ensures.value in (
       line,
       told,
-      picture_told c.args.refused.now.logs at_end None None c.args.columns.from c.args.columns.to picture.window
+      picture_told c.args.logs.now at_end None None c.args.columns.from c.args.columns.to picture.window
           picture.last picture.line (map drawn_of picture.lanes.items) picture.arrows.items line refl
-          c.in_ok-picture.ensures.window (rw c.logs.ensures.value at c.in_ok-picture.ensures.shown)
+          c.in_ok-picture.ensures.window c.in_ok-picture.ensures.shown
           c.in_ok-picture_line.ensures,
       refl,
       subst (λ (all : List ℕ). IsHtmlPage all c.in_ok-html_page.field-0) text c.in_ok-html_page.ensures,

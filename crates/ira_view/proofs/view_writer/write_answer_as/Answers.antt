@@ -5,7 +5,7 @@ use Rattle.ira_view_json.specs.AnswerValue.{answer_value}
 use Rattle.ira_view_json.specs.Line.{IsLineOf}
 use Rattle.ira_view.proofs.Written.{text_written}
 use Rattle.ira_view.specs.Status.{status_number}
-use Rattle.ira_view.specs.declared.form.Form.TheVariants.{Json, Words}
+use Rattle.ira_view.specs.declared.form.Form.TheVariants.{Json}
 use Rattle.ira_view.specs.ViewText.{IsAnswerText}
 use Rattle.ira_view.proofs.view_writer.write_answer_as.Goals as goal
 

@@ -6,7 +6,7 @@ use Rattle.ira_audit.specs.Report.{report_line}
 use Rattle.ira_view_election.specs.Election.{standing_of}
 use Rattle.ira_view_election.specs.declared.election.Election.{Election}
 use Rattle.ira_view.proofs.Written.{text_written}
-use Rattle.ira_view.specs.declared.form.Form.TheVariants.{Json, Words}
+use Rattle.ira_view.specs.declared.form.Form.TheVariants.{Json}
 use Rattle.ira_view.specs.ViewText.{IsViewText}
 use Rattle.ira_view.proofs.view_writer.write_view_as.Goals as goal
 

@@ -1,5 +1,4 @@
 use Rattle.std.proofs.Common.{◌∙◌, map}
-use Rattle.std.specs.Option.{option_map}
 use Rattle.ira_view_picture.specs.Picture.{drawn_of}
 use Rattle.ira_view_draw.proofs.Drawings.{drawing_of}
 use Rattle.ira_view_draw.proofs.Moments.{has_numbers}
