@@ -1,6 +1,5 @@
 -- A sentence's text is parted in one way.
-use Rattle.std.proofs.Common.{◌≡◌, ◌<◌, ◌≤◌, ℕ, ◌^◌, List, [], ◌∷◌, ◌++◌, Option, Some, None, refl, sym, ap}
-use Rattle.std.proofs.Common.{subst}
+use Rattle.std.proofs.Common.{◌≡◌, ◌<◌, ◌≤◌, ℕ, ◌^◌, List, [], ◌∷◌, ◌++◌, Option, Some, None, refl, sym, ap, subst}
 use Rattle.std.proofs.Common.{◌∙◌, arith, append_assoc}
 use Rattle.std.specs.Prelude.{codes, decimal}
 use Rattle.std.proofs.lemmas.List.{append_cancel_left, append-nil}
@@ -14,8 +13,7 @@ use Rattle.ira_pred.specs.Formula.{both, either, negated, HasNumbersInRange}
 use Rattle.ira_pred.specs.QuestionText.{IsClauseText, clause_text, rel_sign}
 use Rattle.ira_pred.proofs.ClauseTexts.{clause_is, clause_same}
 use Rattle.ira_ask.specs.Sentence.{Parts}
-use Rattle.ira_ask.specs.SentenceText.{BeginsWith, IsClause, IsTextOfParts}
-use Rattle.ira_ask.specs.SentenceText.{MayBeClause, part_text, parts_text}
+use Rattle.ira_ask.specs.SentenceText.{BeginsWith, IsClause, IsTextOfParts, MayBeClause, part_text, parts_text}
 use Rattle.ira_ask.specs.SentenceText.{sentence_text}
 
 -- ---- a clause has no comma, and is known by its text

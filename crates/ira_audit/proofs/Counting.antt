@@ -1,9 +1,9 @@
 -- What is kept of cases while they are decided, with their steps counted.
-use Rattle.std.proofs.Common.{◌≡◌, ◌↔◌, ◌<◌, ℕ, ◌+◌, ◌^◌, Vec, Bool, true, false, List, [], ◌∷◌, ◌++◌, Option, Some}
+use Rattle.std.proofs.Common.{◌≡◌, ◌<◌, ℕ, ◌+◌, ◌^◌, Vec, Bool, true, false, List, [], ◌∷◌, ◌++◌, Option, Some}
 use Rattle.std.proofs.Common.{None, MatchOption, length, map, refl, sym, ap, ◌∙◌, subst, inl, inr, arith}
 use denote.RawPtr.{null_ptr}
 use Rattle.std.specs.List.{enumerate_from, flat_map}
-use Rattle.std.specs.Prelude.{Contains, IsFalse, IsTrue}
+use Rattle.std.specs.Prelude.{IsFalse, IsTrue}
 use Rattle.std.proofs.lemmas.List.{map-append}
 use Rattle.std.proofs.lemmas.List.Elements.{Contains-append_left, Contains-push, Contains-push_cases}
 use Rattle.ira_event.specs.Log.{Log}
@@ -13,7 +13,7 @@ use Rattle.ira_cert_text.specs.CertDraft.{IsDraft}
 use Rattle.ira_cert_text.specs.CertText.{IsCertText, cert_text}
 use Rattle.ira_cert_text.specs.declared.cert_draft.CertDraft.{CertDraft}
 use Rattle.ira_elim.specs.Decided.{IsDecided}
-use Rattle.ira_elim.specs.Found.{IsAbsence, IsFound}
+use Rattle.ira_elim.specs.Found.{IsAbsence}
 use Rattle.ira_elim.specs.LeastCut.{IsLeastCut}
 use Rattle.ira_elim.specs.declared.decided.Decided.{Decided}
 use Rattle.ira_elim.specs.declared.decided.Decided.TheVariants as decided

@@ -34,8 +34,7 @@ use Rattle.ira_audit.specs.QuestionFitsLogs.{QuestionFitsLogs}
 use Rattle.ira_audit.specs.GoodLogs.{AreGood, AreGoodLogs}
 use Rattle.ira_audit.specs.RingAnswer.{IsRingAnswer, no_log, no_ring, unmatched, circled, stopped, yes as logs_yes}
 use Rattle.ira_audit.specs.Never.{LeadsAtCut, NeverTwoLeaders, NoCaseIsMet, NoCutMeetsAPair, NoCutMeetsAny}
-use Rattle.ira_audit.specs.Never.{NoMomentMeetsAny}
-use Rattle.ira_audit.specs.Never.{YesMeansNoCaseIsMet, YesWithoutQuestion}
+use Rattle.ira_audit.specs.Never.{NoMomentMeetsAny, YesMeansNoCaseIsMet, YesWithoutQuestion}
 use Rattle.ira_audit.proofs.LogTexts.{one_list}
 use Rattle.ira_audit.proofs.Places.{different_places}
 use Rattle.ira_audit.proofs.Zipped.{zipped_at, partner_at}

@@ -28,8 +28,7 @@ use Rattle.ira_audit.specs.LogTexts.{AreLogTexts, IsFirstTextFault}
 use Rattle.ira_audit.specs.RingAnswer.{no_log, no_ring}
 use Rattle.ira_audit.specs.QuestionFitsLogs.{QuestionFitsLogs, bad_logs, no_question, other_ring}
 use Rattle.ira_audit.specs.Refusal.{IsLogsReason, IsSectionsRefusal, MatchRefusal, RefusesCertificate, RefusesQuestion}
-use Rattle.ira_audit.specs.Refusal.{answered}
-use Rattle.ira_audit.specs.Refusal.{IsRingReason, IsFindingsReason, IsQuestionRefusal, IsCertificateRefusal}
+use Rattle.ira_audit.specs.Refusal.{answered, IsRingReason, IsFindingsReason, IsQuestionRefusal, IsCertificateRefusal}
 use Rattle.ira_audit.specs.Report.{IsReportable, IsReportableReason}
 use Rattle.ira_audit.proofs.Replaying.{text_fault_other}
 

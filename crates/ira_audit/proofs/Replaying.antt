@@ -1,6 +1,6 @@
 -- A log that is replayed while it is read.
-use Rattle.std.proofs.Common.{◌≡◌, ◌≢◌, ◌↔◌, ℕ, ◌+◌, List, [], ◌∷◌, ◌++◌, length, Result, Ok, refl, ap, subst, sym, arith}
-use Rattle.std.proofs.Common.{append_assoc, length-append, Option, Some, None, true, false, ◌∙◌, inl, inr}
+use Rattle.std.proofs.Common.{◌≡◌, ◌≢◌, ◌↔◌, ℕ, ◌+◌, List, [], ◌∷◌, ◌++◌, length, Result, Ok, refl, ap, subst, sym}
+use Rattle.std.proofs.Common.{append_assoc, Option, Some, None, true, false, ◌∙◌, inl, inr}
 use Rattle.std.specs.Option.{is_some}
 use Rattle.ira_event.specs.declared.event.Event.{Event}
 use Rattle.ira_event.specs.declared.load.Load.{Load}

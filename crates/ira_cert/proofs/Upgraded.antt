@@ -1,12 +1,12 @@
 -- What is said of sections and upgraded logs is what is said of the old ones.
-use Rattle.std.proofs.Common.{◌≡◌, ℕ, ◌+◌, ◌⊎◌, inl, inr, List, sym, subst}
+use Rattle.std.proofs.Common.{ℕ, ◌+◌, inl, inr, List, sym, subst}
 use Rattle.std.specs.Prelude.{map, take}
 use Rattle.ira_event.specs.Log.{Log}
 use Rattle.ira_event.specs.Upgrade.{upgraded}
 use Rattle.ira_event.proofs.Upgrades.{upgraded_at, old_at}
 use Rattle.ira_pred.specs.Case.{Conjunct}
 use Rattle.ira_order.specs.Before.{Before}
-use Rattle.ira_order.proofs.SameEvents.{HaveSameEvents, turned, before}
+use Rattle.ira_order.proofs.SameEvents.{turned, before}
 use Rattle.ira_order.proofs.Upgraded.{same_events}
 use Rattle.ira_cand.specs.Candidates.{AreCandidates}
 use Rattle.ira_cand.proofs.Upgraded.{candidates_upgraded, old_candidates}
@@ -16,7 +16,7 @@ use Rattle.ira_cert.specs.declared.unsound.Unsound.{Unsound}
 use Rattle.ira_cert.specs.declared.section_fault.SectionFault.{SectionFault}
 use Rattle.ira_cert.specs.Conjuncts.{CandidatesOf}
 use Rattle.ira_cert.specs.Front.{IsFront, IsSpent}
-use Rattle.ira_cert.specs.SoundSection.{IsSoundStep, AreSoundSteps, IsSoundSection}
+use Rattle.ira_cert.specs.SoundSection.{AreSoundSteps, IsSoundSection}
 use Rattle.ira_cert.specs.SectionFault.{HasFront, WhyUnsound, not_asked, same_node, node_spent, not_front, not_before}
 use Rattle.ira_cert.specs.SectionFault.{IsSectionFault, unsound, not_spent}
 

@@ -12,7 +12,7 @@ use Rattle.ira_cert_text.specs.declared.cert_fault.CertFault.TheVariants.{Cut}
 use Rattle.ira_cert_text.specs.declared.cert_step.CertStep.{CertStep}
 use Rattle.ira_cert_text.specs.Limits.{MAX_SECTIONS}
 use Rattle.ira_cert_text.specs.Certificate.{Section}
-use Rattle.ira_cert_text.specs.CertText.{IsStepLine, IsSpentLine}
+use Rattle.ira_cert_text.specs.CertText.{IsSpentLine}
 use Rattle.ira_cert_text.specs.CertTextFault.{BeginsAsStep, OutsideFault, too_many_sections, no_section_or_end}
 use Rattle.ira_cert_text.specs.CertTextFault.{trailing, InsideFault, too_many_steps, no_step_or_spent, step_range}
 use Rattle.ira_cert_text.specs.CertTextFault.{spent_range, RestOutsideFault, RestInsideFault, BeginsWithSections}

@@ -1,6 +1,5 @@
 -- A head that is read is spelled so and stands at the front, and a head of the grammar that stands there is read.
-use Rattle.std.proofs.Common.{◌≡◌, ◌≤◌, ℕ, List, ◌++◌, Some, None, refl, sym, ap, subst, ◌∙◌, arith, append_assoc}
-use Rattle.std.proofs.Common.{length, length-append, ◌+◌}
+use Rattle.std.proofs.Common.{◌≡◌, ℕ, List, ◌++◌, Some, None, refl, sym, ap, subst, ◌∙◌, arith, append_assoc, ◌+◌}
 use Rattle.std.specs.Prelude.{codes}
 use Rattle.std.proofs.lemmas.Option.{same_Some}
 use Rattle.ira_event.specs.RingSize.{IsRingSize}

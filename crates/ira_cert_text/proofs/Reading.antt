@@ -1,6 +1,6 @@
 -- What the reader of a certificate's text found, line by line.
 use Rattle.std.proofs.Common.{◌≡◌, ◌≢◌, ◌≤◌, ◌<◌, ℕ, ◌+◌, suc, List, [], ◌∷◌, ◌++◌, length, take, Some, None, Ok, Err}
-use Rattle.std.proofs.Common.{Bool, true, false, ◌⊎◌, refl, sym, ap, subst, ◌∙◌, arith, inl, inr, nat_eq, append_assoc}
+use Rattle.std.proofs.Common.{Bool, true, ◌⊎◌, refl, sym, ap, subst, ◌∙◌, arith, inl, inr, nat_eq, append_assoc}
 use Rattle.std.proofs.Common.{length-append}
 use Rattle.std.specs.Prelude.{codes, position}
 use Rattle.std.proofs.lemmas.List.{append-nil}

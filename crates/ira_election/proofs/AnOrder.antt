@@ -31,8 +31,7 @@ use Rattle.ira_safety.proofs.Terms.{next_home}
 use Rattle.ira_election.specs.AnOrder.{LocalRunsHaveAnOrder, CirclesHaveAFault}
 use Rattle.ira_election.specs.StandingStill.{IsStill}
 use Rattle.ira_election.proofs.Queues.{owed_is, owes_or_sends, not_some}
-use Rattle.ira_election.proofs.Beginning.{all_or_one, initiator_or, no_run, Passes, passive_passes}
-use Rattle.ira_election.proofs.Beginning.{first_passive, hop}
+use Rattle.ira_election.proofs.Beginning.{all_or_one, initiator_or, no_run, Passes, passive_passes, first_passive, hop}
 use Rattle.ira_election.proofs.Going.{IsCutOfRuns, st, course, st_first, IsCome, ends_or_waits, farthest, sent_split}
 use Rattle.ira_election.proofs.Still.{no_run_stands_still}
 

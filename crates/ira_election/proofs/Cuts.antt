@@ -19,8 +19,7 @@ use Rattle.ira_node.specs.declared.phase.Phase.{Phase}
 use Rattle.ira_node.specs.declared.phase.Phase.TheVariants.{Choosing, Active, Passive, Leader, Yielding}
 use Rattle.ira_node.specs.NodeState.{Receives, IsLeader, first_state}
 use Rattle.ira_node.specs.NodeStep.{NodeStep, HasStep, sends, draws, passes, gives_in, purges, meets, ties, wins}
-use Rattle.ira_node.specs.NodeStep.{yields}
-use Rattle.ira_node.specs.NodeStep.{restarts, comes_home}
+use Rattle.ira_node.specs.NodeStep.{yields, restarts, comes_home}
 use Rattle.ira_replay.specs.LocalRun.{LeadsTo}
 use Rattle.ira_order.specs.Cut.{IsConsistentCut}
 use Rattle.ira_order.specs.Matching.{Matches}

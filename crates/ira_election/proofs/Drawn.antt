@@ -7,8 +7,7 @@ use Rattle.ira_node.specs.declared.phase.Phase.{Phase}
 use Rattle.ira_node.specs.declared.phase.Phase.TheVariants.{Choosing, Active, Passive, Leader}
 use Rattle.ira_node.specs.Msg.{IsEqual}
 use Rattle.ira_order.specs.Ring.{prev}
-use Rattle.ira_election.proofs.Election.{Has, IsUnder, HasRank, Ranks, IsReached, IsAlive, IsOrderly}
-use Rattle.ira_election.proofs.Election.{IsGuarded}
+use Rattle.ira_election.proofs.Election.{Has, IsUnder, HasRank, Ranks, IsReached, IsAlive, IsOrderly, IsGuarded}
 use Rattle.ira_election.proofs.Ranks.{under_trans, greater_under, at_most_refl}
 use Rattle.ira_election.proofs.Turns.{Turn, turn_draw, turn_pass, turn_give, turn_meet, turn_purge, turn_tie}
 use Rattle.ira_election.proofs.Turns.{turn_win, HasTurn, IsUnseen, Put, put_draw, put_raise, active_of}

@@ -1,6 +1,5 @@
 -- Worked logs of two nodes: what the laws need.
-use Rattle.std.proofs.Common.{◌≡◌, ℕ, zero, suc, ◌<◌, ◌≤◌, true, false, List, [], ◌∷◌, length, refl, arith}
-use Rattle.std.proofs.Common.{lit≤, lit<}
+use Rattle.std.proofs.Common.{◌≡◌, ℕ, zero, suc, ◌<◌, ◌≤◌, true, false, List, [], ◌∷◌, length, refl, arith, lit≤, lit<}
 use Rattle.std.specs.List.{list_all}
 use Rattle.std.specs.Prelude.{Some, slice_get}
 use Rattle.ira_event.specs.declared.event.Event.{Event}

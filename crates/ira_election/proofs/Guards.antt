@@ -8,11 +8,9 @@ use Rattle.ira_node.specs.declared.phase.Phase.TheVariants.{Choosing, Active, Pa
 use Rattle.ira_node.specs.Msg.{IsGreater, IsEqual}
 use Rattle.ira_order.specs.Ring.{prev}
 use Rattle.ira_election.proofs.Election.{IsAt, Has, IsAtMost, IsUnder, HasRank, IsReached, IsAlive, HasAhead, IsHeld}
-use Rattle.ira_election.proofs.Election.{IsInFront}
-use Rattle.ira_election.proofs.Election.{IsGuarded}
+use Rattle.ira_election.proofs.Election.{IsInFront, IsGuarded}
 use Rattle.ira_election.proofs.Ranks.{at_most_refl, at_most_trans, at_most_same, under_trans, most_under, under_most}
-use Rattle.ira_election.proofs.Ranks.{under_not}
-use Rattle.ira_election.proofs.Ranks.{one_rank}
+use Rattle.ira_election.proofs.Ranks.{under_not, one_rank}
 use Rattle.ira_election.proofs.Turns.{Turn, turn_draw, turn_pass, turn_give, turn_meet, turn_purge, turn_tie}
 use Rattle.ira_election.proofs.Turns.{turn_win, IsRaised}
 use Rattle.ira_election.proofs.Turns.{HasTurn, IsUnseen, Put, put_draw, put_raise, at_prev, at_next, one_node}

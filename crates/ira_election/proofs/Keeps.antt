@@ -19,13 +19,11 @@ use Rattle.ira_safety.proofs.Steps.{Settled, stays_settled, resets, yielding, ph
 use Rattle.ira_election.proofs.Election.{debt, queue, of_term, messages_of, phase_in, phases_of, AreTermsEven}
 use Rattle.ira_election.proofs.Election.{IsWithin, IsOn}
 use Rattle.ira_election.proofs.Turns.{Turn, turn_draw, turn_pass, turn_give, turn_meet, turn_purge, turn_tie}
-use Rattle.ira_election.proofs.Turns.{turn_win, IsRaised}
-use Rattle.ira_election.proofs.Turns.{Moves, HasTurn, IsUnseen}
+use Rattle.ira_election.proofs.Turns.{turn_win, IsRaised, Moves, HasTurn, IsUnseen}
 use Rattle.ira_election.proofs.Alive.{changes, unseen, kept, lower}
 use Rattle.ira_election.proofs.Orderly.{turn_keeps, same_orderly}
 use Rattle.ira_election.proofs.Guards.{guard_keeps, same_guarded}
-use Rattle.ira_election.proofs.Queues.{owed_is, phase_before, phase_now, moves, step_terms, of_one}
-use Rattle.ira_election.proofs.Queues.{of_none}
+use Rattle.ira_election.proofs.Queues.{owed_is, phase_before, phase_now, moves, step_terms, of_one, of_none}
 use Rattle.ira_election.proofs.Queues.{moved, stay_even, not_message, not_reset}
 
 -- ---- what holds in all terms

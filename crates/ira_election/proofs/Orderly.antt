@@ -8,12 +8,10 @@ use Rattle.ira_node.specs.declared.phase.Phase.TheVariants.{Choosing, Active, Pa
 use Rattle.ira_node.specs.Msg.{IsGreater}
 use Rattle.ira_order.specs.Ring.{prev}
 use Rattle.ira_election.proofs.Election.{IsAt, Has, IsAtMost, HasRank, Ranks, IsTop, IsAlive, IsForeign, IsAhead}
-use Rattle.ira_election.proofs.Election.{HasOrigin}
-use Rattle.ira_election.proofs.Election.{IsDecided, IsOrderly}
+use Rattle.ira_election.proofs.Election.{HasOrigin, IsDecided, IsOrderly}
 use Rattle.ira_election.proofs.Ranks.{at_most_refl, at_most_trans, under_not, greater_under, next_not}
 use Rattle.ira_election.proofs.Turns.{HasTurn, IsUnseen, Put, put_draw, put_raise, Win, win_of, active_of, next_of}
-use Rattle.ira_election.proofs.Turns.{not_leader}
-use Rattle.ira_election.proofs.Turns.{stays_passive, takes_or_chooses, at_next, at_prev, not_home, one_node}
+use Rattle.ira_election.proofs.Turns.{not_leader, stays_passive, takes_or_chooses, at_next, at_prev, not_home, one_node}
 use Rattle.ira_election.proofs.Turns.{one_place, one_hop}
 use Rattle.ira_election.proofs.Turns.{own_hop, first_hop, later_hop, home_at, hop_to, has_split, has_none, none_of}
 use Rattle.ira_election.proofs.Turns.{lp, came, took, first_there, put_is, Old, splits}

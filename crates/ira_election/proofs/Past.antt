@@ -22,14 +22,11 @@ use Rattle.ira_order.proofs.Runs.{next_prev, prev_below}
 use Rattle.ira_safety.specs.Reaches.{Reaches}
 use Rattle.ira_safety.proofs.Steps.{term_rises, stays, Lasts, resets, yielding, IsStill as IsStillIn, phase_is, term_is}
 use Rattle.ira_election.proofs.Election.{debt, queue, of_term, messages_of, phase_in, IsAt, IsWithin, IsOn, IsResetOn}
-use Rattle.ira_election.proofs.Election.{IsUnderWay}
-use Rattle.ira_election.proofs.Election.{IsPast, IsOnOrPast}
+use Rattle.ira_election.proofs.Election.{IsUnderWay, IsPast, IsOnOrPast}
 use Rattle.ira_election.proofs.Turns.{Moves, at_next, hop_to, later_hop, one_place}
-use Rattle.ira_election.proofs.Queues.{owed_is, phase_before, phase_now, moves, step_terms, of_one}
-use Rattle.ira_election.proofs.Queues.{of_none}
+use Rattle.ira_election.proofs.Queues.{owed_is, phase_before, phase_now, moves, step_terms, of_one, of_none}
 use Rattle.ira_election.proofs.Queues.{moved, moved_reset, reset_was, reset_low, reset_high, resets_append, not_some}
-use Rattle.ira_election.proofs.Queues.{not_reset}
-use Rattle.ira_election.proofs.Queues.{is_yielding}
+use Rattle.ira_election.proofs.Queues.{not_reset, is_yielding}
 use Rattle.ira_election.proofs.Keeps.{IsSound, stays_sound, keeps_on}
 
 pub none_first : {X : Type 0} (xs ys : List X) → xs ++ ys ≡ [] → xs ≡ []

@@ -6,8 +6,7 @@ use Rattle.std.proofs.lemmas.Bool.{cases_eq, cases_lt, eq-eqb, ne_eqb}
 use Rattle.ira_event.specs.Log.{Log}
 use Rattle.ira_election.specs.Draws.{Drew}
 use Rattle.ira_election.specs.Rounds.{how_many, drawn_by, with_id, elects_nobody}
-use Rattle.ira_election.specs.Tables.{on, Elects, Are, LeadersAreElected, TablesElectOne}
-use Rattle.ira_election.specs.Tables.{ElectedIsSomebody}
+use Rattle.ira_election.specs.Tables.{on, Elects, Are, LeadersAreElected, TablesElectOne, ElectedIsSomebody}
 use Rattle.ira_election.specs.Ways.{greatest, tied}
 use Rattle.ira_election.proofs.Decided.{Elected, draws_before, leader_drew, leader_round}
 use Rattle.ira_election.proofs.Draws.{the_greatest_go_on, all_the_greatest_go_on, all_who_start_draw}

@@ -1,7 +1,6 @@
 -- Turns of nodes in an election: places, messages on queues, and what a node does.
 use Rattle.std.proofs.Common.{◌≡◌, ◌≢◌, ℕ, zero, suc, ◌+◌, ◌-◌, ◌<◌, ◌≤◌, ◌⊎◌, inl, inr, true, false, List, [], ◌∷◌}
-use Rattle.std.proofs.Common.{◌++◌}
-use Rattle.std.proofs.Common.{refl, sym, ◌∙◌, subst, ap, arith, length, append_assoc, length-append}
+use Rattle.std.proofs.Common.{◌++◌, refl, sym, ◌∙◌, subst, ap, arith, length, append_assoc, length-append}
 use Rattle.std.proofs.lemmas.Bool.{cases_eq, cases_lt}
 use Rattle.std.proofs.lemmas.List.{nil_from_length}
 use Rattle.ira_event.specs.declared.msg.Msg.{Msg}

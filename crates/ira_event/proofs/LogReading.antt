@@ -25,7 +25,7 @@ use Rattle.ira_event.specs.Event.{is_number, is_msg, is_load, is_event, is_of_ve
 use Rattle.ira_event.specs.LogScan.{line_at}
 use Rattle.ira_event.specs.LogText.{IsRecord, AreRecords, IsEnd}
 use Rattle.ira_event.specs.LogTextFault.{BeginsAsRecord, BeginsWithRecords, too_many, no_line, out_of_range}
-use Rattle.ira_event.specs.LogTextFault.{other_count, trailing, LineFault, RestFault, RecordsFault, AreAllRecords}
+use Rattle.ira_event.specs.LogTextFault.{other_count, trailing, RestFault, RecordsFault, AreAllRecords}
 use Rattle.ira_event.specs.NextLine.{HasNoLineFeed, at_line}
 use Rattle.ira_event.specs.Records.{RecordsLeft, ReadsRecord, IsAtEnd, ReadsOn, HasRead, IsUnread}
 use Rattle.ira_event.specs.declared.log_fault.LogFault.{LogFault}

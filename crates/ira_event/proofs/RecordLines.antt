@@ -8,7 +8,7 @@ use Rattle.std.specs.Option.{option_map}
 use Rattle.std.proofs.lemmas.List.{take_at, drop_at, take-append-drop, append_cancel_left}
 use Rattle.std.proofs.lemmas.Option.{same_Some}
 use Rattle.ira_event.specs.Scan.{number_at, kept_at, kept, after_word, ◌>>=◌, or, then_or}
-use Rattle.ira_event.specs.LogScan.{bit_at, message_at, reset_at, load_at, number_line, yield_at, line_at}
+use Rattle.ira_event.specs.LogScan.{bit_at, message_at, reset_at, load_at, number_line, line_at}
 use Rattle.ira_event.specs.Numeral.{IsNumeral}
 use Rattle.ira_event.specs.LogText.{IsMessage, IsLoad, IsRecord, IsEnd, bit_word}
 use Rattle.ira_event.specs.LogTextFault.{BeginsAsRecord}

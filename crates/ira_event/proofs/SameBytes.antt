@@ -4,8 +4,7 @@ use Rattle.std.proofs.Common.{length, map, take, drop, refl, sym, ap, ap₂, ◌
 use Rattle.std.proofs.lemmas.Bool.Decides.{nat_tests}
 use Rattle.std.proofs.lemmas.Bool.{cases_eq, ne_eqb}
 use Rattle.std.proofs.lemmas.Simd.{length-zip2, mask_l-mod}
-use Rattle.std.proofs.lemmas.List.{length-map}
-use Rattle.std.proofs.lemmas.List.{take-take}
+use Rattle.std.proofs.lemmas.List.{length-map, take-take}
 use Rattle.std.proofs.Math.Seq.{take-add}
 use lib.Lanes.{mask_l, top, zip2}
 

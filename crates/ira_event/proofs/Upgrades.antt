@@ -1,6 +1,6 @@
 -- The upgrade of a log is a log; upgraded logs are those of a ring, or have the head fault of the old ones.
-use Rattle.std.proofs.Common.{◌≡◌, ◌↔◌, ◌<◌, ◌≤◌, ℕ, zero, suc, Bool, true, false, ◌||◌, List, [], ◌∷◌, length, Some}
-use Rattle.std.proofs.Common.{slice_get, not, nat_lt, refl, sym, ap, subst, ◌∙◌, arith}
+use Rattle.std.proofs.Common.{◌≡◌, ◌↔◌, ℕ, zero, suc, Bool, true, false, ◌||◌, List, [], ◌∷◌, length, Some}
+use Rattle.std.proofs.Common.{slice_get, not, refl, sym, ap, subst, ◌∙◌, arith}
 use Rattle.std.specs.Prelude.{map}
 use Rattle.std.specs.List.{list_all}
 use Rattle.std.proofs.lemmas.Option.{same_Some}
@@ -8,7 +8,7 @@ use Rattle.ira_event.specs.declared.event.Event.{Event}
 use Rattle.ira_event.specs.declared.head_fault.HeadFault.{HeadFault}
 use Rattle.ira_event.specs.Event.{is_later, is_of_version}
 use Rattle.ira_event.specs.Log.{Log, IsLog}
-use Rattle.ira_event.specs.Logs.{EachLog, AreLogs, HasNumber, HasVersion, IsFirstOther, HeadFaultOf, wrong_number}
+use Rattle.ira_event.specs.Logs.{EachLog, AreLogs, HasNumber, IsFirstOther, HeadFaultOf, wrong_number}
 use Rattle.ira_event.specs.Logs.{wrong_size, wrong_place, wrong_version}
 use Rattle.ira_event.specs.RingSize.{IsRingSize}
 use Rattle.ira_event.specs.Upgrade.{upgraded}

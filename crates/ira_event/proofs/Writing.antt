@@ -2,7 +2,7 @@
 use Rattle.std.proofs.Common.{◌≡◌, ℕ, List, [], ◌++◌, Option, Some, None, Result, Ok, Err, refl, sym, ◌∙◌, ap, subst}
 use Rattle.std.proofs.Common.{append_assoc}
 use Rattle.std.proofs.lemmas.List.{append-nil}
-use Rattle.std.specs.Io.KnownBytes.{Appends, Keeps}
+use Rattle.std.specs.Io.KnownBytes.{Appends}
 use Rattle.ira_event.specs.Sink.{SinkState, Wrote, Takes, StopsIn, one_more}
 
 -- nothing more is taken
@@ -16,12 +16,6 @@ Appends-append None u v x y p q = tt
 Appends-append (Some xs) None v x y p q = absurd p
 Appends-append (Some xs) (Some ys) None x y p q = absurd q
 Appends-append (Some xs) (Some ys) (Some zs) x y p q = q ∙ ap (λ w. w ++ y) p ∙ append_assoc xs x y
-
-pub Appends-Keeps : (t u v : Option (List ℕ)) (x : List ℕ) → Appends t u x → Keeps u v → Appends t v x
-Appends-Keeps None u v x p q = tt
-Appends-Keeps (Some xs) None v x p q = absurd p
-Appends-Keeps (Some xs) (Some ys) None x p q = absurd q
-Appends-Keeps (Some xs) (Some ys) (Some zs) x p q = q ∙ p
 
 -- a text is written in two turns
 pub Takes-append : (s t u : SinkState) (a b : List ℕ) → Takes a s t → Takes b t u → Takes (a ++ b) s u

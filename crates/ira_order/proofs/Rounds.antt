@@ -1,7 +1,7 @@
 -- Rounds that add events to the beginning of an order, and their end.
 use Rattle.std.proofs.Common.{◌≡◌, ℕ, zero, suc, ◌+◌, ◌<◌, ◌≤◌, inl, inr, List, [], ◌∷◌, ◌++◌, length, refl, sym, ◌∙◌}
 use Rattle.std.proofs.Common.{ap, arith, append_assoc, append-nil, length-append, take, replicate, subst}
-use Rattle.std.proofs.lemmas.List.{get_or-replicate, length-replicate}
+use Rattle.std.proofs.lemmas.List.{get_or-replicate, length-replicate, nil_from_length}
 use Rattle.std.proofs.lemmas.List.Elements.{All-nil}
 use Rattle.std.specs.List.{sum_by}
 use Rattle.ira_event.specs.Log.{Log}
@@ -17,7 +17,6 @@ use Rattle.ira_order.proofs.Bridge.{kept_order, order_schedule}
 use Rattle.std.proofs.lemmas.Bool.{cases_lt}
 use Rattle.ira_order.proofs.Stuck.{all_below}
 use Rattle.std.proofs.lemmas.List.Sums.{sum_by-cons}
-use Rattle.std.proofs.lemmas.List.{nil_from_length}
 
 pub has_grown_trans : (a b d : List ℕ) → HasGrown a b → HasGrown b d → HasGrown a d
 has_grown_trans a b d f g = (f.0 ++ g.0, g.1 ∙ ap (λ (x : List ℕ). x ++ g.0) f.1 ∙ append_assoc a f.0 g.0)

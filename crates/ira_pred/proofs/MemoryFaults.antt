@@ -1,5 +1,5 @@
 -- No question's text has the fault that memory ran out.
-use Rattle.std.proofs.Common.{◌≡◌, ℕ, List, inl, inr, sym, subst}
+use Rattle.std.proofs.Common.{ℕ, List, inl, inr, sym, subst}
 use Rattle.ira_event.proofs.NextLines.{next_fault_is}
 use Rattle.ira_pred.specs.declared.ask_fault.AskFault.{AskFault}
 use Rattle.ira_pred.specs.declared.ask_fault.AskFault.TheVariants as fault

@@ -9,8 +9,7 @@ use Rattle.ira_pred.specs.Question.{QuestionCases}
 use Rattle.ira_pred.specs.QuestionAnswer.{AnswersQuestions, AnswersFaults}
 use Rattle.ira_pred.specs.QuestionLines.{LinesLeft, AreAllCases}
 use Rattle.ira_pred.specs.QuestionText.{IsQuestionText}
-use Rattle.ira_pred.specs.QuestionTextFault.{BeginsWithQuestionHead, CasesFault, no_head, past_head}
-use Rattle.ira_pred.specs.QuestionTextFault.{QuestionTextFault}
+use Rattle.ira_pred.specs.QuestionTextFault.{BeginsWithQuestionHead, CasesFault, no_head, past_head, QuestionTextFault}
 use Rattle.ira_pred.proofs.QuestionAnswers.{question_or_fault, one_fault}
 use Rattle.ira_pred.proofs.QuestionTexts.{one_question}
 

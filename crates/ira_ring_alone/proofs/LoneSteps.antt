@@ -17,8 +17,7 @@ use Rattle.ira_order.proofs.Runs.{next_prev, prev_next, prev_below}
 use Rattle.ira_ring_setup.specs.Setup.{Setup, node_draws}
 use Rattle.ira_ring_setup.specs.Terms.{IsLastLeader}
 use Rattle.ira_event.specs.Messages.{drawing, drawn}
-use Rattle.ira_ring_setup.specs.FullRun.{opening_of, events_at, HasEvent, yields, owes, chooses, receives}
-use Rattle.ira_ring_setup.specs.FullRun.{CanStep}
+use Rattle.ira_ring_setup.specs.FullRun.{opening_of, events_at, HasEvent, yields, owes, chooses, receives, CanStep}
 use Rattle.ira_ring_alone.specs.LoneNode.{LoneNode, IsFirst, IsNext, drawn_by, after_event, after_put}
 use Rattle.ira_ring_alone.specs.LoneRing.{node_at, IsMoved, IsReached}
 use Rattle.ira_ring_setup.proofs.Walks.{walk_more, own_more, other_more, links_from}

@@ -1,19 +1,17 @@
 -- Who leads in the first term of a full run is whom the IDs that nodes are given elect.
-use Rattle.std.proofs.Common.{◌≡◌, ℕ, ◌+◌, ◌<◌, ◌≤◌, ◌⊎◌, inl, inr, Bool, true, false, List, [], ◌++◌, Some, length, get_or}
-use Rattle.std.proofs.Common.{refl, sym, ◌∙◌, subst, ap, arith}
+use Rattle.std.proofs.Common.{◌≡◌, ℕ, ◌+◌, ◌<◌, ◌⊎◌, inl, inr, true, false, List, [], ◌++◌, Some, length}
+use Rattle.std.proofs.Common.{sym, ◌∙◌, ap, arith}
 use Rattle.std.specs.Prelude.{slice_get}
 use Rattle.std.proofs.lemmas.Option.{slice_get-get_or, slice_get_within, get_or_from_slice_get}
 use Rattle.ira_event.specs.declared.event.Event.{Event}
-use Rattle.ira_event.specs.Log.{Log}
 use Rattle.ira_event.specs.Messages.{drawn}
-use Rattle.ira_order.specs.Ring.{log_of}
 use Rattle.ira_order.specs.Run.{is_initiator as starts}
 use Rattle.ira_election.specs.Draws.{Starts}
 use Rattle.ira_election.specs.Tables.{Are, DrawFrom}
 use Rattle.ira_election.proofs.FirstTerm.{first_leaders_are_elected}
 use Rattle.ira_ring_setup.specs.FullRunLaws.{FullRunsElectByDraws}
 use Rattle.ira_ring_setup.specs.Run.{Run}
-use Rattle.ira_ring_setup.specs.Setup.{Setup, KeepsRules, is_initiator, node_draws}
+use Rattle.ira_ring_setup.specs.Setup.{Setup, KeepsRules, is_initiator}
 use Rattle.ira_ring_setup.specs.ShownEnd.{IsLoneRun}
 use Rattle.ira_ring_setup.proofs.GoingOn.{lone_runs}
 use Rattle.ira_ring_setup.proofs.Places.{get_within}

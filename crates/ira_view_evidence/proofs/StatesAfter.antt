@@ -1,7 +1,6 @@
 -- The state after a number of events.
 use Rattle.std.proofs.Common.{◌≡◌, ◌∙◌, ℕ, zero, suc, ◌+◌, ◌≤◌, ◌↔◌, List, [], ◌∷◌, Option, Some, None, ap, arith}
-use Rattle.std.proofs.Common.{true, false, ◌≢◌}
-use Rattle.std.proofs.Common.{length, nat_eq, refl, sym, take}
+use Rattle.std.proofs.Common.{true, false, ◌≢◌, length, nat_eq, refl, sym, take}
 use Rattle.std.specs.Prelude.{if◌then◌else◌, slice_get}
 use Rattle.std.specs.List.{enumerate_from}
 use Rattle.std.proofs.lemmas.Bool.Decides.{nat_tests}

@@ -1,6 +1,5 @@
 -- The words of a reason are printable.
-use Rattle.std.proofs.Common.{◌≡◌, ◌||◌, ◌%◌, ◌/◌, ◌<◌, ◌∷◌, [], ℕ, List, arith}
-use Rattle.std.proofs.Common.{false, nat_eq, refl, suc, true, zero}
+use Rattle.std.proofs.Common.{◌≡◌, ◌||◌, ◌%◌, ◌/◌, ◌<◌, ◌∷◌, [], ℕ, List, arith, false, nat_eq, refl, suc, true, zero}
 use Rattle.std.specs.Prelude.{decimal}
 use Rattle.std.specs.Fmt.{digit_glyph, digits, digits_onto}
 use Rattle.std.proofs.lemmas.List.Folds.{list_all-append}

@@ -1,8 +1,7 @@
 -- Lists of values, and the lines of cases.
 use Rattle.std.proofs.Common.{◌≡◌, ◌∙◌, ℕ, ◌+◌, ◌<◌, ◌≤◌, false, List, [], ◌∷◌, ◌++◌, Vec, ap, get_or, length, map}
 use Rattle.std.proofs.Common.{refl, sym, take}
-use Rattle.std.specs.Prelude.{◌==◌, codes}
-use Rattle.std.specs.Prelude.{Some, slice_get}
+use Rattle.std.specs.Prelude.{◌==◌, codes, Some, slice_get}
 use Rattle.std.specs.Option.{option_map}
 use Rattle.std.proofs.lemmas.Option.{same_Some, slice_get-get_or}
 use Rattle.std.proofs.lemmas.List.{map-append, take_all, take_more}

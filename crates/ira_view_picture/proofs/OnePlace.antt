@@ -1,6 +1,5 @@
 -- The k-th sending and the k-th receipt of a link each have one place.
-use Rattle.std.proofs.Common.{◌≡◌, ℕ, zero, suc, ◌+◌, ◌<◌, inl, inr, List, [], Option, Some, None, length}
-use Rattle.std.proofs.Common.{refl}
+use Rattle.std.proofs.Common.{◌≡◌, ℕ, zero, suc, ◌+◌, ◌<◌, inl, inr, List, [], Option, Some, None, length, refl}
 use Rattle.std.proofs.Common.{sym, ◌∙◌, ap, arith, take, add-one}
 use Rattle.std.specs.List.{filter_map, cons_option}
 use Rattle.std.specs.Option.{option_map}

@@ -13,8 +13,7 @@ use Rattle.ira_view_trail.specs.declared.state_step.StateStep.{StateStep}
 use Rattle.ira_view_trail.specs.declared.trail_step.TrailStep.{TrailStep}
 use Rattle.ira_view_trail.specs.Trail.{IsTrail}
 use Rattle.ira_view_page.proofs.Printables.{printable_append}
-use Rattle.ira_view_show.specs.EventsText.{AreEventLines, IsEventLine, TellsEvents, between_text, more, none}
-use Rattle.ira_view_show.specs.EventsText.{trail_of}
+use Rattle.ira_view_show.specs.EventsText.{AreEventLines, IsEventLine, TellsEvents, between_text, more, none, trail_of}
 use Rattle.ira_view_show.specs.Showed.{GoesOn, TookPage}
 use Rattle.ira_view_show.specs.declared.event_line.EventColumns.{EventColumns}
 

@@ -1,9 +1,7 @@
 -- What is added to pages, rows and tables one after the other.
-use Rattle.std.proofs.Common.{◌≡◌, ◌∙◌, ℕ, zero, suc, ◌+◌, ◌≤◌, Bool, List, [], ◌∷◌, ◌++◌, Option, Some}
-use Rattle.std.proofs.Common.{Result}
+use Rattle.std.proofs.Common.{◌≡◌, ◌∙◌, ℕ, zero, suc, ◌+◌, ◌≤◌, Bool, List, [], ◌∷◌, ◌++◌, Option, Some, Result}
 use Rattle.std.proofs.Common.{Ok, Err, IfOk, add-one, ap, append-nil, append_assoc, arith, get_or, inl, inr}
-use Rattle.std.proofs.Common.{length, map, min, nat_eq, refl, subst, sym}
-use Rattle.std.proofs.Common.{take, true, false}
+use Rattle.std.proofs.Common.{length, map, min, nat_eq, refl, subst, sym, take, true, false}
 use Rattle.std.specs.Prelude.{slice_get}
 use Rattle.std.specs.List.{flat_map, list_any, zip}
 use Rattle.std.proofs.lemmas.Bool.Decides.{eqb_tells, nat_tests}

@@ -1,6 +1,5 @@
 -- Parts of pages.
-use Rattle.std.proofs.Common.{◌≡◌, ◌∙◌, ℕ, Bool, false, List, [], ◌∷◌, ◌++◌, ◌-◌, ap, decimal}
-use Rattle.std.proofs.Common.{length}
+use Rattle.std.proofs.Common.{◌≡◌, ◌∙◌, ℕ, Bool, false, List, [], ◌∷◌, ◌++◌, ◌-◌, ap, decimal, length}
 use Rattle.std.proofs.Common.{map, nat_eq, refl, sym, take}
 use Rattle.std.specs.Prelude.{◌==◌, codes, if◌then◌else◌}
 use Rattle.std.specs.List.{enumerate_from, flat_map, list_any}

@@ -1,6 +1,4 @@
 use Rattle.std.proofs.Common.{◌≡◌, Err, rules, subst, sym}
-use Rattle.std.specs.Prelude.{Result}
-use Rattle.ira_order.specs.declared.order_fault.OrderFault.{OrderFault}
 use Rattle.ira_order.specs.declared.order_fault.OrderFault.TheVariants.{Match}
 use Rattle.ira_order.specs.MatchFault.{IsMatchFault}
 use Rattle.ira_order.proofs.Orders.{is_ok_of}

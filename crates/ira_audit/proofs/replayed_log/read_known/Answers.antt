@@ -1,14 +1,13 @@
-use Rattle.std.proofs.Common.{◌≡◌, ◌∙◌, ℕ, None, refl, subst, sym, ap, arith, length}
+use Rattle.std.proofs.Common.{◌≡◌, ℕ, None, refl, subst, sym, ap, arith, length}
 use Rattle.ira_event.proofs.LogReading.{record_shorter}
 use Rattle.ira_event.specs.Records.{RecordsLeft, ReadsRecord}
 use Rattle.ira_event.specs.SentLine.{passed_on}
 use Rattle.ira_event.specs.declared.msg.Msg.{Msg}
-use Rattle.ira_event.specs.declared.event.Event.{Event}
 use Rattle.ira_event.specs.declared.event.Event.TheVariants.{Got, Sent}
 use Rattle.ira_event.specs.declared.load.Load.TheVariants.{Msg as Message}
 use Rattle.ira_node.specs.Handling.{Handles}
 use Rattle.ira_node.specs.Msg.{raised}
-use Rattle.ira_node.specs.NodeState.{free, owing}
+use Rattle.ira_node.specs.NodeState.{owing}
 use Rattle.ira_node.specs.NodeStep.{NodeStep}
 use Rattle.ira_node.specs.declared.handling.Handling.TheVariants.{Passes, Purges}
 use Rattle.ira_node.specs.declared.node_state.NodeState.{NodeState}

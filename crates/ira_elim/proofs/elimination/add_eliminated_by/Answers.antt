@@ -1,5 +1,4 @@
-use Rattle.std.proofs.Common.{◌≡◌, ℕ, Some, slice_get, inl, inr, ap, below_more, get_or, length, refl, sym, ◌∙◌}
-use Rattle.std.proofs.Common.{arith}
+use Rattle.std.proofs.Common.{◌≡◌, ℕ, Some, slice_get, inl, inr, ap, below_more, get_or, length, refl, sym, ◌∙◌, arith}
 use Rattle.std.proofs.lemmas.Option.{same_Some}
 use Rattle.ira_elim.specs.PairSet.{Has}
 use Rattle.ira_elim.specs.CandidateClock.{KnowsNext}

@@ -1,6 +1,5 @@
 use Rattle.std.proofs.Common.{◌≡◌, ◌+◌, ◌<◌, ℕ, Some, true, false, inl, inr, length, slice_get, slice_set, ap, refl}
-use Rattle.std.proofs.Common.{sym, ◌∙◌, subst, arith}
-use Rattle.std.proofs.Common.{List, get_or, length-set}
+use Rattle.std.proofs.Common.{sym, ◌∙◌, subst, arith, List, get_or, length-set}
 use Rattle.std.proofs.lemmas.List.{set-set}
 use Rattle.std.proofs.lemmas.Option.{same_Some}
 use Rattle.ira_elim.specs.CandidateClock.{CandidateClock, IsCandidateClock, IsNearest}

@@ -1,6 +1,5 @@
-use Rattle.std.proofs.Common.{◌≡◌, ◌<◌, refl, sym, arith, length, Some, slice_get}
+use Rattle.std.proofs.Common.{◌≡◌, ◌<◌, refl, sym, arith, length}
 use Rattle.std.proofs.lemmas.Option.{slice_get_read, slice_get_within}
-use Rattle.ira_event.specs.Logs.{HasVersion}
 use Rattle.ira_event.proofs.Gathering.{below-more}
 use Rattle.ira_event.proofs.logs.check_versions.Goals as goal
 

@@ -1,5 +1,4 @@
-use Rattle.std.proofs.Common.{◌≡◌, None, arith, rules, subst, sym}
-use Rattle.std.specs.Prelude.{MatchOption}
+use Rattle.std.proofs.Common.{◌≡◌, None, arith, rules}
 use Rattle.ira_main_files.proofs.LeadersTexts.{no_line_feed, no_number, place_there, too_large}
 use Rattle.ira_main_files.proofs.leaders_text.scan_place.Goals as goal
 

@@ -12,7 +12,7 @@ use Rattle.ira_ring_threads.proofs.FramesOfLongerLogs.{so_far_first, so_far_more
 use Rattle.ira_ring_threads.proofs.RecorderGrows.{none_yields, yields_on}
 use Rattle.ira_ring_threads.proofs.Versions.{sending_of_version, yield_of_version}
 use Rattle.ira_ring_threads.proofs.WantedEvents.{choosing, choosing_leads_not, waiting, waiting_leads_not, owes_recordable}
-use Rattle.ira_ring_threads.proofs.WantedEvents.{no_fault, has_room, has_step, all_first, all_rest, id_is_number, one_node}
+use Rattle.ira_ring_threads.proofs.WantedEvents.{no_fault, has_room, has_step, all_first, all_rest, one_node}
 use Rattle.ira_ring_threads.proofs.WantedEvents.{same_ring, same_version}
 use Rattle.ira_ring_threads.proofs.node_thread.turns.Goals.{in_default-via-in-Yield+else-state-terms}
 use Rattle.ira_ring_threads.proofs.node_thread.turns.Goals.{in_default-via-in-Draw-1}

@@ -1,7 +1,6 @@
 use Rattle.std.proofs.Common.{refl}
 use Rattle.ira_view_evidence.proofs.OriginLaws.{stop_event}
-use Rattle.ira_view_evidence.proofs.OriginLists.{origins_all, origins_more, origins_over, event_listed}
-use Rattle.ira_view_evidence.proofs.OriginLists.{no_origins}
+use Rattle.ira_view_evidence.proofs.OriginLists.{origins_all, origins_more, origins_over, event_listed, no_origins}
 use Rattle.ira_view_evidence.proofs.origin.origins.Goals as goal
 use Rattle.ira_view_evidence.proofs.origin.origins.Goals.{then-is_least+in_ok-push, else-is_least}
 

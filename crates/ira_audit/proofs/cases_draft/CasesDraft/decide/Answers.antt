@@ -1,5 +1,4 @@
-use Rattle.std.proofs.Common.{◌≡◌, None, Some, subst, sym, ◌∙◌, rules}
-use Rattle.ira_audit.specs.DecidedCases.{IsCertifying}
+use Rattle.std.proofs.Common.{◌≡◌, None, Some, rules}
 use Rattle.ira_audit.proofs.cases_draft.CasesDraft.decide.Goals as goal
 
 pub returns-in-Some-clause-decided : goal.returns-in-Some-clause-decided

@@ -1,4 +1,4 @@
-use Rattle.std.proofs.Common.{◌≡◌, ◌∙◌, ap}
+use Rattle.std.proofs.Common.{◌∙◌, ap}
 use Rattle.ira_audit.proofs.Counting.{cases_more}
 use Rattle.ira_audit.proofs.cases_draft.CasesDraft.decide_next.Goals as goal
 

@@ -1,4 +1,3 @@
-use Rattle.std.proofs.Common.{◌≡◌, refl, sym, ◌∙◌}
 use Rattle.ira_audit.proofs.Counting.{added_present, added_uncertified}
 use Rattle.ira_audit.proofs.cases_draft.CasesDraft.decide_without.Goals as goal
 

@@ -1,8 +1,7 @@
-use Rattle.std.proofs.Common.{◌≡◌, ◌≢◌, ◌≤◌, ◌∷◌, ◌++◌, [], Some, ap, inl, inr, length, rules, slice_get, subst}
-use Rattle.std.proofs.Common.{sym, ◌∙◌}
+use Rattle.std.proofs.Common.{◌≢◌, ◌∷◌, ◌++◌, [], ap, inl, inr, rules, subst, sym, ◌∙◌}
 use Rattle.ira_event.specs.Log.{Log}
 use Rattle.ira_event.specs.LogText.{head_of}
-use Rattle.ira_audit.specs.RingAudit.{HasTaken, IsReading, RingAudit, StandFor}
+use Rattle.ira_audit.specs.RingAudit.{HasTaken, IsReading, StandFor}
 use Rattle.ira_audit.proofs.KeptHeads.{stand_both, stand_head}
 use Rattle.ira_event.specs.declared.log_fault.LogFault.TheVariants.{OutOfMemory}
 use Rattle.ira_audit.proofs.LogTexts.{keeps_fault, keeps_first, keeps_log}

@@ -1,8 +1,8 @@
-use Rattle.std.proofs.Common.{◌≡◌, ◌+◌, ◌++◌, ◌<◌, true, false, cond, sym, ap, subst, ◌∙◌, arith, replicate}
+use Rattle.std.proofs.Common.{◌≡◌, ◌+◌, ◌++◌, true, false, cond, sym, ap, subst, ◌∙◌, arith, replicate}
 use Rattle.std.proofs.lemmas.List.{append-nil}
 use Rattle.std.specs.Prelude.{is_some}
 use Rattle.ira_event.specs.Messages.{sending}
-use Rattle.ira_cand.specs.Profile.{TableAt, answers_in}
+use Rattle.ira_cand.specs.Profile.{TableAt}
 use Rattle.ira_cand.proofs.Profiles.{both_pass, debt_decides, passes_by, table_on, table_skip}
 use Rattle.ira_cand.proofs.profile.Profile.pick.Goals as goal
 use Rattle.ira_cand.proofs.profile.Profile.pick.Goals.{

@@ -1,8 +1,6 @@
-use Rattle.std.proofs.Common.{◌≡◌, ◌≤◌, ℕ, true, refl, rules, sym, subst, arith}
+use Rattle.std.proofs.Common.{◌≡◌, true, refl, rules, arith}
 use Rattle.std.proofs.lemmas.Bool.Decides.{nat_tests}
-use Rattle.ira_event.specs.Limits.{MAX_NODES}
-use Rattle.ira_event.specs.declared.msg.Msg.{Msg}
-use Rattle.ira_node.specs.Msg.{IsLess, IsEqual, dirtied, raised}
+use Rattle.ira_node.specs.Msg.{IsEqual, dirtied, raised}
 use Rattle.ira_node.specs.StepAnswer.{is_less}
 use Rattle.ira_node.specs.NodeStep.{meets, passes, purges, sends}
 use Rattle.ira_node.proofs.Answers.{less_means}

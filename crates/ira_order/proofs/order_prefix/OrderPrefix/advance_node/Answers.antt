@@ -13,8 +13,7 @@ use Rattle.ira_order.proofs.OrderPrefixes.{receives_nothing, sends_nothing}
 use Rattle.ira_order.proofs.Tallies.{covered, few_events, few_receipts, few_sendings, once_more, records, run_ends}
 use Rattle.ira_order.proofs.Tallies.{run_on, same_tally}
 use Rattle.ira_order.proofs.order_prefix.OrderPrefix.advance_node.Goals as goal
-use Rattle.ira_order.proofs.order_prefix.OrderPrefix.advance_node.Goals.{in-Got+else-tally-sendings}
-use Rattle.ira_order.proofs.order_prefix.OrderPrefix.advance_node.Goals.{in_default+in-Sent}
+use Rattle.ira_order.proofs.order_prefix.OrderPrefix.advance_node.Goals.{in-Got+else-tally-sendings, in_default+in-Sent}
 use Rattle.ira_order.proofs.order_prefix.OrderPrefix.advance_node.Goals.{in_default+in_default-event}
 use Rattle.ira_order.proofs.order_prefix.OrderPrefix.advance_node.Goals.{else-loop-tally-test}
 use Rattle.ira_order.proofs.order_prefix.OrderPrefix.advance_node.Goals.{then-loop-tally-test+in-Got+then-tally-sendings}

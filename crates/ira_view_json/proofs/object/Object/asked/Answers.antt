@@ -1,10 +1,9 @@
 use Rattle.std.proofs.Common.{◌≡◌, ◌<◌, List, [], length, map}
-use Rattle.std.specs.Prelude.{slice_index_or}
+use Rattle.std.specs.Prelude.{slice_index_or, codes}
 use Rattle.std.proofs.lemmas.List.{get_or_read}
 use Rattle.ira_pred.specs.Case.{Conjunct}
 use Rattle.json.specs.Json.{array}
 use Rattle.json.specs.Value.{items_of}
-use Rattle.std.specs.Prelude.{codes}
 use Rattle.ira_view_json.specs.Members.{put}
 use Rattle.ira_view_json.specs.PictureValue.{asked_value}
 use Rattle.ira_view_json.proofs.Putting.{known, puts_by}

@@ -1,8 +1,7 @@
-use Rattle.std.proofs.Common.{◌≡◌, ◌+◌, None, arith, rules}
+use Rattle.std.proofs.Common.{◌≡◌, ◌+◌, None, arith, rules, length}
 use Rattle.std.specs.Prelude.{true}
 use Rattle.ira_order.specs.Matching.{got, sent}
 use Rattle.ira_order.specs.Ring.{log_of, next, numbered}
-use Rattle.std.proofs.Common.{length}
 use Rattle.ira_view_picture.proofs.DrawnArrows.{arrows_more, arrows_onward, arrows_over, ends_drawn, ends_undrawn}
 use Rattle.ira_view_picture.proofs.DrawnArrows.{no_further, nothing_undrawn}
 use Rattle.ira_view_picture.proofs.links.Links.add_arrows.Goals as goal
