@@ -9,7 +9,7 @@ use ira_view::Status;
 use std::alloc::Allocator;
 
 /// The program's version, and the logic that it was proved in, as `rt version` names that.
-const VERSION: &[u8] = b"ira 0.4.1 (proved by rattle, logic dac8208d650f15bf)\n";
+const VERSION: &[u8] = b"ira 0.4.2 (proved by rattle, logic dac8208d650f15bf)\n";
 
 /// Prints which version this is.
 pub(crate) fn print_version<'a, A: Allocator, W: Sink>(
